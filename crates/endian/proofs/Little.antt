@@ -1,0 +1,55 @@
+-- The laws of `leBytes` and `leAt`: the same numbers with the lowest byte first.
+-- Assumes nothing.
+use mathlib.Core.Path.{_≡_, refl, ap, ap₂, sym, _∙_}
+use mathlib.Core.List.{List, [], _∷_}
+use Prim.Native.Nat.{ℕ, zero, suc, _+_, _-_, _*_, _/_, _%_, _^_, _≤_, _<_}
+use native.Mathlib.Nat.{pow-suc, lt-of-lt-of-le, pow-le-pow-right}
+use native.Mathlib.Omega.{arith}
+use lib.Dec.{lit<}
+use lib.ListN.{length, getD, set}
+use Rattle.endian.specs.Bytes.{leBytes, leAt, patch}
+use Rattle.endian.proofs.Order.{store-before}
+
+pub length-le : (n v : ℕ) → length (leBytes n v) ≡ n
+unfolding leBytes
+length-le zero v = refl
+length-le (suc n) v = ap suc (length-le n (v / 256))
+
+-- a turn of the loop that writes: what is left to write, over what stands there now
+pub le-turn : (off i n x : ℕ) (ys w : List ℕ) → i < n → patch (off + i) (leBytes (n - i) x) ys ≡ w
+    → patch (off + (i + 1)) (leBytes (n - (i + 1)) (x / 256)) (set ys (off + i) (x % 256)) ≡ w
+unfolding patch leBytes
+le-turn off i n x ys w h e =
+    let m : n - i ≡ suc (n - (i + 1)) = omega arith in
+    let s : off + (i + 1) ≡ suc (off + i) = omega arith in
+    let d : patch (off + i) (leBytes (suc (n - (i + 1))) x) ys ≡ w = rw m at e in
+    rw s (sym (store-before (off + i) (x % 256) (suc (off + i)) (leBytes (n - (i + 1)) (x / 256)) ys (omega arith)) ∙ d)
+
+pub le-done : (off i n x : ℕ) (ys w : List ℕ) → n ≤ i → patch (off + i) (leBytes (n - i) x) ys ≡ w → ys ≡ w
+unfolding patch leBytes
+le-done off i n x ys w h e =
+    let m : n - i ≡ 0 = omega arith in
+    rw m at e
+
+-- what bytes can say
+pub le-bound : (n off : ℕ) (xs : List ℕ) → ((i : ℕ) → getD xs i 0 < 256) → leAt n off xs < 256 ^ n
+unfolding leAt
+le-bound zero off xs h = omega arith
+le-bound (suc n) off xs h =
+    let b = h off in
+    let r = le-bound n (suc off) xs h in
+    rw pow-suc (omega arith)
+
+-- A turn of the loop that reads, from the last byte to the first: `i` goes down to `i - 1`.
+module _ (n off i x b : ℕ) (xs : List ℕ) (pos : 0 < i) (le : i ≤ n) (now : x ≡ leAt (n - i) (off + i) xs) (byte : b ≡ getD xs (off + (i - 1)) 0) where
+  pub le-read-turn : x * 256 + b ≡ leAt (n - (i - 1)) (off + (i - 1)) xs
+  unfolding leAt
+  le-read-turn =
+      let m : n - (i - 1) ≡ suc (n - i) = omega arith in
+      let s : off + i ≡ suc (off + (i - 1)) = omega arith in
+      let e : x ≡ leAt (n - i) (suc (off + (i - 1))) xs = now ∙ ap (λ (k : ℕ). leAt (n - i) k xs) s in
+      rw m (omega (arith, e, byte))
+
+  pub le-read-fits : n ≤ 8 → ((i : ℕ) → getD xs i 0 < 256) → x * 256 + b < 2 ^ 64
+  le-read-fits k bytes =
+      rw le-read-turn (lt-of-lt-of-le (le-bound (n - (i - 1)) (off + (i - 1)) xs bytes) (pow-le-pow-right (lit< tt) (let s : n - (i - 1) ≤ 8 = omega arith in s)))

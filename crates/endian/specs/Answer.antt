@@ -1,0 +1,41 @@
+-- What a function answers that writes into a lent buffer or reads from it: 0, or 27 where the bytes don't lie inside; then nothing has changed.
+-- Assumes nothing.
+use mathlib.Core.Path.{_≡_}
+use mathlib.Core.List.{List}
+use mathlib.Core.Bool.{Bool, true, false}
+use Prim.Native.Nat.{ℕ}
+use lib.Dec.{leb}
+use lib.ListN.{length}
+
+-- the refusal of a lent buffer that is not of the needed length
+abbrev pub wrongLength : ℕ
+wrongLength = 27
+
+-- the first `m` bytes are there
+abbrev pub room : ℕ → List ℕ → Bool
+room m xs = leb m (length xs)
+
+-- the number for a test of the length
+abbrev pub answer : Bool → ℕ
+answer true = 0
+answer false = wrongLength
+
+-- the new bytes where the test holds, the old ones where it does not
+abbrev pub chosen : Bool → List ℕ → List ℕ → List ℕ
+chosen true new old = new
+chosen false new old = old
+
+-- a value that was read, 0 where nothing was
+abbrev pub valued : Bool → ℕ → ℕ
+valued true v = v
+valued false v = 0
+
+-- A write of `new` over `old` that needs the first `m` bytes: its number, and what it leaves.
+pub record Put (m : ℕ) (new old : List ℕ) (r : ℕ) (left : List ℕ) : Type 0 where
+  pub number : r ≡ answer (room m old)
+  pub bytes : left ≡ chosen (room m old) new old
+
+-- A read of `v` that needs the first `m` bytes: its number, and the value.
+pub record Got (m v : ℕ) (old : List ℕ) (r value : ℕ) : Type 0 where
+  pub number : r ≡ answer (room m old)
+  pub read : value ≡ valued (room m old) v
