@@ -54,7 +54,7 @@ type Chosen = Box<dyn Mode + Sync>;
 /// Answers one case, or a stream of them.
 fn answer(mode: &Chosen, w: &Words) -> io::Result<()> {
     let mut input = BufReader::new(io::stdin().lock());
-    let mut output = BufWriter::with_capacity(1 << 16, io::stdout().lock());
+    let mut output = BufWriter::with_capacity(1 << 16, io::stdout());
     if w.frames {
         while let Some(case) = frames::read(&mut input)? {
             let mut out = Vec::new();

@@ -85,7 +85,7 @@ fn span(q: &Request) -> u64 {
 /// A count of groups: few, or at a bound of this request.
 fn agcount(r: &mut Random, q: &Request) -> u64 {
     let blocks = span(q) / block(q);
-    match r.below(9) {
+    match r.below(10) {
         0 => r.below(3),
         1 => r.pick(&[0xffff_fffd, 0xffff_fffe, 0xffff_ffff, 1 << 32, u64::MAX]),
         2 => r.near(span(q) / (16 * MIB), 1),
@@ -93,6 +93,8 @@ fn agcount(r: &mut Random, q: &Request) -> u64 {
         4 => r.near(blocks, 1),
         5 => r.wide(),
         6 => r.below(30_000),
+        // More groups than blocks in a group: rounding up may leave the last ones without a block.
+        7 => blocks.isqrt() + r.below(blocks / 4096 + 2),
         _ => 1 + r.below(24),
     }
 }

@@ -3,12 +3,12 @@
 //! A case is the operation (1 byte), the offset (8) and the buffer. An answer is the number (4 bytes), the result (4)
 //! and the buffer as it is left.
 
-use std::io::{self, Write};
+use std::io;
 use std::panic::catch_unwind;
 
 use mkfs_xfs::crc;
 
-use super::{Mode, Told};
+use super::{Mode, Out, Told};
 use crate::frames::Fields;
 use crate::random::Random;
 
@@ -66,7 +66,7 @@ impl Mode for Crc {
         [&[op][..], &(off as u64).to_be_bytes(), &buf].concat()
     }
 
-    fn answer(&self, case: &[u8], out: &mut dyn Write) -> io::Result<Told> {
+    fn answer(&self, case: &[u8], out: Out) -> io::Result<Told> {
         let (op, off, buf) = taken_apart(case);
         let kind = KINDS[op];
         let done = catch_unwind(|| {

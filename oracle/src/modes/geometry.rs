@@ -1,12 +1,12 @@
 //! The geometry step. A case is document 01's input records; an answer is a line: the number, and after 0 the 21
 //! fields of the geometry in the Rust's order, features as bits and the label in hexadecimal digits.
 
-use std::io::{self, Write};
+use std::io;
 use std::panic::catch_unwind;
 
 use mkfs_xfs::geometry::{Features, Geometry};
 
-use super::{Mode, Told};
+use super::{Mode, Out, Told};
 use crate::numbers::{number_of, UNNUMBERED};
 use crate::random::Random;
 use crate::request::{Request, MALFORMED};
@@ -66,7 +66,7 @@ impl Mode for Geometries {
         wishes::request(r, changes).encode()
     }
 
-    fn answer(&self, case: &[u8], out: &mut dyn Write) -> io::Result<Told> {
+    fn answer(&self, case: &[u8], out: Out) -> io::Result<Told> {
         let Some(q) = Request::parse(case) else {
             writeln!(out, "{MALFORMED}")?;
             return Ok(Told::apart("", MALFORMED));
