@@ -85,7 +85,7 @@ fn span(q: &Request) -> u64 {
 /// A count of groups: few, or at a bound of this request.
 fn agcount(r: &mut Random, q: &Request) -> u64 {
     let blocks = span(q) / block(q);
-    match r.below(10) {
+    match r.below(9) {
         0 => r.below(3),
         1 => r.pick(&[0xffff_fffd, 0xffff_fffe, 0xffff_ffff, 1 << 32, u64::MAX]),
         2 => r.near(span(q) / (16 * MIB), 1),
@@ -93,8 +93,6 @@ fn agcount(r: &mut Random, q: &Request) -> u64 {
         4 => r.near(blocks, 1),
         5 => r.wide(),
         6 => r.below(30_000),
-        // More groups than blocks in a group: rounding up may leave the last ones without a block.
-        7 => blocks.isqrt() + r.below(blocks / 4096 + 2),
         _ => 1 + r.below(24),
     }
 }
@@ -117,6 +115,15 @@ fn agsize(r: &mut Random, q: &Request) -> u64 {
     } else {
         v / b * b
     }
+}
+
+/// More groups than a group has blocks: the size rounded up leaves the last ones without a block.
+fn groups_miss(r: &mut Random, q: &mut Request) {
+    let b = block(q);
+    let size = 64 * MIB / b + 20 + r.below(4000);
+    let groups = size + r.below(3 * size);
+    q.options[op::AGCOUNT] = Some(groups + r.below(3));
+    q.device = r.near(groups * size * b, size * b);
 }
 
 fn label(r: &mut Random) -> Vec<u8> {
@@ -152,6 +159,7 @@ fn change(r: &mut Random, q: &mut Request) {
             q.logical = r.pick(&SECTORS) as u32;
             q.physical = r.pick(&SECTORS) as u32;
         }
+        _ if r.one_in(2) => groups_miss(r, q),
         _ => q.device = size(r, block(q)),
     }
 }
