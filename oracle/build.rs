@@ -4,7 +4,7 @@
 use std::env;
 use std::path::Path;
 
-const FEATURES: [&str; 1] = ["crc"];
+const FEATURES: [&str; 2] = ["crc", "geometry"];
 
 fn main() {
     println!("cargo:rerun-if-env-changed=ZECHURQI_STATICLIB");

@@ -83,7 +83,8 @@ pub fn count(mode: &dyn Mode, cases: u64, seed: u64) -> io::Result<()> {
 }
 
 pub fn with_library(mode: &dyn Mode, cases: u64, seed: u64) -> io::Result<bool> {
-    let missing = || io::Error::other("no static library of the port is linked in for this mode: build with its feature");
+    let missing =
+        || io::Error::other("no static library of the port is linked in for this mode: build with its feature");
     compared(mode, cases, seed, |case| mode.ours(case).ok_or_else(missing))
 }
 

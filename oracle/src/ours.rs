@@ -29,3 +29,69 @@ pub mod crc {
         unsafe { zq_verify(buf.as_ptr(), buf.len(), off) }
     }
 }
+
+/// Crate `ffi_geometry`.
+#[cfg(feature = "geometry")]
+pub mod geometry {
+    /// What the geometry step is given. Bit k of `given` is set where the option with document 01's code k is given.
+    pub struct Input {
+        pub given: u64,
+        pub size: u64,
+        pub block: u32,
+        pub sector: u32,
+        pub inode: u32,
+        pub agcount: u64,
+        pub agsize: u64,
+        pub imaxpct: u8,
+        pub features: u64,
+        pub label_length: usize,
+        pub label: [u8; 12],
+        pub device: u64,
+        pub logical: u32,
+        pub physical: u32,
+    }
+
+    extern "C" {
+        fn zq_geometry(
+            field: u64,
+            given: u64,
+            size: u64,
+            block: u32,
+            sector: u32,
+            inode: u32,
+            agcount: u64,
+            agsize: u64,
+            imaxpct: u8,
+            features: u64,
+            label_length: usize,
+            label: *const [u8; 12],
+            device: u64,
+            logical: u32,
+            physical: u32,
+        ) -> u64;
+    }
+
+    /// One number of the answer: 0 is the number of document 01, 1 to 20 are the fields in the Rust's order (features
+    /// as bits), 21 to 32 the bytes of the label.
+    pub fn field(k: u64, i: &Input) -> u64 {
+        unsafe {
+            zq_geometry(
+                k,
+                i.given,
+                i.size,
+                i.block,
+                i.sector,
+                i.inode,
+                i.agcount,
+                i.agsize,
+                i.imaxpct,
+                i.features,
+                i.label_length,
+                &i.label,
+                i.device,
+                i.logical,
+                i.physical,
+            )
+        }
+    }
+}

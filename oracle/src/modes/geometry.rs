@@ -60,6 +60,33 @@ pub fn fields(g: &Geometry) -> [(&'static str, u64); 20] {
     ]
 }
 
+/// The request as the port's function takes it.
+#[cfg(feature = "geometry")]
+fn port_input(q: &Request) -> mkfs_xfs::ours::geometry::Input {
+    use crate::request::op;
+    let value = |code: usize| q.options[code].unwrap_or(0);
+    let text = q.label.clone().unwrap_or_default();
+    let mut label = [0u8; 12];
+    let kept = text.len().min(label.len());
+    label[..kept].copy_from_slice(&text[..kept]);
+    mkfs_xfs::ours::geometry::Input {
+        given: (op::SIZE..=op::IMAXPCT).filter(|&k| q.options[k].is_some()).map(|k| 1 << k).sum(),
+        size: value(op::SIZE),
+        block: value(op::BLOCK) as u32,
+        sector: value(op::SECTOR) as u32,
+        inode: value(op::INODE) as u32,
+        agcount: value(op::AGCOUNT),
+        agsize: value(op::AGSIZE),
+        imaxpct: value(op::IMAXPCT) as u8,
+        features: feature_bits(&q.features()),
+        label_length: text.len(),
+        label,
+        device: q.device,
+        logical: q.logical,
+        physical: q.physical,
+    }
+}
+
 impl Mode for Geometries {
     fn case(&self, r: &mut Random) -> Vec<u8> {
         let changes = r.below(4);
@@ -81,6 +108,20 @@ impl Mode for Geometries {
         }
         writeln!(out)?;
         Ok(told)
+    }
+
+    #[cfg(feature = "geometry")]
+    fn ours(&self, case: &[u8]) -> Option<Vec<u8>> {
+        use mkfs_xfs::ours::geometry::field;
+        let input = port_input(&Request::parse(case)?);
+        let number = field(0, &input);
+        let mut line = number.to_string();
+        if number == 0 {
+            (1..=20).for_each(|k| line += &format!(" {}", field(k, &input)));
+            line += " ";
+            (21..=32).for_each(|k| line += &format!("{:02x}", field(k, &input)));
+        }
+        Some((line + "\n").into_bytes())
     }
 
     fn show_case(&self, case: &[u8]) -> String {
