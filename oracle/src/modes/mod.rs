@@ -9,6 +9,7 @@ pub mod geometry;
 pub mod inodes;
 pub mod lists;
 pub mod log;
+pub mod places;
 pub mod plans;
 pub mod structs;
 pub mod writes;
@@ -63,6 +64,8 @@ pub fn named(name: &str) -> Option<Box<dyn Mode + Sync>> {
     Some(match name {
         "crc" => Box::new(crc::Crc),
         "geometry" => Box::new(geometry::Geometries),
+        "places" => Box::new(places::Places),
+        "helpers" => Box::new(places::Helpers),
         "plans" => Box::new(plans::Plans),
         "planlist" => Box::new(plans::Planlist),
         "writelist" => Box::new(writes::Writelist),
