@@ -5,7 +5,8 @@
 pub mod crc {
     extern "C" {
         fn zq_crc32c(data: *const u8, len: usize) -> u32;
-        fn zq_cksum(buf: *const u8, len: usize, off: usize) -> u64;
+        fn zq_cksum_number(buf: *const u8, len: usize, off: usize) -> u32;
+        fn zq_cksum(buf: *const u8, len: usize, off: usize) -> u32;
         fn zq_stamp(buf: *mut u8, len: usize, off: usize) -> u32;
         fn zq_verify(buf: *const u8, len: usize, off: usize) -> bool;
     }
@@ -16,8 +17,7 @@ pub mod crc {
 
     /// The number, and the checksum (0 where it is refused).
     pub fn cksum(buf: &[u8], off: usize) -> (u32, u32) {
-        let r = unsafe { zq_cksum(buf.as_ptr(), buf.len(), off) };
-        ((r >> 32) as u32, r as u32)
+        unsafe { (zq_cksum_number(buf.as_ptr(), buf.len(), off), zq_cksum(buf.as_ptr(), buf.len(), off)) }
     }
 
     /// The number.
