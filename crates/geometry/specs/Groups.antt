@@ -8,9 +8,9 @@ use Rattle.arith.specs.Choice.{when}
 use Rattle.arith.specs.Numbers.{ceilDiv}
 use Rattle.refusals.specs.Table.{Refusal, _if_}
 use Rattle.geometry.specs.Limits.{minGroup, maxGroup, maxGroups, largeBytes, fourGroupBytes, twoGroupBytes}
-use Rattle.geometry.specs.Options.{given64, zero64, partial64}
-use Rattle.geometry.specs.declared.OptU64.{OptU64}
-use Rattle.geometry.specs.declared.OptU64.the-variants.{Absent, Given}
+use Rattle.params.specs.Options.{given64, zero64, partial64}
+use Rattle.params.specs.declared.OptU64.{OptU64}
+use Rattle.params.specs.declared.OptU64.the-variants.{Absent, Given}
 use Rattle.geometry.specs.declared.Groups.{Groups}
 
 -- the blocks that are asked for: the size option's, else the device's

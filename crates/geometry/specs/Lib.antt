@@ -1,9 +1,4 @@
 pub mod Limits
-pub mod Options
-pub mod Params
-pub mod Sizes
 pub mod Groups
 pub mod Log
 pub mod Compute
-pub mod Same
-pub mod Named

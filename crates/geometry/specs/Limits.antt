@@ -8,28 +8,7 @@ mib = 2 ^ 20
 abbrev pub tib : ℕ
 tib = 2 ^ 40
 
--- ---- sizes, in bytes
-
-abbrev pub defaultBlock : ℕ
-defaultBlock = 4096
-
-abbrev pub minCrcBlock : ℕ
-minCrcBlock = 1024
-
-abbrev pub maxSupportedBlock : ℕ
-maxSupportedBlock = 16384
-
-abbrev pub minSector : ℕ
-minSector = 512
-
-abbrev pub maxSector : ℕ
-maxSector = 32768
-
-abbrev pub defaultInode : ℕ
-defaultInode = 512
-
-abbrev pub maxInode : ℕ
-maxInode = 2048
+-- ---- directory and label, in bytes
 
 -- the least directory block, and its logarithm
 abbrev pub minDirBlock : ℕ

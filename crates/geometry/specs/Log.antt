@@ -8,9 +8,9 @@ use Rattle.arith.specs.Choice.{when, bit}
 use Rattle.arith.specs.Numbers.{ceilDiv}
 use Rattle.refusals.specs.Table.{Refusal, _if_}
 use Rattle.geometry.specs.Limits.{tib, minBytes, minLogBytes, maxLogBytes, maxLogBlocks, logRatio, logReserve, minGroups, maxImaxpct, labelRoom}
-use Rattle.geometry.specs.Options.{or8}
-use Rattle.geometry.specs.declared.OptU8.{OptU8}
-use Rattle.geometry.specs.declared.Features.{Features}
+use Rattle.params.specs.Options.{or8}
+use Rattle.params.specs.declared.OptU8.{OptU8}
+use Rattle.params.specs.declared.Features.{Features}
 
 -- the blocks of the four header sectors
 unfoldable pub headerOf : ℕ → ℕ → ℕ

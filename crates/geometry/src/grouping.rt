@@ -2,12 +2,11 @@
 ghost use mathlib.Core.Path.{_≡_};
 ghost use Prim.Native.Nat.{_/_, _^_};
 ghost use Rattle.refusals.specs.Table.{first};
-ghost use Rattle.geometry.specs.Options.{given64, zero64, partial64};
+ghost use Rattle.params.specs.Options.{given64, zero64, partial64};
 ghost use Rattle.geometry.specs.Limits.{minGroupBytes, minGroup, maxGroup};
 ghost use Rattle.geometry.specs.Groups.{askedBlocks, defaultSize, groupsOf, initialGroups, isShort, trim, optionsRefusals, groupsRefusals};
 use crate::Geometry;
 use crate::Groups;
-use crate::OptU64;
 use arith::choice::both;
 use arith::choice::pick_u64;
 use arith::numbers::div_ceil;
@@ -15,6 +14,7 @@ use arith::numbers::min_u64;
 use arith::numbers::quotient;
 use arith::numbers::remainder;
 use arith::numbers::round_down;
+use params::OptU64;
 use refusals::first;
 
 // The least group, in blocks of 2^blocklog bytes.

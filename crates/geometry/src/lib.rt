@@ -1,93 +1,11 @@
 // The geometry step: what mkfs.xfs would choose for the options and the device, or the number of the refusal.
 // The types stand here; the functions stand in the modules, in the order in which the step takes them.
-pub mod options; // options.rt: the options, set one by one
-pub mod sizing; // sizing.rt: block, sector and inode size, and refusals 2 to 8
 pub mod grouping; // grouping.rt: block count and allocation groups, and refusals 9 to 18
 pub mod log; // log.rt: head blocks, log and imaxpct, and refusals 19 to 24
 pub mod step; // step.rt: Geometry::compute
-pub mod same; // same.rt: two geometries compared
-pub mod answers; // answers.rt: what a superblock names, and Geometry::is_answer
 
-// An option of 64 bits.
-pub enum OptU64 {
-    Absent,
-    Given(u64),
-}
-
-// An option of 32 bits.
-pub enum OptU32 {
-    Absent,
-    Given(u32),
-}
-
-// An option of 8 bits.
-pub enum OptU8 {
-    Absent,
-    Given(u8),
-}
-
-// A point in time as XFS stores it: seconds since the Unix epoch, and nanoseconds within the second.
-pub struct Timestamp {
-    pub secs: i64,
-    pub nsecs: u32,
-}
-
-pub enum OptTime {
-    Absent,
-    Given(Timestamp),
-}
-
-// Whether the bytes beside it are given.
-pub enum Presence {
-    Absent,
-    Given,
-}
-
-pub struct OptUuid {
-    pub presence: Presence,
-    pub bytes: [u8; 16],
-}
-
-// A label's length and its first 12 bytes; a longer label keeps its length. An absent label has the length 0.
-pub struct Label {
-    pub length: usize,
-    pub bytes: [u8; 12],
-}
-
-// The v5 features that mkfs.xfs turns on or off.
-pub struct Features {
-    pub finobt: bool,
-    pub rmapbt: bool,
-    pub reflink: bool,
-    pub inobtcount: bool,
-    pub bigtime: bool,
-    pub nrext64: bool,
-    pub sparse: bool,
-}
-
-// What the caller asks for. All that is absent is chosen the way mkfs.xfs chooses it.
-pub struct Params {
-    pub size: OptU64, // bytes of the file system
-    pub block_size: OptU32,
-    pub sector_size: OptU32,
-    pub inode_size: OptU32,
-    pub agcount: OptU64,
-    pub agsize: OptU64, // bytes of an allocation group
-    pub imaxpct: OptU8,
-    pub label: Label,
-    pub uuid: OptUuid,
-    pub time: OptTime,
-    pub gen_seed: OptU64,
-    pub features: Features,
-}
-
-// The sizes that were chosen, and the logical sector, at least 512; all in bytes.
-pub struct Sizes {
-    pub block: u32,
-    pub sector: u32,
-    pub inode: u32,
-    pub logical: u32,
-}
+use params::Features;
+use sizes::Sizes;
 
 // Block count, blocks of a group and the number of groups.
 pub struct Groups {
@@ -137,35 +55,9 @@ pub struct Computed {
     pub geometry: Geometry,
 }
 
-// The fields of a superblock that name its geometry: block count and group size in blocks, the other sizes in bytes.
-pub struct Named {
-    pub dblocks: u64,
-    pub agsize: u64,
-    pub blocksize: u32,
-    pub sectsize: u32,
-    pub inodesize: u32,
-    pub imaxpct: u8,
-    pub features: Features,
-    pub label: [u8; 12],
-}
-
-// The limits of sizes, groups and log, under the names that xfsprogs gives them.
+// The limits of groups, log and what they hold, under the names that xfsprogs gives them.
 impl Geometry {
-    pub const MIN_CRC_BLOCKSIZE: u32 = 1024; // bytes
-
-    pub const MAX_SUPPORTED_BLOCKSIZE: u32 = 16384; // bytes
-
-    pub const DEFAULT_BLOCKSIZE: u32 = 4096; // bytes
-
-    pub const MIN_SECTORSIZE: u32 = 512; // bytes
-
-    pub const MAX_SECTORSIZE: u32 = 32768; // bytes
-
-    pub const DEFAULT_INODESIZE: u32 = 512; // bytes
-
     pub const DINODE_MIN_SIZE: u32 = 256; // bytes
-
-    pub const DINODE_MAX_SIZE: u32 = 2048; // bytes
 
     pub const INODE_BIG_CLUSTER_SIZE: u32 = 8192; // bytes
 

@@ -2,15 +2,15 @@
 ghost use mathlib.Core.Path.{_≡_};
 ghost use Rattle.refusals.specs.Table.{first};
 ghost use Rattle.geometry.specs.Log.{headerOf, preallocOf, logBlocks, defaultImaxpct, imaxpctOf, lastRefusals};
-use crate::Features;
 use crate::Geometry;
-use crate::OptU8;
 use arith::choice::bit_of;
 use arith::numbers::div_ceil;
 use arith::numbers::max_u64;
 use arith::numbers::min_u64;
 use arith::numbers::minus;
 use arith::numbers::quotient;
+use params::Features;
+use params::OptU8;
 use refusals::first;
 
 // The blocks of the four header sectors.

@@ -3,9 +3,7 @@ ghost use mathlib.Core.Path.{_≡_};
 ghost use Rattle.geometry.specs.Compute.{labelOf, chosenOf, refusalOf, geometryOf, zeroGeometry, computeDef};
 use crate::Chosen;
 use crate::Computed;
-use crate::Features;
 use crate::Geometry;
-use crate::Params;
 use crate::grouping::asked_blocks;
 use crate::grouping::groups_refusal;
 use crate::grouping::initial_groups;
@@ -17,8 +15,6 @@ use crate::log::imaxpct_of;
 use crate::log::last_refusal;
 use crate::log::log_blocks;
 use crate::log::prealloc_of;
-use crate::sizing::chosen_sizes;
-use crate::sizing::sizes_refusal;
 use arith::choice::both;
 use arith::choice::pick_u8;
 use arith::numbers::min_usize;
@@ -27,7 +23,11 @@ use arith::numbers::quotient;
 use arith::numbers::quotient_u32;
 use arith::powers::log2_roundup;
 use arith::powers::pow2_log;
+use params::Features;
+use params::Params;
 use refusals::first;
+use sizes::chosen_sizes;
+use sizes::sizes_refusal;
 
 // The label's bytes, filled up with zeros.
 fn padded(bytes: [u8; 12], length: usize) -> [u8; 12]
