@@ -1,14 +1,14 @@
 -- What a buffer says that holds the fields of a structure: each number is read back, and no other fields at the same places stand there.
 -- Assumes nothing.
 use mathlib.Core.Path.{_≡_, refl, ap, ap₂, sym, _∙_, subst}
-use mathlib.Core.List.{List, [], _∷_}
-use Prim.Native.Nat.{ℕ, zero, suc, _≤_, _<_, _^_}
+use mathlib.Core.List.{List, [], _∷_, _++_, append-nil}
+use Prim.Native.Nat.{ℕ, zero, suc, _+_, _≤_, _<_, _^_}
 use native.Mathlib.Omega.{arith}
 use lib.Dec.{T}
-use lib.ListN.{length}
-use Rattle.endian.specs.Bytes.{beBytes, beAt}
+use lib.ListN.{length, drop, drop-of-length-le}
+use Rattle.endian.specs.Bytes.{beBytes, beAt, patch}
 use Rattle.endian.specs.Fields.{Field, Span, field, write, part, nth, spans, tidy}
-use Rattle.endian.proofs.Laws.{length-be}
+use Rattle.endian.proofs.Laws.{length-be, patch-split}
 use Rattle.endian.proofs.Fields.{read-field, at-written}
 use Rattle.structs.specs.Holds.{Holds}
 
@@ -46,3 +46,15 @@ one-reading (f ∷ fs) (g ∷ gs) zs e h j =
     let b : f .bytes ≡ g .bytes = sym (h 0 (omega arith)) ∙ ap₂ (λ (o m : ℕ). part o m zs) a n ∙ j 0 (omega arith) in
     ap₂ (λ (x : Field) (l : List Field). x ∷ l) (same-field f g a b)
     (one-reading fs gs zs (ap tail e) (λ k l. h (suc k) (omega arith)) (λ k l. j (suc k) (omega arith)))
+
+-- some fields, and then others
+pub write-append : (fs gs : List Field) (xs : List ℕ) → write (fs ++ gs) xs ≡ write gs (write fs xs)
+write-append [] gs xs = refl
+write-append (f ∷ fs) gs xs = write-append fs gs (patch (f .at) (f .bytes) xs)
+
+-- bytes over a whole buffer
+pub patch-whole : (bs xs : List ℕ) → length bs ≡ length xs → patch 0 bs xs ≡ bs
+patch-whole bs xs e =
+    patch-split 0 bs xs (omega arith)
+    ∙ ap (λ (l : List ℕ). bs ++ l) (drop-of-length-le xs (let h : length xs ≤ 0 + length bs = omega arith in h))
+    ∙ append-nil bs
