@@ -12,7 +12,7 @@ use Rattle.endian.specs.Answer.{room, answer, chosen, Put, Got}
 use borrow.Rule.Slice.PartMut.{putMid, post-is}
 use native.Mathlib.Omega.{arith}
 use lib.ListN.{length, getD, set, length-set, drop, take, take-append-drop, replicate}
-use lib.Seq.{drop-cons, take-suc, append-snoc, set-at, length-take-le, getD-set-same, getD-set-other}
+use lib.Seq.{drop-cons, take-suc, append-snoc, set-at, length-take-le, getD-set-same, getD-set-other, take-set-lt, drop-set-lt}
 use Rattle.endian.specs.Bytes.{beBytes, patch, beAt, runBytes}
 
 pub length-patch : (off : ℕ) (bs xs : List ℕ) → length (patch off bs xs) ≡ length xs
@@ -94,6 +94,18 @@ patch-split off (b ∷ bs) xs h =
     ∙ ap₂ (λ (l : List ℕ) (k : ℕ). l ++ (bs ++ drop k xs)) (take-suc xs off 0 (omega arith)) e
     ∙ append-snoc (take off xs) (getD xs off 0) (bs ++ drop (off + suc (length bs)) xs))
     ∙ set-at (take off xs) (getD xs off 0) (bs ++ drop (off + suc (length bs)) xs) b off (length-take-le off xs (omega arith))
+
+-- bytes that end by `n` are written into the first `n`
+pub take-patch : (n off : ℕ) (bs xs : List ℕ) → off + length bs ≤ n → take n (patch off bs xs) ≡ patch off bs (take n xs)
+unfolding patch
+take-patch n off [] xs h = refl
+take-patch n off (b ∷ bs) xs h =
+    take-set-lt n (patch (suc off) bs xs) off b (omega arith) ∙ ap (λ (l : List ℕ). set l off b) (take-patch n (suc off) bs xs (omega arith))
+
+pub drop-patch : (n off : ℕ) (bs xs : List ℕ) → off + length bs ≤ n → drop n (patch off bs xs) ≡ drop n xs
+unfolding patch
+drop-patch n off [] xs h = refl
+drop-patch n off (b ∷ bs) xs h = drop-set-lt n (patch (suc off) bs xs) off b (omega arith) ∙ drop-patch n (suc off) bs xs (omega arith)
 
 -- for a run of writes: what fitted fits still, and the writes so far
 pub kept : {m n l : ℕ} → m ≡ n → l ≤ n → l ≤ m

@@ -1,4 +1,4 @@
--- `be::store` meets its contract. The loop writes the bytes from the last to the first: `n - i` of them stand in the buffer.
+-- `endian::numbers::store` meets its contract. The loop writes the bytes from the last to the first: `n - i` of them stand in the buffer.
 -- Assumes nothing.
 use mathlib.Core.Path.{_≡_, refl, ap, _∙_}
 use Prim.Native.Nat.{_+_, _-_, _≤_, _/_, _^_}

@@ -1,4 +1,4 @@
--- `be::put_all` meets its contract.
+-- `endian::runs::put_all` meets its contract.
 -- Assumes nothing.
 use mathlib.Core.Path.{refl, sym, _∙_}
 use native.Mathlib.Nat.{le-refl}

@@ -1,4 +1,4 @@
--- `be::store_all` meets its contract: what is left of the table.
+-- `endian::runs::store_all` meets its contract: what is left of the table.
 -- Assumes nothing.
 use mathlib.Core.Path.{_≡_, refl, _∙_}
 use Prim.Native.Nat.{_*_, _-_, _≤_}

@@ -1,0 +1,56 @@
+// CRC32C, the checksum of every structure on disk. The Rust's crc.rs.
+ghost use mathlib.Core.Path.{_≡_};
+ghost use Prim.Native.Nat.{_+_};
+ghost use Rattle.endian.specs.Answer.{Put, Got};
+ghost use Rattle.crc.specs.Crc.{crc32cOf, cksumOf, stamped, verified};
+use crctable::update;
+use crctable::update_zeroed;
+use endian::Read32;
+use endian::WRONG_LENGTH;
+use endian::inside;
+
+// All bits set: the register's start.
+const START: u32 = 0xffff_ffff;
+
+// CRC32C of `data`.
+pub fn crc32c(data: &[u8]) -> u32
+    ensures { λ r. ⌜ r ≡ crc32cOf (now («data» .entry)) ⌝ }
+{
+    !update(START, data)
+}
+
+// The checksum of `buf` with its four bytes at `off` read as zero; 27 where these don't lie inside.
+pub fn cksum(buf: &[u8], off: usize) -> Read32
+    ensures { λ r. ⌜ Got (off + 4) (cksumOf off (now (buf .entry))) (now (buf .entry)) (r .number) (r .value) ⌝ }
+{
+    if inside(buf.len(), off, 4) {
+        return Read32 {
+            number: 0,
+            value: !update_zeroed(START, buf, off),
+        };
+    }
+    Read32 {
+        number: WRONG_LENGTH,
+        value: 0,
+    }
+}
+
+// Stores the checksum of `buf` at `off`; 27 where its four bytes don't lie inside, and then nothing has changed.
+pub fn stamp(buf: &mut [u8], off: usize) -> u32
+    ensures { λ r. ⌜ Put (off + 4) (stamped off (now (buf .entry))) (now (buf .entry)) r (now (buf .exit)) ⌝ }
+{
+    let c = cksum(buf, off);
+    endian::put_le32(buf, off, c.value)
+}
+
+// Whether the four bytes at `off` lie inside and are the checksum of `buf`.
+pub fn verify(buf: &[u8], off: usize) -> bool
+    ensures { λ r. ⌜ r ≡ verified off (now (buf .entry)) ⌝ }
+{
+    if inside(buf.len(), off, 4) {
+        let stored = endian::le32(buf, off);
+        let right = cksum(buf, off);
+        return stored.value == right.value;
+    }
+    false
+}

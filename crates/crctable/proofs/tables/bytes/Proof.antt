@@ -1,0 +1,14 @@
+-- `crctable::tables::bytes` meets its contract.
+-- Assumes nothing.
+use Rattle.castagnoli.specs.Tables.{made, byteTable}
+use Rattle.castagnoli.specs.Register.{crcBit, crcBits}
+use mathlib.Core.Path.{refl}
+use Rattle.crctable.proofs.tables.bytes.Statement.{statement}
+use Rattle.crctable.proofs.tables.bytes.Tie as tie
+
+returns : tie.Need-returns
+unfolding byteTable made crcBits crcBit
+returns c = refl
+
+pub bytes-spec : {M : Type 1} → statement M
+bytes-spec = tie.close (tie.spec returns)

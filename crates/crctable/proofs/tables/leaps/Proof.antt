@@ -1,0 +1,15 @@
+-- `crctable::tables::leaps` meets its contract.
+-- Assumes nothing.
+use Rattle.castagnoli.specs.Tables.{made, through}
+use Rattle.castagnoli.proofs.Linear.{leap-right}
+use Rattle.castagnoli.specs.Register.{crcBit, crcBits}
+use mathlib.Core.Path.{refl}
+use Rattle.crctable.proofs.tables.leaps.Statement.{statement}
+use Rattle.crctable.proofs.tables.leaps.Tie as tie
+
+returns : tie.Need-returns
+unfolding through made crcBits crcBit
+returns c = leap-right _ tt refl tt
+
+pub leaps-spec : {M : Type 1} → statement M
+leaps-spec = tie.close (tie.spec returns)

@@ -1,0 +1,15 @@
+-- `crctable::tables::slices` meets its contract.
+-- Assumes nothing.
+use Rattle.castagnoli.proofs.Words.{slice-right}
+use Rattle.castagnoli.specs.Tables.{made}
+use Rattle.castagnoli.specs.Register.{crcBit, crcBits}
+use mathlib.Core.Path.{refl}
+use Rattle.crctable.proofs.tables.slices.Statement.{statement}
+use Rattle.crctable.proofs.tables.slices.Tie as tie
+
+returns : tie.Need-returns
+unfolding made crcBits crcBit
+returns c = slice-right _ tt refl tt
+
+pub slices-spec : {M : Type 1} → statement M
+slices-spec = tie.close (tie.spec returns)
