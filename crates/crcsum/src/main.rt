@@ -1,0 +1,61 @@
+// Prints the CRC32C of standard input in hexadecimal.
+use libc::STDIN_FILENO;
+use libc::STDOUT_FILENO;
+
+// The register after what was read so far; whether there may be more, and whether a read failed.
+struct Progress {
+    register: u32,
+    more: bool,
+    failed: bool,
+}
+
+// Reads once.
+fn turn(register: u32, buf: &mut [u8]) -> Progress {
+    let got = libc::read(STDIN_FILENO, buf);
+    if got < 0 {
+        return Progress {
+            register: register,
+            more: false,
+            failed: true,
+        };
+    }
+    if got == 0 {
+        return Progress {
+            register: register,
+            more: false,
+            failed: false,
+        };
+    }
+    let n = io::count(got, buf);
+    Progress {
+        register: crctable::update(register, &buf[..n]),
+        more: true,
+        failed: false,
+    }
+}
+
+// A proved loop has to end, so it counts its turns down from a number that no input uses up.
+fn whole(buf: &mut [u8]) -> Progress {
+    let mut t = Progress {
+        register: 0xffff_ffff,
+        more: true,
+        failed: false,
+    };
+    let mut turns = u64::MAX;
+    while 0 < turns && t.more {
+        t = turn(t.register, buf);
+        turns -= 1;
+    }
+    t
+}
+
+fn main() {
+    let mut buf = io::large_buffer();
+    let t = whole(&mut buf);
+    if t.failed {
+        os::fail(b"standard input");
+        return;
+    }
+    io::print_hex(STDOUT_FILENO, (!t.register) as u64, 8);
+    io::write_all(STDOUT_FILENO, b"\n");
+}

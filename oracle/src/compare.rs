@@ -1,0 +1,160 @@
+//! Runs both sides on the same cases, counts, and reports the first difference.
+
+use std::collections::BTreeMap;
+use std::io::{self, BufReader, BufWriter, Read, Write};
+use std::process::{Child, Command, Stdio};
+
+use crate::frames;
+use crate::modes::{Mode, Told};
+use crate::random::Random;
+
+/// The counts of a run.
+#[derive(Default)]
+struct Counts(BTreeMap<Told, u64>);
+
+impl Counts {
+    fn add(&mut self, told: Told) {
+        *self.0.entry(told).or_default() += 1;
+    }
+
+    fn print(&self) {
+        for (told, n) in &self.0 {
+            let how = if told.asked { "compared" } else { "apart (the Rust is not asked)" };
+            let space = if told.kind.is_empty() { "" } else { " " };
+            println!("  {}{space}number {}: {n} {how}", told.kind, told.number);
+        }
+    }
+}
+
+/// A longer text is cut in a report.
+fn cut(text: String) -> String {
+    const MOST: usize = 2000;
+    if text.len() <= MOST {
+        return text;
+    }
+    let end = (0..=MOST).rev().find(|&i| text.is_char_boundary(i)).unwrap_or(0);
+    format!("{} .. ({} more)", &text[..end], text.len() - end)
+}
+
+fn report(mode: &dyn Mode, i: u64, case: &[u8], rust: &[u8], ours: &[u8]) {
+    let at = rust.iter().zip(ours).take_while(|(a, b)| a == b).count();
+    println!("DIFFERENCE at case {i}, from byte {at} of the answer");
+    println!("  case: {}", cut(mode.show_case(case)));
+    println!("  Rust: {}", cut(mode.show_answer(rust)));
+    println!("  ours: {}", cut(mode.show_answer(ours)));
+}
+
+/// The loop of every comparison; `ours` answers a case.
+fn compared(
+    mode: &dyn Mode,
+    cases: u64,
+    seed: u64,
+    mut ours: impl FnMut(&[u8]) -> io::Result<Vec<u8>>,
+) -> io::Result<bool> {
+    let mut r = Random::new(seed);
+    let mut counts = Counts::default();
+    let mut rust = Vec::new();
+    for i in 0..cases {
+        let case = mode.case(&mut r);
+        rust.clear();
+        counts.add(mode.answer(&case, &mut rust)?);
+        let port = ours(&case)?;
+        if port != rust {
+            counts.print();
+            report(mode, i, &case, &rust, &port);
+            return Ok(false);
+        }
+    }
+    counts.print();
+    println!("{cases} cases from seed {seed}: no difference");
+    Ok(true)
+}
+
+/// The Rust's side alone.
+pub fn count(mode: &dyn Mode, cases: u64, seed: u64) -> io::Result<()> {
+    let mut r = Random::new(seed);
+    let mut counts = Counts::default();
+    for _ in 0..cases {
+        let case = mode.case(&mut r);
+        counts.add(mode.answer(&case, &mut io::sink())?);
+    }
+    counts.print();
+    Ok(())
+}
+
+pub fn with_library(mode: &dyn Mode, cases: u64, seed: u64) -> io::Result<bool> {
+    let missing =
+        || io::Error::other("no static library of the port is linked in for this mode: build with its feature");
+    compared(mode, cases, seed, |case| mode.ours(case).ok_or_else(missing))
+}
+
+fn started(path: &str) -> io::Result<Child> {
+    Command::new(path).stdin(Stdio::piped()).stdout(Stdio::piped()).spawn()
+}
+
+/// The port's program reads a stream of cases and writes a stream of answers.
+pub fn with_program(mode: &(dyn Mode + Sync), cases: u64, seed: u64, path: &str) -> io::Result<bool> {
+    let mut child = started(path)?;
+    let mut to = BufWriter::new(child.stdin.take().unwrap());
+    let mut from = BufReader::new(child.stdout.take().unwrap());
+    let same = std::thread::scope(|s| {
+        // The cases are made a second time, so that neither side waits for the other.
+        s.spawn(move || {
+            let mut r = Random::new(seed);
+            for _ in 0..cases {
+                if frames::write(&mut to, &mode.case(&mut r)).is_err() {
+                    return;
+                }
+            }
+            let _ = to.flush();
+        });
+        let ended = || io::Error::other("the port's program ended before its last answer");
+        let same = compared(mode, cases, seed, |_| frames::read(&mut from)?.ok_or_else(ended));
+        drop(from);
+        same
+    });
+    let _ = child.kill();
+    child.wait()?;
+    same
+}
+
+/// The port's program reads one case and writes one answer.
+pub fn with_each(mode: &dyn Mode, cases: u64, seed: u64, path: &str) -> io::Result<bool> {
+    compared(mode, cases, seed, |case| {
+        let mut child = started(path)?;
+        let mut to = child.stdin.take().unwrap();
+        let mut from = child.stdout.take().unwrap();
+        // A case is shorter than a pipe holds. A program that stops reading early still answers.
+        let _ = to.write_all(case);
+        drop(to);
+        let mut out = Vec::new();
+        from.read_to_end(&mut out)?;
+        child.wait()?;
+        Ok(out)
+    })
+}
+
+/// `cases` cases with their answers, as many of each kind and number as of the others where there are enough.
+pub fn sample(mode: &dyn Mode, cases: u64, seed: u64) -> io::Result<()> {
+    let mut r = Random::new(seed);
+    let mut found: BTreeMap<Told, Vec<(Vec<u8>, Vec<u8>)>> = BTreeMap::new();
+    for _ in 0..cases * 200 {
+        let case = mode.case(&mut r);
+        let mut out = Vec::new();
+        let told = mode.answer(&case, &mut out)?;
+        let same = found.entry(told).or_default();
+        if (same.len() as u64) < cases {
+            same.push((case, out));
+        }
+    }
+    let mut output = BufWriter::new(io::stdout().lock());
+    let mut left = cases;
+    for row in 0..cases as usize {
+        for pair in found.values().filter_map(|same| same.get(row)).take(left as usize) {
+            frames::write(&mut output, &pair.0)?;
+            frames::write(&mut output, &pair.1)?;
+            left -= 1;
+        }
+    }
+    output.flush()
+}

@@ -1,0 +1,134 @@
+//! The geometry step. A case is document 01's input records; an answer is a line: the number, and after 0 the 21
+//! fields of the geometry in the Rust's order, features as bits and the label in hexadecimal digits.
+
+use std::io;
+use std::panic::catch_unwind;
+
+use mkfs_xfs::geometry::{Features, Geometry};
+
+use super::{Mode, Out, Told};
+use crate::numbers::{number_of, UNNUMBERED};
+use crate::random::Random;
+use crate::request::{Request, MALFORMED};
+use crate::wishes;
+
+pub struct Geometries;
+
+/// agcount is not block count divided by agsize, rounded up.
+const GROUPS_MISS: u32 = 24;
+
+/// The geometry that the Rust gives, or the number of a refusal, with what it is counted under.
+pub fn step(q: &Request) -> (Told, Option<Geometry>) {
+    let params = q.params();
+    match catch_unwind(|| Geometry::compute(&params, q.device, q.logical, q.physical)) {
+        Ok(Ok(g)) if g.agcount != g.dblocks.div_ceil(g.agsize) => (Told::apart("", GROUPS_MISS), None),
+        Ok(Ok(g)) => (Told::asked("", 0), Some(g)),
+        Ok(Err(e)) => (Told::asked("", number_of(&e)), None),
+        Err(_) => (Told::asked("panic", UNNUMBERED), None),
+    }
+}
+
+/// The features as the bits of document 01's option.
+pub fn feature_bits(f: &Features) -> u64 {
+    let on = [f.finobt, f.rmapbt, f.reflink, f.inobtcount, f.bigtime, f.nrext64, f.sparse];
+    on.iter().enumerate().map(|(i, &b)| u64::from(b) << i).sum()
+}
+
+/// Every field but the label, with its name.
+pub fn fields(g: &Geometry) -> [(&'static str, u64); 20] {
+    [
+        ("blocksize", g.blocksize.into()),
+        ("blocklog", g.blocklog.into()),
+        ("sectsize", g.sectsize.into()),
+        ("sectlog", g.sectlog.into()),
+        ("lsectsize", g.lsectsize.into()),
+        ("lsectlog", g.lsectlog.into()),
+        ("inodesize", g.inodesize.into()),
+        ("inodelog", g.inodelog.into()),
+        ("inopblock", g.inopblock.into()),
+        ("inopblog", g.inopblog.into()),
+        ("dirblocklog", g.dirblocklog.into()),
+        ("dblocks", g.dblocks),
+        ("agsize", g.agsize),
+        ("agcount", g.agcount),
+        ("agblklog", g.agblklog.into()),
+        ("imaxpct", g.imaxpct.into()),
+        ("logblocks", g.logblocks),
+        ("logagno", g.logagno),
+        ("log_agbno", g.log_agbno),
+        ("features", feature_bits(&g.features)),
+    ]
+}
+
+/// The request as the port's function takes it.
+#[cfg(feature = "geometry")]
+fn port_input(q: &Request) -> mkfs_xfs::ours::geometry::Input {
+    use crate::request::op;
+    let value = |code: usize| q.options[code].unwrap_or(0);
+    let text = q.label.clone().unwrap_or_default();
+    let mut label = [0u8; 12];
+    let kept = text.len().min(label.len());
+    label[..kept].copy_from_slice(&text[..kept]);
+    mkfs_xfs::ours::geometry::Input {
+        given: (op::SIZE..=op::IMAXPCT).filter(|&k| q.options[k].is_some()).map(|k| 1 << k).sum(),
+        size: value(op::SIZE),
+        block: value(op::BLOCK) as u32,
+        sector: value(op::SECTOR) as u32,
+        inode: value(op::INODE) as u32,
+        agcount: value(op::AGCOUNT),
+        agsize: value(op::AGSIZE),
+        imaxpct: value(op::IMAXPCT) as u8,
+        features: feature_bits(&q.features()),
+        label_length: text.len(),
+        label,
+        device: q.device,
+        logical: q.logical,
+        physical: q.physical,
+    }
+}
+
+impl Mode for Geometries {
+    fn case(&self, r: &mut Random) -> Vec<u8> {
+        let changes = r.below(4);
+        wishes::request(r, changes).encode()
+    }
+
+    fn answer(&self, case: &[u8], out: Out) -> io::Result<Told> {
+        let Some(q) = Request::parse(case) else {
+            writeln!(out, "{MALFORMED}")?;
+            return Ok(Told::apart("", MALFORMED));
+        };
+        let (told, answer) = step(&q);
+        write!(out, "{}", told.number)?;
+        if let Some(g) = answer {
+            for (_, value) in fields(&g) {
+                write!(out, " {value}")?;
+            }
+            write!(out, " {}", super::hex(&g.label))?;
+        }
+        writeln!(out)?;
+        Ok(told)
+    }
+
+    #[cfg(feature = "geometry")]
+    fn ours(&self, case: &[u8]) -> Option<Vec<u8>> {
+        use mkfs_xfs::ours::geometry::field;
+        let input = port_input(&Request::parse(case)?);
+        let number = field(0, &input);
+        let mut line = number.to_string();
+        if number == 0 {
+            (1..=20).for_each(|k| line += &format!(" {}", field(k, &input)));
+            line += " ";
+            (21..=32).for_each(|k| line += &format!("{:02x}", field(k, &input)));
+        }
+        Some((line + "\n").into_bytes())
+    }
+
+    fn show_case(&self, case: &[u8]) -> String {
+        format!("{} {:?}", super::hex(case), Request::parse(case))
+    }
+
+    fn show_answer(&self, answer: &[u8]) -> String {
+        String::from_utf8_lossy(answer).into_owned()
+    }
+}

@@ -1,0 +1,97 @@
+//! What can be compared. A mode makes cases from a seed, has the Rust's answer to a case, and knows the port's.
+
+use std::io::{self, Write};
+
+use crate::random::Random;
+
+pub mod crc;
+pub mod geometry;
+pub mod inodes;
+pub mod lists;
+pub mod log;
+pub mod places;
+pub mod plans;
+pub mod structs;
+pub mod writes;
+
+/// What an answer is counted under.
+#[derive(Clone, PartialEq, Eq, PartialOrd, Ord)]
+pub struct Told {
+    /// The kind of case, where a mode has several.
+    pub kind: &'static str,
+    /// Document 01's number, 0 where the case is accepted.
+    pub number: u32,
+    /// Whether the Rust itself was asked. It isn't where a number that document 01 adds refuses the case.
+    pub asked: bool,
+}
+
+impl Told {
+    pub fn asked(kind: &'static str, number: u32) -> Self {
+        Told { kind, number, asked: true }
+    }
+
+    pub fn apart(kind: &'static str, number: u32) -> Self {
+        Told { kind, number, asked: false }
+    }
+}
+
+/// Where an answer is written.
+pub type Out<'a> = &'a mut (dyn Write + Send);
+
+pub trait Mode {
+    /// The next case.
+    fn case(&self, r: &mut Random) -> Vec<u8>;
+
+    /// The Rust's answer; document 01's where the Rust can't be asked.
+    fn answer(&self, case: &[u8], out: Out) -> io::Result<Told>;
+
+    /// The port's answer, where its static library is linked in.
+    fn ours(&self, _case: &[u8]) -> Option<Vec<u8>> {
+        None
+    }
+
+    /// A case and an answer in words, for the report of a difference.
+    fn show_case(&self, case: &[u8]) -> String {
+        hex(case)
+    }
+
+    fn show_answer(&self, answer: &[u8]) -> String {
+        hex(answer)
+    }
+}
+
+pub fn named(name: &str) -> Option<Box<dyn Mode + Sync>> {
+    Some(match name {
+        "crc" => Box::new(crc::Crc),
+        "geometry" => Box::new(geometry::Geometries),
+        "places" => Box::new(places::Places),
+        "helpers" => Box::new(places::Helpers),
+        "plans" => Box::new(plans::Plans),
+        "planlist" => Box::new(plans::Planlist),
+        "writelist" => Box::new(writes::Writelist),
+        "take" => Box::new(lists::Take),
+        "rmap_insert" => Box::new(lists::RmapInsert),
+        "record" => Box::new(log::Record),
+        "sb" => Box::new(structs::Sb),
+        "agf" => Box::new(structs::AgfSector),
+        "agi" => Box::new(structs::AgiSector),
+        "agfl" => Box::new(structs::AgflSector),
+        "leaf" => Box::new(structs::Leaf),
+        "recs" => Box::new(structs::Recs),
+        "dinode" => Box::new(inodes::Allocated),
+        "free_inode" => Box::new(inodes::Free),
+        "time" => Box::new(inodes::Time),
+        "sf_dir" => Box::new(inodes::SfDir),
+        _ => return None,
+    })
+}
+
+/// An answer of the encoders: the number in four bytes, and the lent bytes as they are left.
+pub fn numbered(number: u32, bytes: &[u8]) -> Vec<u8> {
+    [&number.to_be_bytes()[..], bytes].concat()
+}
+
+/// The bytes in hexadecimal digits.
+pub fn hex(bytes: &[u8]) -> String {
+    bytes.iter().map(|b| format!("{b:02x}")).collect()
+}

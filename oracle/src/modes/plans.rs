@@ -1,0 +1,181 @@
+//! The planner, and program planlist.
+
+use std::io;
+use std::panic::catch_unwind;
+
+use mkfs_xfs::format::{plan_ag, AgPlan};
+use mkfs_xfs::geometry::{Geometry, Timestamp};
+
+use super::geometry::step;
+use super::{Mode, Out, Told};
+use crate::frames::Fields;
+use crate::numbers::{number_of, UNNUMBERED};
+use crate::random::Random;
+use crate::request::{Request, MALFORMED};
+use crate::wishes;
+
+/// Time out of range.
+pub const BAD_TIME: u32 = 26;
+
+/// The Rust's plan, or the number of its refusal.
+pub fn plan(g: &Geometry, agno: u64) -> Result<AgPlan, u32> {
+    match catch_unwind(|| plan_ag(g, agno)) {
+        Ok(done) => done.map_err(|e| number_of(&e)),
+        Err(_) => Err(UNNUMBERED),
+    }
+}
+
+/// Whether document 01 accepts the time.
+pub fn time_fits(t: Timestamp, bigtime: bool) -> bool {
+    if t.nsecs >= 1_000_000_000 {
+        return false;
+    }
+    if bigtime {
+        let stored = (i128::from(t.secs) + (1 << 31)) * 1_000_000_000 + i128::from(t.nsecs);
+        (0..1 << 64).contains(&stored)
+    } else {
+        i32::try_from(t.secs).is_ok()
+    }
+}
+
+/// The geometry of an accepted run, or the number that refuses it. 25 is the log group's alone.
+pub fn accepted(case: &[u8]) -> (Told, Option<(Request, Geometry)>) {
+    let Some(q) = Request::parse(case) else {
+        return (Told::apart("", MALFORMED), None);
+    };
+    let (told, answer) = step(&q);
+    let Some(g) = answer else {
+        return (told, None);
+    };
+    if let Err(number) = plan(&g, g.logagno) {
+        return (Told::asked("", number), None);
+    }
+    if !time_fits(q.time(), g.features.bigtime) {
+        return (Told::apart("", BAD_TIME), None);
+    }
+    (told, Some((q, g)))
+}
+
+/// Records for a request of at most `groups` groups, if it is accepted.
+pub fn bounded(r: &mut Random, groups: u64, malformed: bool) -> Vec<u8> {
+    loop {
+        let changes = r.below(3);
+        let mut q = wishes::small(r, changes, groups);
+        wishes::with_run(r, &mut q);
+        if step(&q).1.is_some_and(|g| g.agcount > groups) {
+            continue;
+        }
+        return if malformed { wishes::records(r, &q) } else { q.encode() };
+    }
+}
+
+/// `plan_ag` of group 0, the log group, the last and one other. A case is a number (8 bytes) that chooses the other
+/// group, and the input records. An answer is a line with the geometry step's number, then, if it is 0, a line for
+/// each group: the number, and after 0 agno, length, the free records, the free list, the rmap records and the
+/// chunk, each with its count before it, freeblks and longest.
+pub struct Plans;
+
+fn plan_line(out: Out, p: &AgPlan) -> io::Result<()> {
+    write!(out, "0 {} {} {}", p.agno, p.length, p.free.len())?;
+    for r in &p.free {
+        write!(out, " {} {}", r.start, r.count)?;
+    }
+    write!(out, " {}", p.agfl.len())?;
+    for b in &p.agfl {
+        write!(out, " {b}")?;
+    }
+    write!(out, " {}", p.rmap.len())?;
+    for r in &p.rmap {
+        write!(out, " {} {} {}", r.start, r.count, r.owner)?;
+    }
+    match p.chunk {
+        Some(c) => write!(out, " 1 {c}")?,
+        None => write!(out, " 0")?,
+    }
+    writeln!(out, " {} {}", p.freeblks(), p.longest())
+}
+
+impl Mode for Plans {
+    fn case(&self, r: &mut Random) -> Vec<u8> {
+        let changes = r.below(3);
+        let q = if r.one_in(2) { wishes::request(r, changes) } else { wishes::small(r, changes, 1000) };
+        [&r.next().to_be_bytes()[..], &q.encode()].concat()
+    }
+
+    fn answer(&self, case: &[u8], out: Out) -> io::Result<Told> {
+        let mut f = Fields(case);
+        let choice = f.u64();
+        let Some(q) = Request::parse(f.rest()) else {
+            writeln!(out, "{MALFORMED}")?;
+            return Ok(Told::apart("", MALFORMED));
+        };
+        let (mut told, answer) = step(&q);
+        writeln!(out, "{}", told.number)?;
+        let Some(g) = answer else {
+            return Ok(told);
+        };
+        for agno in [0, g.logagno, g.agcount - 1, choice % g.agcount] {
+            match plan(&g, agno) {
+                Ok(p) => plan_line(out, &p)?,
+                Err(number) => {
+                    writeln!(out, "{number}")?;
+                    told.number = number;
+                }
+            }
+        }
+        Ok(told)
+    }
+
+    fn show_case(&self, case: &[u8]) -> String {
+        format!("{} {:?}", super::hex(case), case.get(8..).map(Request::parse))
+    }
+
+    fn show_answer(&self, answer: &[u8]) -> String {
+        String::from_utf8_lossy(answer).into_owned()
+    }
+}
+
+/// Program planlist: a case is its standard input, an answer its standard output.
+pub struct Planlist;
+
+/// The most groups of a case, so that each is answered quickly.
+const GROUPS: u64 = 300;
+
+fn list(out: Out, g: &Geometry) -> io::Result<()> {
+    writeln!(out, "group length log list chunk free longest")?;
+    let mut sums = [0u64; 5];
+    for agno in 0..g.agcount {
+        let p = plan(g, agno).map_err(|n| io::Error::other(format!("group {agno} is refused with {n}")))?;
+        let log = if agno == g.logagno { g.logblocks } else { 0 };
+        let chunk = if p.chunk.is_some() { g.chunk_blocks() } else { 0 };
+        let row = [p.length, log, p.agfl.len() as u64, chunk, p.freeblks()];
+        writeln!(out, "{agno} {} {} {} {} {} {}", row[0], row[1], row[2], row[3], row[4], p.longest())?;
+        for (sum, value) in sums.iter_mut().zip(row) {
+            *sum += value;
+        }
+    }
+    writeln!(out, "total {} {} {} {} {}", sums[0], sums[1], sums[2], sums[3], sums[4])
+}
+
+impl Mode for Planlist {
+    fn case(&self, r: &mut Random) -> Vec<u8> {
+        bounded(r, GROUPS, true)
+    }
+
+    fn answer(&self, case: &[u8], out: Out) -> io::Result<Told> {
+        let (told, run) = accepted(case);
+        match run {
+            Some((_, g)) => list(out, &g)?,
+            None => writeln!(out, "refused {}", told.number)?,
+        }
+        Ok(told)
+    }
+
+    fn show_case(&self, case: &[u8]) -> String {
+        format!("{} {:?}", super::hex(case), Request::parse(case))
+    }
+
+    fn show_answer(&self, answer: &[u8]) -> String {
+        String::from_utf8_lossy(answer).into_owned()
+    }
+}

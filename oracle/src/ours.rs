@@ -1,0 +1,97 @@
+//! The port's own functions, from its static libraries (see `../build.rs`). A slice goes as pointer, then length.
+
+/// Crate `ffi_crc`.
+#[cfg(feature = "crc")]
+pub mod crc {
+    extern "C" {
+        fn zq_crc32c(data: *const u8, len: usize) -> u32;
+        fn zq_cksum_number(buf: *const u8, len: usize, off: usize) -> u32;
+        fn zq_cksum(buf: *const u8, len: usize, off: usize) -> u32;
+        fn zq_stamp(buf: *mut u8, len: usize, off: usize) -> u32;
+        fn zq_verify(buf: *const u8, len: usize, off: usize) -> bool;
+    }
+
+    pub fn crc32c(data: &[u8]) -> u32 {
+        unsafe { zq_crc32c(data.as_ptr(), data.len()) }
+    }
+
+    /// The number, and the checksum (0 where it is refused).
+    pub fn cksum(buf: &[u8], off: usize) -> (u32, u32) {
+        unsafe { (zq_cksum_number(buf.as_ptr(), buf.len(), off), zq_cksum(buf.as_ptr(), buf.len(), off)) }
+    }
+
+    /// The number.
+    pub fn stamp(buf: &mut [u8], off: usize) -> u32 {
+        unsafe { zq_stamp(buf.as_mut_ptr(), buf.len(), off) }
+    }
+
+    pub fn verify(buf: &[u8], off: usize) -> bool {
+        unsafe { zq_verify(buf.as_ptr(), buf.len(), off) }
+    }
+}
+
+/// Crate `ffi_geometry`.
+#[cfg(feature = "geometry")]
+pub mod geometry {
+    /// What the geometry step is given. Bit k of `given` is set where the option with document 01's code k is given.
+    pub struct Input {
+        pub given: u64,
+        pub size: u64,
+        pub block: u32,
+        pub sector: u32,
+        pub inode: u32,
+        pub agcount: u64,
+        pub agsize: u64,
+        pub imaxpct: u8,
+        pub features: u64,
+        pub label_length: usize,
+        pub label: [u8; 12],
+        pub device: u64,
+        pub logical: u32,
+        pub physical: u32,
+    }
+
+    extern "C" {
+        fn zq_geometry(
+            field: u64,
+            given: u64,
+            size: u64,
+            block: u32,
+            sector: u32,
+            inode: u32,
+            agcount: u64,
+            agsize: u64,
+            imaxpct: u8,
+            features: u64,
+            label_length: usize,
+            label: *const [u8; 12],
+            device: u64,
+            logical: u32,
+            physical: u32,
+        ) -> u64;
+    }
+
+    /// One number of the answer: 0 is the number of document 01, 1 to 20 are the fields in the Rust's order (features
+    /// as bits), 21 to 32 the bytes of the label.
+    pub fn field(k: u64, i: &Input) -> u64 {
+        unsafe {
+            zq_geometry(
+                k,
+                i.given,
+                i.size,
+                i.block,
+                i.sector,
+                i.inode,
+                i.agcount,
+                i.agsize,
+                i.imaxpct,
+                i.features,
+                i.label_length,
+                &i.label,
+                i.device,
+                i.logical,
+                i.physical,
+            )
+        }
+    }
+}
