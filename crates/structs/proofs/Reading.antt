@@ -1,16 +1,19 @@
 -- What a buffer says that holds the fields of a structure: each number is read back, and no other fields at the same places stand there.
 -- Assumes nothing.
+use mathlib.Core.Bool.{Bool, true, false, _||_}
 use mathlib.Core.Path.{_≡_, refl, ap, ap₂, sym, _∙_, subst}
 use mathlib.Core.List.{List, [], _∷_, _++_, append-nil}
 use Prim.Native.Nat.{ℕ, zero, suc, _+_, _≤_, _<_, _^_}
 use native.Mathlib.Omega.{arith}
-use lib.Dec.{T}
+use lib.Dec.{T, leb}
+use borrow.Author.Tests.{le-leb}
 use lib.ListN.{length, drop, drop-of-length-le}
-use Rattle.endian.specs.Bytes.{beBytes, beAt, patch}
-use Rattle.endian.specs.Fields.{Field, Span, field, write, part, nth, spans, tidy}
-use Rattle.endian.proofs.Laws.{length-be, patch-split}
+use Rattle.endian.specs.Bytes.{beBytes, beAt, patch, runBytes}
+use Rattle.endian.specs.Fields.{Field, Span, field, run, write, part, nth, spans, tidy}
+use Rattle.endian.proofs.Laws.{length-be, patch-split, patch-append}
+use Rattle.endian.proofs.Order.{trade}
 use Rattle.endian.proofs.Fields.{read-field, at-written}
-use Rattle.structs.specs.Holds.{Holds}
+use Rattle.structs.specs.Holds.{Holds, numbered}
 
 -- fields that were written and do not meet are held
 pub held : (ss : List Span) (m : ℕ) → T (tidy m ss) → (fs : List Field) → spans fs ≡ ss → (xs : List ℕ) → m ≤ length xs → Holds fs (write fs xs)
@@ -58,3 +61,24 @@ patch-whole bs xs e =
     patch-split 0 bs xs (omega arith)
     ∙ ap (λ (l : List ℕ). bs ++ l) (drop-of-length-le xs (let h : length xs ≤ 0 + length bs = omega arith in h))
     ∙ append-nil bs
+
+-- two runs that do not meet
+left-or : (a b : Bool) → T a → T (a || b)
+left-or true b t = tt
+left-or false b t = absurd t
+
+pub patch-apart : (o p : ℕ) (bs cs xs : List ℕ) → o + length bs ≤ p → patch o bs (patch p cs xs) ≡ patch p cs (patch o bs xs)
+patch-apart o p bs cs xs h =
+    trade (run o bs) (run p cs) xs (left-or (leb (o + length bs) p) (leb (p + length cs) o) (subst T (sym (le-leb (o + length bs) p h)) tt))
+
+-- consecutive numbers are fields one behind the other
+pub run-fields : (n off : ℕ) (vs xs : List ℕ) → patch off (runBytes n vs) xs ≡ write (numbered n off vs) xs
+unfolding runBytes patch
+run-fields n off [] xs = refl
+run-fields n off (v ∷ vs) xs =
+    let b = length-be n v in
+    let h : off + length (beBytes n v) ≤ off + n = omega arith in
+    patch-append off (beBytes n v) (runBytes n vs) xs
+    ∙ ap (λ (k : ℕ). patch off (beBytes n v) (patch (off + k) (runBytes n vs) xs)) b
+    ∙ patch-apart off (off + n) (beBytes n v) (runBytes n vs) xs h
+    ∙ run-fields n (off + n) vs (patch off (beBytes n v) xs)
