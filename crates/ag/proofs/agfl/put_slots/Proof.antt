@@ -1,0 +1,93 @@
+-- `ag::agfl::put_slots` meets its contract.
+-- Assumes nothing.
+use Rattle.ag.proofs.Slots.{slot-start, slot-end}
+use Rattle.ag.proofs.Slots.{slot-turn}
+use Rattle.ag.specs.Agfl.{placed}
+use Rattle.structs.specs.Written.{null32}
+use Rattle.endian.proofs.Laws.{put-in}
+use Rattle.endian.specs.Bytes.{patch, runBytes}
+use borrow.Author.Needs.{needs}
+use lib.ListN.{length, take, replicate}
+use native.Mathlib.Nat.{mod-lt}
+use native.Mathlib.Omega.{arith}
+use Prim.Native.Nat.{_+_, _-_, _/_, _≤_, _<_}
+use mathlib.Core.Path.{_≡_, refl, _∙_}
+use Rattle.ag.proofs.agfl.put_slots.Statement.{statement}
+use Rattle.ag.proofs.agfl.put_slots.Tie as tie
+
+abbrev Inv-loop : tie.InvT-loop
+Inv-loop sector₀ first count list slots i₀ sector i = (i ≤ count) × (length sector ≡ length sector₀) × (sector ≡ patch 36 (runBytes 4 (placed slots first (take i list) (replicate slots null32))) sector₀)
+
+abbrev μ-loop : tie.MeasureT-loop
+μ-loop sector₀ first count list slots i₀ sector i = count - i
+
+sub-slots : tie.Need-sub-slots Inv-loop μ-loop
+sub-slots c = search needs
+
+mul-put-same : tie.Need-mul-put-same Inv-loop μ-loop
+mul-put-same c = omega arith
+
+put-same-requires : tie.Need-put-same-requires Inv-loop μ-loop
+put-same-requires c κs = search needs
+
+loop-holds : tie.Need-loop-holds Inv-loop μ-loop
+loop-holds c = (omega arith, refl, slot-start ((length (c .before .before .before .before .before .args .sector .now) - 36) / 4) (c .before .before .before .before .before .args .first) (c .before .before .before .before .before .args .t3) (c .before .before .before .before .before .args .sector .now) _ (put-in (c .before .before .put-same .ensures) (omega arith)))
+
+add-slot : tie.Need-add-slot Inv-loop μ-loop
+add-slot c = omega arith
+
+rem-slot : tie.Need-rem-slot Inv-loop μ-loop
+rem-slot c = omega arith
+
+mul-put32 : tie.Need-mul-put32 Inv-loop μ-loop
+mul-put32 c = let m = mod-lt (c .before .before .before .before .before .before .before .before .args .first + c .before .before .loop .i) (let p : 0 < (length (c .before .before .before .before .before .before .before .before .args .sector .now) - 36) / 4 = omega arith in p) in omega (arith, m, c .before .before .before .before .before .put-same .kept .0, c .before .before .before .before .before .before .before .before .good .0 .0)
+
+add-put32 : tie.Need-add-put32 Inv-loop μ-loop
+add-put32 c = let m = mod-lt (c .before .before .before .before .before .before .before .before .args .first + c .before .before .loop .i) (let p : 0 < (length (c .before .before .before .before .before .before .before .before .args .sector .now) - 36) / 4 = omega arith in p) in omega (arith, m, c .before .before .before .before .before .put-same .kept .0, c .before .before .before .before .before .before .before .before .good .0 .0)
+
+mul-put32-2 : tie.Need-mul-put32-2 Inv-loop μ-loop
+mul-put32-2 c = omega arith
+
+array-read-put32 : tie.Need-array-read-put32 Inv-loop μ-loop
+array-read-put32 c = omega arith
+
+put32-requires : tie.Need-put32-requires Inv-loop μ-loop
+put32-requires c κs = search needs
+
+add-i : tie.Need-add-i Inv-loop μ-loop
+add-i c = omega arith
+
+loop-less : tie.Need-loop-less Inv-loop μ-loop
+loop-less c = omega arith
+
+loop-again : tie.Need-loop-again Inv-loop μ-loop
+loop-again c = let k : length (c .before .before .before .before .before .before .before .before .before .before .before .args .t3) ≡ 64 = search needs in let m = mod-lt (c .before .before .before .before .before .before .before .before .before .before .before .args .first + c .before .before .before .before .before .loop .i) (let p : 0 < (length (c .before .before .before .before .before .before .before .before .before .before .before .args .sector .now) - 36) / 4 = omega arith in p) in (omega arith, c .before .before .put32 .kept .0 ∙ c .before .before .before .before .before .loop .inv .1, slot-turn ((length (c .before .before .before .before .before .before .before .before .before .before .before .args .sector .now) - 36) / 4) (c .before .before .before .before .before .before .before .before .before .before .before .args .first) (c .before .before .before .before .before .loop .i) (c .before .before .before .before .before .before .before .before .before .before .before .args .t3) _ _ _ (omega arith) (omega arith) (c .before .before .before .before .before .loop .inv .2) (put-in (c .before .before .put32 .ensures) (omega (arith, m, c .before .before .before .before .before .before .before .before .put-same .kept .0, c .before .before .before .before .before .loop .inv .1))))
+
+same-length : tie.Need-same-length Inv-loop μ-loop
+same-length c = c .before .loop .inv .1 ∙ c .before .before .before .before .put-same .kept .0
+
+returns : tie.Need-returns Inv-loop μ-loop
+returns c = let e : c .before .loop .i ≡ c .before .before .before .before .before .before .before .args .count = omega arith in slot-end ((length (c .before .before .before .before .before .before .before .args .sector .now) - 36) / 4) (c .before .before .before .before .before .before .before .args .first) (take (c .before .before .before .before .before .before .before .args .count) (c .before .before .before .before .before .before .before .args .t3)) (c .before .before .before .before .before .before .before .args .sector .now) _ _ (put-in (c .before .before .before .before .put-same .ensures) (omega arith)) (rw e at (c .before .loop .inv .2))
+
+pub put-slots-spec : {M : Type 1} → statement M
+put-slots-spec =
+    tie.close
+    (tie.spec
+    Inv-loop
+    μ-loop
+    sub-slots
+    mul-put-same
+    put-same-requires
+    loop-holds
+    add-slot
+    rem-slot
+    mul-put32
+    add-put32
+    mul-put32-2
+    array-read-put32
+    put32-requires
+    add-i
+    loop-less
+    loop-again
+    same-length
+    returns)

@@ -1,0 +1,60 @@
+-- `ag::agi::Agi::encode` meets its contract.
+-- Assumes nothing.
+use Rattle.ag.proofs.Orders.{agi-written}
+use Rattle.ag.specs.Agi.{agiBytes}
+use Rattle.structs.proofs.Written.{refused, done}
+use Rattle.structs.proofs.Lengths.{sector-least}
+use Rattle.structs.specs.Sizes.{isSector}
+use Rattle.crc.proofs.Laws.{stamp-in}
+use Rattle.crc.specs.Crc.{stamped}
+use Rattle.endian.proofs.Laws.{put-in}
+use borrow.Author.Tests.{not-true, not-false}
+use lib.ListN.{length}
+use native.Mathlib.Omega.{arith}
+use mathlib.Core.Bool.{true, false}
+use mathlib.Core.Path.{_≡_, refl, ap, sym, _∙_}
+use borrow.Author.Needs.{needs}
+use Rattle.ag.proofs.agi.Agi.encode.Statement.{statement}
+use Rattle.ag.proofs.agi.Agi.encode.Tie as tie
+
+is-sector-requires : tie.Need-is-sector-requires
+is-sector-requires c κs = search needs
+
+returns : tie.Need-returns
+returns c = let t : isSector (length (c .before .before .before .args .sector .now)) ≡ false = sym (c .before .is-sector .ensures) ∙ not-true _ (c .if1 .taken) in refused (rw t refl) refl
+
+put-front-requires : tie.Need-put-front-requires
+put-front-requires c κs = let t : isSector (length (c .before .before .before .before .args .sector .now)) ≡ true = sym (c .before .before .is-sector .ensures) ∙ not-false _ (c .before .if1 .left) in sector-least (length (c .before .before .before .before .args .sector .now)) t
+
+put64-requires : tie.Need-put64-requires
+put64-requires c κs = search needs
+
+slice-aggregate-put32-run : tie.Need-slice-aggregate-put32-run
+slice-aggregate-put32-run c = search needs
+
+put32-run-requires : tie.Need-put32-run-requires
+put32-run-requires c κs = search needs
+
+stamp-requires : tie.Need-stamp-requires
+stamp-requires c κs = search needs
+
+same-length : tie.Need-same-length
+same-length c = search needs
+
+returns-2 : tie.Need-returns-2
+unfolding agiBytes
+returns-2 c = let t : isSector (length (c .before .before .before .before .before .before .before .before .before .before .before .before .before .before .before .before .before .before .before .before .args .sector .now)) ≡ true = sym (c .before .before .before .before .before .before .before .before .before .before .before .before .before .before .before .before .before .before .is-sector .ensures) ∙ not-false _ (c .before .before .before .before .before .before .before .before .before .before .before .before .before .before .before .before .before .if1 .left) in let l = sector-least (length (c .before .before .before .before .before .before .before .before .before .before .before .before .before .before .before .before .before .before .before .before .args .sector .now)) t in let k1 = c .before .before .before .before .before .before .before .before .before .before .before .before .before .before .before .put-front .kept .0 in let k2 = c .before .before .before .before .before .before .before .before .before .before .before .put64 .kept .0 in let k3 = c .before .before .before .before .before .before .put32-run .kept .0 in done (rw t refl) (stamp-in 312 (c .before .before .stamp .ensures) (omega (arith, l, k1, k2, k3)) .1 ∙ ap (stamped 312) (rw (put-in (c .before .before .before .before .before .before .put32-run .ensures) (omega (arith, l, k1, k2)), put-in (c .before .before .before .before .before .before .before .before .before .before .before .put64 .ensures) (omega (arith, l, k1))) (agi-written (c .before .before .before .before .before .before .before .before .before .before .before .before .before .before .before .before .before .before .before .before .args .self) (c .before .before .before .before .before .before .before .before .before .before .before .before .before .before .before .before .before .before .before .before .args .uuid .now) (c .before .before .before .before .before .before .before .before .before .before .before .before .before .before .before .before .before .before .before .before .args .sector .now) _ (c .before .before .before .before .before .before .before .before .before .before .before .before .before .before .before .put-front .ensures))))
+
+pub encode-spec : {M : Type 1} → statement M
+encode-spec =
+    tie.close
+    (tie.spec
+    is-sector-requires
+    returns
+    put-front-requires
+    put64-requires
+    slice-aggregate-put32-run
+    put32-run-requires
+    stamp-requires
+    same-length
+    returns-2)

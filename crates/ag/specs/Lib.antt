@@ -1,0 +1,4 @@
+pub mod Sector
+pub mod Agf
+pub mod Agi
+pub mod Agfl

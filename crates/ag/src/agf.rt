@@ -1,0 +1,83 @@
+// The free space header of a group.
+ghost use mathlib.Core.Path.{_≡_};
+ghost use lib.ListN.{length};
+ghost use Rattle.structs.specs.Written.{Written};
+ghost use Rattle.ag.specs.Sector.{sectorNumber};
+ghost use Rattle.ag.specs.Agf.{agfBytes};
+use structs::is_sector;
+
+// "XAGF"
+pub const AGF_MAGIC: u32 = 0x5841_4746;
+
+// The offsets of the UUID, of the numbers behind it, of the log sequence number and of the checksum.
+pub const UUID: usize = 64;
+
+pub const RMAP_BLOCKS: usize = 80;
+
+pub const LSN: usize = 208;
+
+pub const CRC: usize = 216;
+
+// Everything in an AGF: the group's number and length, the roots, levels and blocks of its trees, the slots of the free list in use, and
+// the free blocks.
+pub struct Agf {
+    pub seqno: u32,
+    pub length: u32,
+    pub bno_root: u32,
+    pub bno_level: u32,
+    pub cnt_root: u32,
+    pub cnt_level: u32,
+    pub rmap_root: u32,
+    pub rmap_level: u32,
+    pub rmap_blocks: u32,
+    pub refcount_root: u32,
+    pub refcount_level: u32,
+    pub refcount_blocks: u32,
+    pub flfirst: u32,
+    pub fllast: u32,
+    pub flcount: u32,
+    pub freeblks: u32,
+    pub longest: u32,
+    pub btreeblks: u32,
+}
+
+impl Agf {
+    // The named bytes, and the checksum over the sector; every other byte stays. 27 unless the sector is one.
+    pub fn encode(self, uuid: &[u8; 16], sector: &mut [u8]) -> u32
+        ensures { λ r. ⌜ Written (sectorNumber (length (now (sector .entry)))) (agfBytes self (now (uuid .entry)) (now (sector .entry))) (now (sector .entry)) r (now (sector .exit)) ⌝ }
+    {
+        if !is_sector(sector.len()) {
+            return endian::WRONG_LENGTH;
+        }
+        let front: [u32; 16] = [
+            AGF_MAGIC,
+            crate::AG_VERSION,
+            self.seqno,
+            self.length,
+            self.bno_root,
+            self.cnt_root,
+            self.rmap_root,
+            self.bno_level,
+            self.cnt_level,
+            self.rmap_level,
+            self.flfirst,
+            self.fllast,
+            self.flcount,
+            self.freeblks,
+            self.longest,
+            self.btreeblks,
+        ];
+        let back: [u32; 4] = [
+            self.rmap_blocks,
+            self.refcount_blocks,
+            self.refcount_root,
+            self.refcount_level,
+        ];
+        endian::put32_run(sector, 0, &front);
+        endian::put_bytes(sector, UUID, uuid);
+        endian::put32_run(sector, RMAP_BLOCKS, &back);
+        endian::put64(sector, LSN, 0);
+        crc::stamp(sector, CRC);
+        0
+    }
+}

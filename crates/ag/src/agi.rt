@@ -1,0 +1,80 @@
+// The inode header of a group.
+ghost use mathlib.Core.Path.{_≡_};
+ghost use Prim.Native.Nat.{_≤_};
+ghost use lib.ListN.{length};
+ghost use Rattle.endian.specs.Fields.{write};
+ghost use Rattle.structs.specs.Written.{Written};
+ghost use Rattle.ag.specs.Sector.{sectorNumber};
+ghost use Rattle.ag.specs.Agi.{agiFront, agiBytes};
+use structs::is_sector;
+
+// "XAGI"
+pub const AGI_MAGIC: u32 = 0x5841_4749;
+
+// The lists of unlinked inodes that are still open.
+pub const UNLINKED_BUCKETS: usize = 64;
+
+// The offsets of these lists, of the UUID, of the checksum, of the log sequence number and of the numbers behind it.
+pub const UNLINKED: usize = 40;
+
+pub const UUID: usize = 296;
+
+pub const CRC: usize = 312;
+
+pub const LSN: usize = 320;
+
+pub const FREE_ROOT: usize = 328;
+
+// Everything in an AGI: the group's number and length, inodes, the roots, levels and blocks of its trees, and the newest chunk.
+pub struct Agi {
+    pub seqno: u32,
+    pub length: u32,
+    pub count: u32,
+    pub root: u32,
+    pub level: u32,
+    pub freecount: u32,
+    pub newino: u32,
+    pub free_root: u32,
+    pub free_level: u32,
+    pub iblocks: u32,
+    pub fblocks: u32,
+}
+
+// What stands before the checksum: numbers, lists of unlinked inodes, all empty, and UUID.
+fn put_front(sector: &mut [u8], front: [u32; 10], uuid: &[u8; 16])
+    requires { ⌜ 512 ≤ length (now sector) ⌝ }
+    ensures { λ _. ⌜ now (sector .exit) ≡ write (agiFront front (now (uuid .entry))) (now (sector .entry)) ⌝ }
+{
+    endian::put32_run(sector, 0, &front);
+    endian::put_same(sector, UNLINKED, 4 * UNLINKED_BUCKETS, 255);
+    endian::put_bytes(sector, UUID, uuid);
+}
+
+impl Agi {
+    // The named bytes, and the checksum over the sector; every other byte stays. 27 unless the sector is one.
+    pub fn encode(self, uuid: &[u8; 16], sector: &mut [u8]) -> u32
+        ensures { λ r. ⌜ Written (sectorNumber (length (now (sector .entry)))) (agiBytes self (now (uuid .entry)) (now (sector .entry))) (now (sector .entry)) r (now (sector .exit)) ⌝ }
+    {
+        if !is_sector(sector.len()) {
+            return endian::WRONG_LENGTH;
+        }
+        let front: [u32; 10] = [
+            AGI_MAGIC,
+            crate::AG_VERSION,
+            self.seqno,
+            self.length,
+            self.count,
+            self.root,
+            self.level,
+            self.freecount,
+            self.newino,
+            structs::NULL32,
+        ];
+        let back: [u32; 4] = [self.free_root, self.free_level, self.iblocks, self.fblocks];
+        put_front(sector, front, uuid);
+        endian::put64(sector, LSN, 0);
+        endian::put32_run(sector, FREE_ROOT, &back);
+        crc::stamp(sector, CRC);
+        0
+    }
+}

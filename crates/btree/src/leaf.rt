@@ -1,0 +1,60 @@
+// A leaf block that is the root of its tree.
+ghost use mathlib.Core.Path.{_≡_};
+ghost use Prim.Native.Nat.{_≤_};
+ghost use lib.ListN.{length};
+ghost use Rattle.endian.specs.Fields.{write};
+ghost use Rattle.structs.specs.Written.{Written};
+ghost use Rattle.btree.specs.Leaf.{leafNumber, leafHeader, leafBytes};
+use structs::is_block;
+
+// The offsets of the UUID, of the checksum and of the records.
+pub const UUID: usize = 32;
+
+pub const CRC: usize = 52;
+
+pub const RECS: usize = 56;
+
+fn put_header(magic: u32, daddr: u64, agno: u32, uuid: &[u8; 16], numrecs: u16, block: &mut [u8])
+    requires { ⌜ 1024 ≤ length (now block) ⌝ }
+    ensures { λ _. ⌜ now (block .exit) ≡ write (leafHeader magic daddr agno (now (uuid .entry)) numrecs) (now (block .entry)) ⌝ }
+{
+    let at: [usize; 16] = [0, 4, 4, 2, 6, 2, 8, 4, 12, 4, 16, 8, 24, 8, 48, 4];
+    let v: [u64; 8] = [
+        magic as u64,
+        0,
+        numrecs as u64,
+        structs::NULL32 as u64,
+        structs::NULL32 as u64,
+        daddr,
+        0,
+        agno as u64,
+    ];
+    endian::put_all(block, &at, &v);
+    endian::put_bytes(block, UUID, uuid);
+}
+
+// The header, the records, which are encoded already, zeros behind them, and the checksum over the block. 27 unless the block is one,
+// 34 where the records don't fit.
+pub fn leaf_block(
+    magic: u32,
+    daddr: u64,
+    agno: u32,
+    uuid: &[u8; 16],
+    recs: &[u8],
+    numrecs: u16,
+    block: &mut [u8],
+) -> u32
+    ensures { λ r. ⌜ Written (leafNumber (length (now (recs .entry))) (length (now (block .entry)))) (leafBytes magic daddr agno (now (uuid .entry)) (now (recs .entry)) numrecs (length (now (block .entry)))) (now (block .entry)) r (now (block .exit)) ⌝ }
+{
+    if !is_block(block.len()) {
+        return endian::WRONG_LENGTH;
+    }
+    if !endian::inside(block.len(), RECS, recs.len()) {
+        return crate::records::TOO_MANY_RECORDS;
+    }
+    endian::put_same(block, 0, block.len(), 0);
+    put_header(magic, daddr, agno, uuid, numrecs, block);
+    endian::put_bytes(block, RECS, recs);
+    crc::stamp(block, CRC);
+    0
+}

@@ -1,0 +1,67 @@
+-- `inode::dinode::Dinode::encode` meets its contract.
+-- Assumes nothing.
+use Rattle.inode.proofs.Core.{times-refuse, times-fit, times-pass, dinode-written, both-left, both-right}
+use Rattle.inode.specs.Dinode.{dinodeNumber}
+use Rattle.structs.proofs.Written.{refused, done}
+use Rattle.structs.proofs.Lengths.{inode-least}
+use Rattle.structs.specs.Sizes.{isInode}
+use Rattle.crc.proofs.Laws.{stamp-in}
+use Rattle.endian.proofs.Laws.{put-in}
+use borrow.Author.Tests.{not-true, not-false, leb-true, ne-eqb}
+use lib.ListN.{length}
+use lib.Dec.{leb}
+use native.Mathlib.Omega.{arith}
+use Prim.Native.Nat.{_+_}
+use mathlib.Core.Bool.{true, false, _&&_}
+use mathlib.Core.Path.{_≡_, refl, sym, _∙_}
+use borrow.Author.Needs.{needs}
+use Rattle.inode.proofs.dinode.Dinode.encode.Statement.{statement}
+use Rattle.inode.proofs.dinode.Dinode.encode.Tie as tie
+
+encode-times-requires : tie.Need-encode-times-requires
+encode-times-requires c κs = search needs
+
+returns : tie.Need-returns
+unfolding dinodeNumber
+returns c = let e = c .before .encode-times .ensures .number-is in refused (times-refuse _ _ _ _ _ _ (λ z. c .if1 .taken (e ∙ z)) ∙ sym e) (ne-eqb _ 0 (c .if1 .taken))
+
+has-room-requires : tie.Need-has-room-requires
+has-room-requires c κs = search needs
+
+returns-2 : tie.Need-returns-2
+unfolding dinodeNumber
+returns-2 c = let e = c .before .before .before .encode-times .ensures .number-is in let f = times-fit _ _ _ _ _ (sym e ∙ c .before .before .if1 .left) in let t : isInode (length (c .before .before .before .before .before .before .before .before .before .before .args .slot .now)) && leb (176 + length (c .before .before .before .before .before .before .before .before .before .before .args .«data» .now)) (length (c .before .before .before .before .before .before .before .before .before .before .args .slot .now)) ≡ false = sym (c .before .has-room .ensures) ∙ not-true _ (c .if2 .taken) in refused (times-pass _ _ _ _ _ _ f ∙ rw t refl) refl
+
+put-core-requires : tie.Need-put-core-requires
+put-core-requires c κs = let t = sym (c .before .before .has-room .ensures) ∙ not-false _ (c .before .if2 .left) in inode-least (length (c .before .before .before .before .before .before .before .before .before .before .before .args .slot .now)) (both-left _ _ t)
+
+put-bytes-requires : tie.Need-put-bytes-requires
+put-bytes-requires c κs = search needs
+
+put-bytes-requires-2 : tie.Need-put-bytes-requires-2
+put-bytes-requires-2 c κs = search needs
+
+stamp-requires : tie.Need-stamp-requires
+stamp-requires c κs = search needs
+
+same-length : tie.Need-same-length
+same-length c = search needs
+
+returns-3 : tie.Need-returns-3
+unfolding dinodeNumber
+returns-3 c = let e = c .before .before .before .before .before .before .before .before .before .before .before .before .before .before .before .before .before .before .before .before .encode-times .ensures .number-is in let f = times-fit _ _ _ _ _ (sym e ∙ c .before .before .before .before .before .before .before .before .before .before .before .before .before .before .before .before .before .before .before .if1 .left) in let t : isInode (length (c .before .before .before .before .before .before .before .before .before .before .before .before .before .before .before .before .before .before .before .before .before .before .before .before .before .before .before .args .slot .now)) && leb (176 + length (c .before .before .before .before .before .before .before .before .before .before .before .before .before .before .before .before .before .before .before .before .before .before .before .before .before .before .before .args .«data» .now)) (length (c .before .before .before .before .before .before .before .before .before .before .before .before .before .before .before .before .before .before .before .before .before .before .before .before .before .before .before .args .slot .now)) ≡ true = sym (c .before .before .before .before .before .before .before .before .before .before .before .before .before .before .before .before .before .before .has-room .ensures) ∙ not-false _ (c .before .before .before .before .before .before .before .before .before .before .before .before .before .before .before .before .before .if2 .left) in let l = inode-least (length (c .before .before .before .before .before .before .before .before .before .before .before .before .before .before .before .before .before .before .before .before .before .before .before .before .before .before .before .args .slot .now)) (both-left _ _ t) in let g = leb-true (176 + length (c .before .before .before .before .before .before .before .before .before .before .before .before .before .before .before .before .before .before .before .before .before .before .before .before .before .before .before .args .«data» .now)) (length (c .before .before .before .before .before .before .before .before .before .before .before .before .before .before .before .before .before .before .before .before .before .before .before .before .before .before .before .args .slot .now)) (both-right (isInode (length (c .before .before .before .before .before .before .before .before .before .before .before .before .before .before .before .before .before .before .before .before .before .before .before .before .before .before .before .args .slot .now))) _ t) in let u : length (c .before .before .before .before .before .before .before .before .before .before .before .before .before .before .before .before .before .before .before .before .before .before .before .before .before .before .before .args .uuid .now) ≡ 16 = search needs in let k1 = c .before .before .before .before .before .before .before .before .before .before .before .before .before .before .before .put-core .kept .0 in let k2 = c .before .before .before .before .before .before .before .before .before .before .put-bytes .kept .0 in let k3 = c .before .before .before .before .before .before .put-bytes2 .kept .0 in done (times-pass _ _ _ _ _ _ f ∙ rw t refl) (dinode-written (c .before .before .before .before .before .before .before .before .before .before .before .before .before .before .before .before .before .before .before .before .before .before .before .before .before .before .before .args .self) _ _ _ _ _ _ _ _ _ _ _ _ (c .before .before .before .before .before .before .before .before .before .before .before .before .before .before .before .before .before .before .before .before .encode-times .ensures) f (c .before .before .before .before .before .before .before .before .before .before .before .before .before .before .before .put-core .ensures) (put-in (c .before .before .before .before .before .before .before .before .before .before .put-bytes .ensures) (omega (arith, l, u, k1))) (put-in (c .before .before .before .before .before .before .put-bytes2 .ensures) (omega (arith, g, k1, k2))) (stamp-in 100 (c .before .before .stamp .ensures) (omega (arith, l, k1, k2, k3)) .1))
+
+pub encode-spec : {M : Type 1} → statement M
+encode-spec =
+    tie.close
+    (tie.spec
+    encode-times-requires
+    returns
+    has-room-requires
+    returns-2
+    put-core-requires
+    put-bytes-requires
+    put-bytes-requires-2
+    stamp-requires
+    same-length
+    returns-3)

@@ -1,0 +1,249 @@
+// An inode on disk: `struct xfs_dinode` of version 3, and the data fork behind it.
+ghost use mathlib.Core.Path.{_≡_};
+ghost use mathlib.Core.Bool.{_&&_};
+ghost use Prim.Native.Nat.{_+_, _≤_};
+ghost use lib.Dec.{leb, eqb};
+ghost use lib.ListN.{length};
+ghost use Rattle.endian.specs.Fields.{write};
+ghost use Rattle.structs.specs.Sizes.{isInode};
+ghost use Rattle.structs.specs.Written.{Written};
+ghost use Rattle.inode.specs.Dinode.{isBig, orElse, TimesAs, coreFields, dinodeNumber, dinodeBytes, freeNumber, freeFields, freeBytes};
+use crate::time::Timestamp;
+use crate::time::encode_time;
+use structs::is_inode;
+
+// "IN"
+pub const MAGIC: u64 = 0x494e;
+
+// The size of the inode core, in bytes; the data fork starts behind it.
+pub const CORE_SIZE: usize = 176;
+
+// The offsets of the checksum and of the UUID.
+pub const CRC: usize = 100;
+
+pub const UUID: usize = 160;
+
+// The formats of a fork.
+pub mod format {
+    pub const DEV: u8 = 0;
+
+    pub const LOCAL: u8 = 1;
+
+    pub const EXTENTS: u8 = 2;
+
+    pub const BTREE: u8 = 3;
+}
+
+// The bitmap inode's access time is a counter.
+pub const DIFLAG_NEWRTBM: u16 = 4;
+
+// Times count nanoseconds; extent counts have 64 bits.
+pub const DIFLAG2_BIGTIME: u64 = 8;
+
+pub const DIFLAG2_NREXT64: u64 = 16;
+
+// An allocated inode without an attribute fork; its data stands apart.
+pub struct Dinode {
+    pub ino: u64,
+    pub mode: u16,
+    pub format: u8,
+    pub nlink: u32,
+    pub size: u64,
+    pub flags: u16,
+    pub flags2: u64,
+    pub generation: u32,
+    pub changecount: u64,
+    pub atime: Timestamp,
+    pub mtime: Timestamp,
+    pub ctime: Timestamp,
+    pub crtime: Timestamp,
+}
+
+// The four times as they are stored; `number` is 0, or 26 where one is out of range.
+struct Times {
+    number: u32,
+    atime: u64,
+    mtime: u64,
+    ctime: u64,
+    crtime: u64,
+}
+
+fn is_big(flags2: u64) -> bool
+    ensures { λ r. ⌜ r ≡ isBig flags2 ⌝ }
+{
+    flags2 / DIFLAG2_BIGTIME % 2 == 1
+}
+
+// The first number unless it is 0, then the other.
+fn or_else(a: u32, b: u32) -> u32
+    ensures { λ r. ⌜ r ≡ orElse (eqb a 0) a b ⌝ }
+{
+    if a == 0 {
+        return b;
+    }
+    a
+}
+
+fn encode_times(
+    flags2: u64,
+    atime: Timestamp,
+    mtime: Timestamp,
+    ctime: Timestamp,
+    crtime: Timestamp,
+) -> Times
+    ensures { λ r. ⌜ TimesAs flags2 atime mtime ctime crtime (r .number) (r .atime) (r .mtime) (r .ctime) (r .crtime) ⌝ }
+{
+    let big = is_big(flags2);
+    let a = encode_time(atime, big);
+    let m = encode_time(mtime, big);
+    let c = encode_time(ctime, big);
+    let r = encode_time(crtime, big);
+    Times {
+        number: or_else(a.number, or_else(m.number, or_else(c.number, r.number))),
+        atime: a.value,
+        mtime: m.value,
+        ctime: c.value,
+        crtime: r.value,
+    }
+}
+
+// Whether a slot of `len` bytes is an inode with room for `used` bytes of data.
+fn has_room(len: usize, used: usize) -> bool
+    ensures { λ r. ⌜ r ≡ (isInode len && leb (176 + used) len) ⌝ }
+{
+    if is_inode(len) {
+        return endian::inside(len, CORE_SIZE, used);
+    }
+    false
+}
+
+// The numbers of the core. A fork offset of 0 and the format of extents say that there is no attribute fork.
+fn put_core(
+    slot: &mut [u8],
+    mode: u16,
+    format: u8,
+    nlink: u32,
+    size: u64,
+    flags: u16,
+    generation: u32,
+    changecount: u64,
+    flags2: u64,
+    ino: u64,
+    t: Times,
+)
+    requires { ⌜ 512 ≤ length (now slot) ⌝ }
+    ensures { λ _. ⌜ now (slot .exit) ≡ write (coreFields mode format nlink (t .atime) (t .mtime) (t .ctime) size flags generation changecount flags2 (t .crtime) ino) (now (slot .entry)) ⌝ }
+{
+    let at: [usize; 36] = [
+        0,
+        2,
+        2,
+        2,
+        4,
+        1,
+        5,
+        1,
+        16,
+        4,
+        32,
+        8,
+        40,
+        8,
+        48,
+        8,
+        56,
+        8,
+        82,
+        1,
+        83,
+        1,
+        90,
+        2,
+        92,
+        4,
+        96,
+        4,
+        104,
+        8,
+        120,
+        8,
+        144,
+        8,
+        152,
+        8,
+    ];
+    let v: [u64; 18] = [
+        MAGIC,
+        mode as u64,
+        3,
+        format as u64,
+        nlink as u64,
+        t.atime,
+        t.mtime,
+        t.ctime,
+        size,
+        0,
+        2,
+        flags as u64,
+        generation as u64,
+        0xffff_ffff,
+        changecount,
+        flags2,
+        t.crtime,
+        ino,
+    ];
+    endian::put_all(slot, &at, &v);
+}
+
+impl Dinode {
+    // The named bytes, the data fork, and the checksum over the slot; every other byte stays. 26 where a time is out of range, 27 unless
+    // the slot is an inode with room for the data.
+    pub fn encode(self, data: &[u8], uuid: &[u8; 16], slot: &mut [u8]) -> u32
+        ensures { λ r. ⌜ Written (dinodeNumber self (length (now («data» .entry))) (length (now (slot .entry)))) (dinodeBytes self (now («data» .entry)) (now (uuid .entry)) (now (slot .entry))) (now (slot .entry)) r (now (slot .exit)) ⌝ }
+    {
+        let atime = self.atime;
+        let mtime = self.mtime;
+        let ctime = self.ctime;
+        let crtime = self.crtime;
+        let t = encode_times(self.flags2, atime, mtime, ctime, crtime);
+        let n = t.number;
+        if n != 0 {
+            return n;
+        }
+        if !has_room(slot.len(), data.len()) {
+            return endian::WRONG_LENGTH;
+        }
+        put_core(
+            slot,
+            self.mode,
+            self.format,
+            self.nlink,
+            self.size,
+            self.flags,
+            self.generation,
+            self.changecount,
+            self.flags2,
+            self.ino,
+            t,
+        );
+        endian::put_bytes(slot, UUID, uuid);
+        endian::put_bytes(slot, CORE_SIZE, data);
+        crc::stamp(slot, CRC);
+        0
+    }
+}
+
+// An inode that was never allocated: magic, version, generation, no next unlinked inode, its number and the UUID.
+pub fn encode_free(ino: u64, generation: u32, uuid: &[u8; 16], slot: &mut [u8]) -> u32
+    ensures { λ r. ⌜ Written (freeNumber (length (now (slot .entry)))) (freeBytes ino generation (now (uuid .entry)) (now (slot .entry))) (now (slot .entry)) r (now (slot .exit)) ⌝ }
+{
+    if !is_inode(slot.len()) {
+        return endian::WRONG_LENGTH;
+    }
+    let at: [usize; 10] = [0, 2, 4, 1, 92, 4, 96, 4, 152, 8];
+    let v: [u64; 5] = [MAGIC, 3, generation as u64, 0xffff_ffff, ino];
+    endian::put_all(slot, &at, &v);
+    endian::put_bytes(slot, UUID, uuid);
+    crc::stamp(slot, CRC);
+    0
+}
