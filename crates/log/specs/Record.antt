@@ -1,0 +1,123 @@
+-- A log record that holds only an unmount record, field by field: `struct xlog_rec_header`, `struct xlog_op_header` and `struct xfs_unmount_log_format`.
+-- Assumes nothing.
+use mathlib.Core.List.{List, [], _∷_, _++_}
+use mathlib.Core.Bool.{Bool, true, false}
+use Prim.Native.Nat.{ℕ, zero, suc, _+_, _*_, _-_, _/_, _^_, max}
+use lib.Dec.{leb, eqb}
+use lib.ListN.{replicate}
+use Rattle.endian.specs.Answer.{wrongLength}
+use Rattle.endian.specs.Bytes.{leBytes}
+use Rattle.endian.specs.Fields.{Field, field, run, write}
+use Rattle.structs.specs.Written.{null32, require}
+
+-- the refusal of a stripe unit above 262,144 bytes
+abbrev pub sunitTooLarge : ℕ
+sunitTooLarge = 35
+
+abbrev pub largestSunit : ℕ
+largestSunit = 262144
+
+-- a basic block, in bytes; the bytes that the cycle data of one header covers; the least size that a header names (XLOG_BIG_RECORD_BSIZE)
+abbrev pub basicBlock : ℕ
+basicBlock = 512
+
+abbrev pub headerCovers : ℕ
+headerCovers = 32768
+
+abbrev pub bigRecord : ℕ
+bigRecord = 32768
+
+-- XLOG_HEADER_MAGIC_NUM, XLOG_FMT_LINUX_LE
+abbrev pub headerMagic : ℕ
+headerMagic = 0xfeed_babe
+
+abbrev pub linuxLe : ℕ
+linuxLe = 1
+
+-- XLOG_UNMOUNT_TYPE, the transaction's identifier, XFS_LOG, XLOG_UNMOUNT_TRANS
+abbrev pub unmountType : ℕ
+unmountType = 0x556e
+
+abbrev pub unmountTid : ℕ
+unmountTid = 0xb0c0_d0d0
+
+abbrev pub clientLog : ℕ
+clientLog = 0xaa
+
+abbrev pub unmountTrans : ℕ
+unmountTrans = 0x20
+
+-- a log stripe unit of 1 stands for the log's sector size
+abbrev pub byTest : Bool → ℕ → ℕ → ℕ
+byTest true a b = a
+byTest false a b = b
+
+unfoldable pub clearSunit : ℕ → ℕ → ℕ
+clearSunit logsunit logsectsize = byTest (eqb logsunit 1) logsectsize logsunit
+
+-- a log sequence number has the cycle in its high 32 bits and the basic block in its low ones
+unfoldable pub lsnOf : ℕ → ℕ → ℕ
+lsnOf cycle block = cycle * 2 ^ 32 + block
+
+unfoldable pub cycleOf : ℕ → ℕ
+cycleOf lsn = lsn / 2 ^ 32
+
+-- `a / b`, rounded up
+unfoldable pub roundedUp : ℕ → ℕ → ℕ
+roundedUp a b = (a + (b - 1)) / b
+
+-- a record is the larger of 2 and (stripe unit / 512, rounded up) basic blocks
+unfoldable pub blocksOf : ℕ → ℕ
+blocksOf sunit = max 2 (roundedUp sunit basicBlock)
+
+-- of these a header for each 32,768 bytes of the stripe unit, at least one
+unfoldable pub headersOf : ℕ → ℕ
+headersOf sunit = max 1 (roundedUp sunit headerCovers)
+
+unfoldable pub recordNumber : ℕ → ℕ → ℕ
+recordNumber sunit len = require wrongLength (eqb len (basicBlock * blocksOf sunit)) (require sunitTooLarge (leb sunit largestSunit) 0)
+
+-- `struct xlog_rec_header`. The first word of the unmount record has moved into the cycle data. The header's length is what follows the headers.
+unfoldable pub headerFields : List ℕ → ℕ → ℕ → ℕ → List Field
+headerFields uuid sunit lsn tailLsn =
+    field 0 4 headerMagic  -- h_magicno
+    ∷ field 4 4 (cycleOf lsn)  -- h_cycle
+    ∷ field 8 4 2  -- h_version
+    ∷ field 12 4 (max 1024 sunit - basicBlock * headersOf sunit)  -- h_len
+    ∷ field 16 8 lsn  -- h_lsn
+    ∷ field 24 8 tailLsn  -- h_tail_lsn
+    ∷ field 32 4 0  -- h_crc
+    ∷ field 36 4 null32  -- h_prev_block
+    ∷ field 40 4 1  -- h_num_logops
+    ∷ field 44 4 unmountTid  -- h_cycle_data, the first of 64
+    ∷ field 300 4 linuxLe  -- h_fmt
+    ∷ run 304 uuid  -- h_fs_uuid
+    ∷ field 320 4 (max sunit bigRecord)  -- h_size
+    ∷ []
+
+-- the first word of each of `n` basic blocks from the block `from` on is the cycle
+unfoldable pub stamps : ℕ → ℕ → ℕ → List Field
+stamps cycle from zero = []
+stamps cycle from (suc n) = field (basicBlock * from) 4 cycle ∷ stamps cycle (suc from) n
+
+-- `struct xlog_op_header` behind its first word, and `struct xfs_unmount_log_format`, whose magic is little-endian
+unfoldable pub unmountFields : ℕ → List Field
+unmountFields at =
+    field (at + 4) 4 8  -- oh_len
+    ∷ field (at + 8) 1 clientLog  -- oh_clientid
+    ∷ field (at + 9) 1 unmountTrans  -- oh_flags
+    ∷ run (at + 12) (leBytes 2 unmountType)  -- magic
+    ∷ []
+
+-- the unmount record stands in the block behind the headers
+unfoldable pub bodyFields : ℕ → ℕ → List Field
+bodyFields sunit lsn =
+    stamps (cycleOf lsn) 1 (headersOf sunit)
+    ++ (unmountFields (basicBlock * headersOf sunit) ++ stamps (cycleOf lsn) (headersOf sunit + 1) (blocksOf sunit - (headersOf sunit + 1)))
+
+unfoldable pub recordFields : List ℕ → ℕ → ℕ → ℕ → List Field
+recordFields uuid sunit lsn tailLsn = headerFields uuid sunit lsn tailLsn ++ bodyFields sunit lsn
+
+-- every byte that no field names is zero
+unfoldable pub recordBytes : List ℕ → ℕ → ℕ → ℕ → List ℕ
+recordBytes uuid sunit lsn tailLsn = write (recordFields uuid sunit lsn tailLsn) (replicate (basicBlock * blocksOf sunit) 0)

@@ -1,0 +1,143 @@
+// The pieces of a log record: its sizes, its header, the stamps of its basic blocks and the unmount record.
+ghost use mathlib.Core.Path.{_≡_};
+ghost use Prim.Native.Nat.{_+_, _*_, _-_, _/_, _≤_, _^_, max};
+ghost use lib.ListN.{length};
+ghost use Rattle.endian.specs.Fields.{write};
+ghost use Rattle.log.specs.Record.{roundedUp, headersOf, blocksOf, headerFields, stamps, unmountFields, bodyFields};
+
+// A basic block, in bytes.
+pub const BBSIZE: usize = 512;
+
+// The bytes that the cycle data of one header covers.
+pub const HEADER_CYCLE_SIZE: usize = 32768;
+
+// The least size that a header names.
+pub const BIG_RECORD_BSIZE: u64 = 32768;
+
+pub const HEADER_MAGIC: u64 = 0xfeed_babe;
+
+pub const FMT_LINUX_LE: u64 = 1;
+
+pub const UNMOUNT_TYPE: u16 = 0x556e;
+
+pub const UNMOUNT_TID: u64 = 0xb0c0_d0d0;
+
+pub const CLIENT_LOG: u8 = 0xaa;
+
+pub const UNMOUNT_TRANS: u8 = 0x20;
+
+// The offset of `h_fs_uuid` in `struct xlog_rec_header`.
+const FS_UUID: usize = 304;
+
+fn larger(a: u64, b: u64) -> u64
+    ensures { λ r. ⌜ r ≡ max a b ⌝ }
+{
+    if a < b {
+        return b;
+    }
+    a
+}
+
+// The header blocks of a record: one for each 32,768 bytes of the stripe unit, at least one.
+pub(crate) fn headers(sunit: u32) -> u64
+    ensures { λ r. ⌜ r ≡ headersOf sunit ⌝ }
+{
+    larger(1, ((sunit as u64) + 32767) / 32768)
+}
+
+// The basic blocks of a record.
+pub(crate) fn record_blocks(sunit: u32) -> usize
+    ensures { λ r. ⌜ r ≡ blocksOf sunit ⌝ }
+{
+    larger(2, ((sunit as u64) + 511) / 512) as usize
+}
+
+// The header, as `struct xlog_rec_header` has it.
+pub(crate) fn header(rec: &mut [u8], uuid: &[u8; 16], sunit: u32, lsn: u64, tail_lsn: u64)
+    requires { ⌜ (512 ≤ length (now rec)) × (sunit ≤ 262144) ⌝ }
+    ensures { λ r. ⌜ now (rec .exit) ≡ write (headerFields (now (uuid .entry)) sunit lsn «tail_lsn») (now (rec .entry)) ⌝ }
+{
+    let unit = sunit as u64;
+    let hdrs = headers(sunit);
+    let len = larger(1024, unit) - 512 * hdrs;
+    let size = larger(unit, BIG_RECORD_BSIZE);
+    let at: [usize; 24] = [
+        0,
+        4,
+        4,
+        4,
+        8,
+        4,
+        12,
+        4,
+        16,
+        8,
+        24,
+        8,
+        32,
+        4,
+        36,
+        4,
+        40,
+        4,
+        44,
+        4,
+        300,
+        4,
+        320,
+        4,
+    ];
+    let v: [u64; 12] = [
+        HEADER_MAGIC,
+        lsn / 0x1_0000_0000,
+        2,
+        len,
+        lsn,
+        tail_lsn,
+        0,
+        0xffff_ffff,
+        1,
+        UNMOUNT_TID,
+        FMT_LINUX_LE,
+        size,
+    ];
+    endian::put_all(rec, &at, &v);
+    endian::put_bytes(rec, FS_UUID, uuid);
+}
+
+// The cycle goes into the first word of each basic block from `from` up to, not including, `to`.
+fn stamp_blocks(rec: &mut [u8], from: usize, to: usize, cycle: u32)
+    requires { ⌜ (from ≤ to) × (512 * to ≤ length (now rec)) ⌝ }
+    ensures { λ r. ⌜ now (rec .exit) ≡ write (stamps cycle from (to - from)) (now (rec .entry)) ⌝ }
+{
+    let mut i = from;
+    while i < to {
+        endian::put32(rec, 512 * i, cycle);
+        i += 1;
+    }
+}
+
+// The unmount record in the basic block at `at`: the rest of `struct xlog_op_header` behind its first word, which is stamped, and
+// `struct xfs_unmount_log_format`.
+fn unmount(rec: &mut [u8], at: usize)
+    requires { ⌜ at + 512 ≤ length (now rec) ⌝ }
+    ensures { λ r. ⌜ now (rec .exit) ≡ write (unmountFields at) (now (rec .entry)) ⌝ }
+{
+    endian::put32(rec, at + 4, 8);
+    endian::put8(rec, at + 8, CLIENT_LOG);
+    endian::put8(rec, at + 9, UNMOUNT_TRANS);
+    endian::put_le16(rec, at + 12, UNMOUNT_TYPE);
+}
+
+// Every basic block behind the first: stamps, and the unmount record behind the headers.
+pub(crate) fn body(rec: &mut [u8], sunit: u32, lsn: u64)
+    requires { ⌜ (length (now rec) ≡ 512 * blocksOf sunit) × (sunit ≤ 262144) ⌝ }
+    ensures { λ r. ⌜ now (rec .exit) ≡ write (bodyFields sunit lsn) (now (rec .entry)) ⌝ }
+{
+    let hdrs = headers(sunit) as usize;
+    let blocks = record_blocks(sunit);
+    let cycle = (lsn / 0x1_0000_0000) as u32;
+    stamp_blocks(rec, 1, hdrs + 1, cycle);
+    unmount(rec, 512 * hdrs);
+    stamp_blocks(rec, hdrs + 1, blocks, cycle);
+}
