@@ -23,9 +23,13 @@ magic = 0x5846_5342
 unfoldable pub largeSector : Geometry → Bool
 largeSector g = ltb 512 (g .sectsize) || ltb 512 (g .lsectsize)
 
--- sb_versionnum: version 5 with NLINKBIT, ALIGNBIT, LOGV2BIT, EXTFLGBIT, DIRV2BIT and MOREBITSBIT, and SECTORBIT where a sector is above 512 bytes
+-- sb_versionnum: version 5 with NLINKBIT, ALIGNBIT, LOGV2BIT, EXTFLGBIT, DIRV2BIT and MOREBITSBIT
+abbrev pub fixedVersion : ℕ
+fixedVersion = 5 + 0x20 + 0x80 + 0x400 + 0x1000 + 0x2000 + 0x8000
+
+-- and SECTORBIT where a sector is above 512 bytes
 unfoldable pub versionOf : Geometry → ℕ
-versionOf g = 5 + 0x20 + 0x80 + 0x400 + 0x1000 + 0x2000 + 0x8000 + 0x800 * bit (largeSector g)
+versionOf g = fixedVersion + 0x800 * bit (largeSector g)
 
 -- sb_features2: LAZYSBCOUNTBIT, ATTR2BIT, PROJID32BIT and CRCBIT
 abbrev pub features2Bits : ℕ
@@ -33,11 +37,11 @@ features2Bits = 0x18a
 
 -- sb_features_ro_compat: FINOBT, RMAPBT, REFLINK, INOBTCNT
 unfoldable pub roCompat : Features → ℕ
-roCompat f = bit (f .finobt) + 2 * bit (f .rmapbt) + 4 * bit (f .reflink) + 8 * bit (f .inobtcount)
+roCompat f = 1 * bit (f .finobt) + 2 * bit (f .rmapbt) + 4 * bit (f .reflink) + 8 * bit (f .inobtcount)
 
 -- sb_features_incompat: FTYPE, SPINODES, BIGTIME, NREXT64
 unfoldable pub inCompat : Features → ℕ
-inCompat f = 1 + 2 * bit (f .sparse) + 8 * bit (f .bigtime) + 32 * bit (f .nrext64)
+inCompat f = 1 + 2 * bit (f .sparse) + 8 * bit (f .bigtime) + 0x20 * bit (f .nrext64)
 
 -- the log's first block as a file system block
 unfoldable pub logstartOf : Geometry → ℕ
@@ -48,8 +52,9 @@ abbrev pub logSector : Bool → ℕ → ℕ → List Field
 logSector true log size = field 193 1 log ∷ field 194 2 size ∷ []  -- sb_logsectlog, sb_logsectsize
 logSector false log size = []
 
-unfoldable pub sbFields : Geometry → SbState → List Field
-sbFields g s =
+-- every field in disk order, with the log's sector where `large` holds
+unfoldable pub fieldsWith : Bool → Geometry → SbState → List Field
+fieldsWith large g s =
     field 0 4 magic  -- sb_magicnum
     ∷ field 4 4 (g .blocksize)  -- sb_blocksize
     ∷ field 8 8 (g .dblocks)  -- sb_dblocks
@@ -88,7 +93,7 @@ sbFields g s =
     ∷ field 184 4 0  -- sb_unit
     ∷ field 188 4 0  -- sb_width
     ∷ field 192 1 (g .dirblocklog - g .blocklog)  -- sb_dirblklog
-    ∷ (logSector (largeSector g) (g .lsectlog) (g .lsectsize)
+    ∷ (logSector large (g .lsectlog) (g .lsectsize)
     ++ (field 196 4 (logsunitOf (lsunitBytes (g .lsectsize) (g .blocksize)))  -- sb_logsunit
     ∷ field 200 4 features2Bits  -- sb_features2
     ∷ field 204 4 features2Bits  -- sb_bad_features2
@@ -100,6 +105,9 @@ sbFields g s =
     ∷ field 232 8 0  -- sb_pquotino
     ∷ field 240 8 0  -- sb_lsn
     ∷ []))
+
+unfoldable pub sbFields : Geometry → SbState → List Field
+sbFields g s = fieldsWith (largeSector g) g s
 
 -- the checksum's offset
 abbrev pub crcAt : ℕ
