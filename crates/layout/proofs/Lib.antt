@@ -1,0 +1,5 @@
+pub mod Ceil
+pub mod Wide
+pub mod Small
+pub mod Bounding
+pub mod Unreachable
