@@ -34,7 +34,7 @@ use Rattle.naming.proofs.Exact.{sound}
 use Rattle.layout.specs.Bounds.{SizeBounds, GroupBounds, PlaceBounds, Bounds}
 use Rattle.layout.proofs.Ceil.{Counted, lastOf, counted, last-least}
 use Rattle.layout.proofs.Wide.{pow-order, block-bytes}
-use Rattle.layout.proofs.Small.{header-most, head-most, chunk-after, chunk-room}
+use Rattle.layout.proofs.Small.{header-most, head-most, chunk-most, cluster-most, chunk-after, chunk-room}
 
 -- ---- sizes
 
@@ -194,6 +194,8 @@ module _ (p : Params) (device : ℕ) (s : Sizes) (a g : Groups) (z : refusalOf p
         log-room =
             log-room (g .dblocks) (g .agsize) (preallocOf (p .features) (s .sector) (s .block)) (s .block)
             (log-some (s .block) (withGroups p s a g .log) bp (t .block-most) (r .log-least));
+        chunk-most = chunk-most (s .inode) (s .block) bp (t .inode-half);
+        cluster-most = cluster-most (s .inode) (s .block) bp (t .inode-half);
         chunk-after = chunk-after (p .features) (s .sector) (s .inode) (s .block) sp (t .sector-block) (t .inode-half);
         chunk-room = chunk-room (p .features) (s .sector) (s .inode) (s .block) sp (t .sector-block) (t .inode-half);
         chunk-inside = group-some (s .block) (g .agsize) bp (t .block-most) (q .least);

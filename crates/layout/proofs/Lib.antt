@@ -2,4 +2,5 @@ pub mod Ceil
 pub mod Wide
 pub mod Small
 pub mod Bounding
+pub mod Inside
 pub mod Unreachable

@@ -28,7 +28,7 @@ unfolding when
 freelist-case true = omega arith
 freelist-case false = omega arith
 
-freelist-most : (f : Features) → freelistOf f ≤ 6
+pub freelist-most : (f : Features) → freelistOf f ≤ 6
 unfolding freelistOf
 freelist-most f = freelist-case (f .rmapbt)
 
@@ -40,7 +40,7 @@ pub chunk-most : (i b : ℕ) → 0 < b → i ≤ b / 2 → chunkOf i b ≤ 32
 unfolding chunkOf
 chunk-most i b p h = div-le-of-le-mul b (let w = half i b h in let e = mul-comm b 32 in omega arith)
 
-cluster-most : (i b : ℕ) → 0 < b → i ≤ b / 2 → clusterOf i b ≤ 32
+pub cluster-most : (i b : ℕ) → 0 < b → i ≤ b / 2 → clusterOf i b ≤ 32
 unfolding clusterOf
 cluster-most i b p h =
     div-le-of-le-mul b (let w = half i b h in let v = div-mul-le-self i 256 in let e = mul-comm b 32 in omega arith)
@@ -54,13 +54,20 @@ align-most : (t : Bool) (i b : ℕ) → 0 < b → i ≤ b / 2 → alignOf t i b 
 unfolding alignOf
 align-most t i b p h = align-case t (chunkOf i b) (clusterOf i b) (chunk-most i b p h) (cluster-most i b p h)
 
+-- rounding up adds less than a multiple
+pub round-most : (n m : ℕ) → 0 < n → 0 < m → ceilDiv n m * m ≤ n + m
+round-most n m h k =
+    let c = counted n m h k in
+    let o = one-more (ceilDiv n m) m (c .some) in
+    let b = c .before in
+    omega arith
+
 aligned-case : (n m : ℕ) (t : Bool) → ltb 1 m ≡ t → 0 < n → (n ≤ when t (roundUp n m) n) × (when t (roundUp n m) n ≤ n + m)
 unfolding when roundUp
 aligned-case n m true e h =
     let p = ltb-true 1 m e in
     let c = counted n m h (omega arith) in
-    let o = one-more (ceilDiv n m) m (c .some) in
-    (c .enough, let b = c .before in omega arith)
+    (c .enough, round-most n m h (omega arith))
 aligned-case n m false e h = (omega arith, omega arith)
 
 aligned-range : (n m : ℕ) → 0 < n → (n ≤ aligned n m) × (aligned n m ≤ n + m)

@@ -6,7 +6,7 @@ use Rattle.arith.specs.Numbers.{ceilDiv}
 use Rattle.geometry.specs.declared.Geometry.{Geometry}
 use Rattle.geometry.specs.Limits.{mib}
 use Rattle.geometry.specs.Log.{headerOf, preallocOf}
-use Rattle.layout.specs.Places.{chunkOf, rootChunkOf, freelistOf}
+use Rattle.layout.specs.Places.{chunkOf, clusterOf, rootChunkOf, freelistOf}
 
 -- sizes in bytes and their logarithms
 pub record SizeBounds (g : Geometry) : Type 0 where
@@ -56,6 +56,9 @@ pub record PlaceBounds (g : Geometry) : Type 0 where
   pub log-blocks : g .logblocks ≤ 1048576
   -- the log lies in its group, with 5 blocks to spare
   pub log-room : g .«log_agbno» + g .logblocks + 5 ≤ g .agsize
+  -- a chunk and a cluster have at most 32 blocks
+  pub chunk-most : chunkOf (g .inodesize) (g .blocksize) ≤ 32
+  pub cluster-most : clusterOf (g .inodesize) (g .blocksize) ≤ 32
   -- the root chunk lies in group 0, after head and free list
   pub chunk-after : preallocOf (g .features) (g .sectsize) (g .blocksize) + freelistOf (g .features) ≤ rootChunkOf (g .features) (g .sectsize) (g .inodesize) (g .blocksize)
   pub chunk-room : rootChunkOf (g .features) (g .sectsize) (g .inodesize) (g .blocksize) + chunkOf (g .inodesize) (g .blocksize) ≤ 80
