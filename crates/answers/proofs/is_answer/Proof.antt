@@ -1,0 +1,15 @@
+-- `answers::is_answer` meets its contract: each call gives what its definition says.
+-- Assumes nothing.
+use Rattle.answers.specs.Named.{isAnswer}
+use Rattle.answers.proofs.is_answer.Statement.{statement}
+use Rattle.answers.proofs.is_answer.Tie as tie
+
+returns : tie.Need-returns
+unfolding isAnswer
+returns c = cc
+
+pub is-answer-spec : {M : Type 1} → statement M
+is-answer-spec =
+    tie.close
+    (tie.spec
+    (λ c κs. tt) (λ c κs. tt) (λ c κs. tt) (λ c κs. tt) returns)

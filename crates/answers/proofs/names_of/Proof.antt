@@ -1,0 +1,15 @@
+-- `answers::names_of` meets its contract: each field is what the definition says.
+-- Assumes nothing.
+use Rattle.answers.specs.Named.{namesOf}
+use Rattle.answers.proofs.names_of.Statement.{statement}
+use Rattle.answers.proofs.names_of.Tie as tie
+
+returns : tie.Need-returns
+unfolding namesOf
+returns c = cc
+
+pub names-of-spec : {M : Type 1} → statement M
+names-of-spec =
+    tie.close
+    (tie.spec
+    returns)

@@ -1,0 +1,15 @@
+-- `answers::same::same_geometry` meets its contract: each call gives what its definition says.
+-- Assumes nothing.
+use Rattle.answers.specs.Same.{sameGeometry}
+use Rattle.answers.proofs.same.same_geometry.Statement.{statement}
+use Rattle.answers.proofs.same.same_geometry.Tie as tie
+
+returns : tie.Need-returns
+unfolding sameGeometry
+returns c = cc
+
+pub same-geometry-spec : {M : Type 1} → statement M
+same-geometry-spec =
+    tie.close
+    (tie.spec
+    (λ c κs. tt) (λ c κs. tt) (λ c κs. tt) (λ c κs. tt) (λ c κs. tt) (λ c κs. tt) (λ c κs. tt) returns)

@@ -1,0 +1,19 @@
+-- `arith::numbers::remainder` meets its contract.
+-- Assumes nothing.
+use mathlib.Core.Path.{sym}
+use native.Mathlib.Nat.{mod-zero}
+use borrow.Author.Needs.{needs}
+use Rattle.arith.proofs.numbers.remainder.Statement.{statement}
+use Rattle.arith.proofs.numbers.remainder.Tie as tie
+
+rem-result : tie.Need-rem-result
+rem-result c = search needs
+
+returns : tie.Need-returns
+returns c = rw (c .if1 .taken) (sym (mod-zero _))
+
+returns-2 : tie.Need-returns-2
+returns-2 c = search needs
+
+pub remainder-spec : {M : Type 1} → statement M
+remainder-spec = tie.close (tie.spec rem-result returns returns-2)

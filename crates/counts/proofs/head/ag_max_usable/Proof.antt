@@ -1,0 +1,14 @@
+-- `counts::head::ag_max_usable` meets its contract: each call gives what its definition says.
+-- Assumes nothing.
+use borrow.Author.Needs.{needs}
+use Rattle.counts.proofs.head.ag_max_usable.Statement.{statement}
+use Rattle.counts.proofs.head.ag_max_usable.Tie as tie
+
+returns : tie.Need-returns
+returns c = cc
+
+pub ag-max-usable-spec : {M : Type 1} → statement M
+ag-max-usable-spec =
+    tie.close
+    (tie.spec
+    (λ c. search needs) (λ c κs. tt) (λ c κs. tt) returns)

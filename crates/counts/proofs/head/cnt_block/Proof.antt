@@ -1,0 +1,16 @@
+-- `counts::head::cnt_block` meets its contract: each call gives what its definition says.
+-- Assumes nothing.
+use borrow.Author.Needs.{needs}
+use Rattle.layout.specs.Places.{cntBlock}
+use Rattle.counts.proofs.head.cnt_block.Statement.{statement}
+use Rattle.counts.proofs.head.cnt_block.Tie as tie
+
+returns : tie.Need-returns
+unfolding cntBlock
+returns c = cc
+
+pub cnt-block-spec : {M : Type 1} → statement M
+cnt-block-spec =
+    tie.close
+    (tie.spec
+    (λ c. search needs) (λ c κs. tt) (λ c κs. tt) returns)

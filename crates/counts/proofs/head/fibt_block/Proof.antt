@@ -1,0 +1,16 @@
+-- `counts::head::fibt_block` meets its contract: each call gives what its definition says.
+-- Assumes nothing.
+use borrow.Author.Needs.{needs}
+use Rattle.layout.specs.Places.{fibtBlock}
+use Rattle.counts.proofs.head.fibt_block.Statement.{statement}
+use Rattle.counts.proofs.head.fibt_block.Tie as tie
+
+returns : tie.Need-returns
+unfolding fibtBlock
+returns c = cc
+
+pub fibt-block-spec : {M : Type 1} → statement M
+fibt-block-spec =
+    tie.close
+    (tie.spec
+    (λ c. search needs) (λ c κs. tt) (λ c κs. tt) returns)

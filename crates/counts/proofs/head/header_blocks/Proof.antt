@@ -1,0 +1,14 @@
+-- `counts::head::header_blocks` meets its contract: each call gives what its definition says.
+-- Assumes nothing.
+use borrow.Author.Needs.{needs}
+use Rattle.counts.proofs.head.header_blocks.Statement.{statement}
+use Rattle.counts.proofs.head.header_blocks.Tie as tie
+
+returns : tie.Need-returns
+returns c = cc
+
+pub header-blocks-spec : {M : Type 1} → statement M
+header-blocks-spec =
+    tie.close
+    (tie.spec
+    (λ c. search needs) (λ c κs. tt) (λ c κs. tt) returns)

@@ -1,0 +1,16 @@
+-- `counts::head::ibt_block` meets its contract: each call gives what its definition says.
+-- Assumes nothing.
+use borrow.Author.Needs.{needs}
+use Rattle.layout.specs.Places.{ibtBlock}
+use Rattle.counts.proofs.head.ibt_block.Statement.{statement}
+use Rattle.counts.proofs.head.ibt_block.Tie as tie
+
+returns : tie.Need-returns
+unfolding ibtBlock
+returns c = cc
+
+pub ibt-block-spec : {M : Type 1} → statement M
+ibt-block-spec =
+    tie.close
+    (tie.spec
+    (λ c. search needs) (λ c κs. tt) (λ c κs. tt) returns)

@@ -1,0 +1,13 @@
+-- `counts::head::min_freelist` meets its contract: each call gives what its definition says.
+-- Assumes nothing.
+use Rattle.counts.proofs.head.min_freelist.Statement.{statement}
+use Rattle.counts.proofs.head.min_freelist.Tie as tie
+
+returns : tie.Need-returns
+returns c = cc
+
+pub min-freelist-spec : {M : Type 1} → statement M
+min-freelist-spec =
+    tie.close
+    (tie.spec
+    (λ c κs. tt) (λ c κs. tt) returns)

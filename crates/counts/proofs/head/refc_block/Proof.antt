@@ -1,0 +1,14 @@
+-- `counts::head::refc_block` meets its contract: each call gives what its definition says.
+-- Assumes nothing.
+use borrow.Author.Needs.{needs}
+use Rattle.counts.proofs.head.refc_block.Statement.{statement}
+use Rattle.counts.proofs.head.refc_block.Tie as tie
+
+returns : tie.Need-returns
+returns c = cc
+
+pub refc-block-spec : {M : Type 1} → statement M
+refc-block-spec =
+    tie.close
+    (tie.spec
+    (λ c. search needs) (λ c κs. tt) (λ c κs. tt) returns)

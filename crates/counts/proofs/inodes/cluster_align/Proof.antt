@@ -1,0 +1,14 @@
+-- `counts::inodes::cluster_align` meets its contract: each call gives what its definition says.
+-- Assumes nothing.
+use borrow.Author.Needs.{needs}
+use Rattle.counts.proofs.inodes.cluster_align.Statement.{statement}
+use Rattle.counts.proofs.inodes.cluster_align.Tie as tie
+
+returns : tie.Need-returns
+returns c = cc
+
+pub cluster-align-spec : {M : Type 1} → statement M
+cluster-align-spec =
+    tie.close
+    (tie.spec
+    (λ c. search needs) (λ c κs. tt) (λ c κs. tt) returns)

@@ -1,0 +1,16 @@
+-- `counts::inodes::cluster_of` meets its contract: each call gives what its definition says.
+-- Assumes nothing.
+use borrow.Author.Needs.{needs}
+use Rattle.layout.specs.Places.{clusterOf}
+use Rattle.counts.proofs.inodes.cluster_of.Statement.{statement}
+use Rattle.counts.proofs.inodes.cluster_of.Tie as tie
+
+returns : tie.Need-returns
+unfolding clusterOf
+returns c = cc
+
+pub cluster-of-spec : {M : Type 1} → statement M
+cluster-of-spec =
+    tie.close
+    (tie.spec
+    (λ c. search needs) (λ c. search needs) (λ c κs. tt) returns)

@@ -1,0 +1,14 @@
+-- `counts::inodes::inoalignmt` meets its contract: each call gives what its definition says.
+-- Assumes nothing.
+use borrow.Author.Needs.{needs}
+use Rattle.counts.proofs.inodes.inoalignmt.Statement.{statement}
+use Rattle.counts.proofs.inodes.inoalignmt.Tie as tie
+
+returns : tie.Need-returns
+returns c = cc
+
+pub inoalignmt-spec : {M : Type 1} → statement M
+inoalignmt-spec =
+    tie.close
+    (tie.spec
+    (λ c. search needs) (λ c κs. tt) (λ c κs. tt) returns)

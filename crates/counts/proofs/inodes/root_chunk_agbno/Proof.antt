@@ -1,0 +1,14 @@
+-- `counts::inodes::root_chunk_agbno` meets its contract: each call gives what its definition says.
+-- Assumes nothing.
+use borrow.Author.Needs.{needs}
+use Rattle.counts.proofs.inodes.root_chunk_agbno.Statement.{statement}
+use Rattle.counts.proofs.inodes.root_chunk_agbno.Tie as tie
+
+returns : tie.Need-returns
+returns c = cc
+
+pub root-chunk-agbno-spec : {M : Type 1} → statement M
+root-chunk-agbno-spec =
+    tie.close
+    (tie.spec
+    (λ c. search needs) (λ c κs. tt) (λ c κs. tt) returns)

@@ -1,0 +1,13 @@
+-- `geometry::grouping::groups_of` meets its contract: each call gives what its definition says.
+-- Assumes nothing.
+use Rattle.geometry.proofs.grouping.groups_of.Statement.{statement}
+use Rattle.geometry.proofs.grouping.groups_of.Tie as tie
+
+returns : tie.Need-returns
+returns c = cc
+
+pub groups-of-spec : {M : Type 1} → statement M
+groups-of-spec =
+    tie.close
+    (tie.spec
+    (λ c κs. tt) returns)

@@ -1,0 +1,15 @@
+-- `geometry::grouping::trimmed` meets its contract: each call gives what its definition says.
+-- Assumes nothing.
+use Rattle.geometry.specs.Groups.{trim}
+use Rattle.geometry.proofs.grouping.trimmed.Statement.{statement}
+use Rattle.geometry.proofs.grouping.trimmed.Tie as tie
+
+returns : tie.Need-returns
+unfolding trim
+returns c = cc
+
+pub trimmed-spec : {M : Type 1} → statement M
+trimmed-spec =
+    tie.close
+    (tie.spec
+    (λ c κs. tt) (λ c κs. tt) (λ c κs. tt) (λ c κs. tt) (λ c κs. tt) returns)

@@ -1,0 +1,93 @@
+// The geometry step: what mkfs.xfs would choose for the options and the device, or the number of the refusal.
+// The types stand here; the functions stand in the modules, in the order in which the step takes them.
+pub mod grouping; // grouping.rt: block count and allocation groups, and refusals 9 to 18
+pub mod log; // log.rt: head blocks, log and imaxpct, and refusals 19 to 24
+pub mod step; // step.rt: Geometry::compute
+
+use params::Features;
+use sizes::Sizes;
+
+// Block count, blocks of a group and the number of groups.
+pub struct Groups {
+    pub dblocks: u64,
+    pub agsize: u64,
+    pub agcount: u64,
+}
+
+// All that the options and the device decide; the groups as asked for and without a short last one.
+pub struct Chosen {
+    pub sizes: Sizes,
+    pub asked: Groups,
+    pub groups: Groups,
+    pub imaxpct: u8,
+    pub prealloc: u64,
+    pub log: u64,
+}
+
+// Every number that the formatter needs, fixed before a byte is written.
+pub struct Geometry {
+    pub blocksize: u32, // bytes
+    pub blocklog: u8,
+    pub sectsize: u32, // bytes
+    pub sectlog: u8,
+    pub lsectsize: u32, // bytes: the log's sector
+    pub lsectlog: u8,
+    pub inodesize: u32, // bytes
+    pub inodelog: u8,
+    pub inopblock: u32, // inodes per block
+    pub inopblog: u8,
+    pub dirblocklog: u8,
+    pub dblocks: u64, // blocks of the file system
+    pub agsize: u64, // blocks of a group; the last may be short
+    pub agcount: u64,
+    pub agblklog: u8, // the logarithm of agsize, rounded up
+    pub imaxpct: u8,
+    pub logblocks: u64,
+    pub logagno: u64, // the group of the log
+    pub log_agbno: u64, // the log's first block within its group
+    pub features: Features,
+    pub label: [u8; 12], // filled up with zeros
+}
+
+// The number is 0 for an accepted geometry; a refusal has the geometry of zeros.
+pub struct Computed {
+    pub number: u8,
+    pub geometry: Geometry,
+}
+
+// The limits of groups, log and what they hold, under the names that xfsprogs gives them.
+impl Geometry {
+    pub const DINODE_MIN_SIZE: u32 = 256; // bytes
+
+    pub const INODE_BIG_CLUSTER_SIZE: u32 = 8192; // bytes
+
+    pub const INODES_PER_CHUNK: u32 = 64;
+
+    pub const MAX_LOG_BLOCKS: u64 = 1024 * 1024; // blocks
+
+    pub const MIN_LOG_BYTES: u64 = 10 * 1024 * 1024;
+
+    pub const MAX_LOG_BYTES: u64 = 2 * 1024 * 1024 * 1024 - Geometry::MIN_LOG_BYTES;
+
+    pub const REALISTIC_LOG_BYTES: u64 = 64 * 1024 * 1024; // the least log
+
+    pub const LOG_RATIO: u64 = 2048; // blocks of the file system for one of the log
+
+    pub const MIN_SUPPORTED_BYTES: u64 = 300 * 1024 * 1024; // the least file system
+
+    pub const TIB: u64 = 1 << 40; // bytes
+
+    pub const AG_MIN_BYTES: u64 = 1 << 24;
+
+    pub const AG_MAX_BYTES: u64 = 1 << 40;
+
+    pub const MAX_AGNUMBER: u64 = 0xffff_fffe;
+
+    pub const ALLOCBT_AGFL_RESERVE: u64 = 4; // blocks
+
+    pub const AGFL_HEADER: u32 = 36; // bytes
+
+    pub const MAX_IMAXPCT: u8 = 100; // percent
+
+    pub const MAX_LABEL: usize = 12; // bytes
+}

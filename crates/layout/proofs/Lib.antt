@@ -1,0 +1,6 @@
+pub mod Ceil
+pub mod Wide
+pub mod Small
+pub mod Bounding
+pub mod Inside
+pub mod Unreachable

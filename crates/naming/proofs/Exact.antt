@@ -1,0 +1,92 @@
+-- 31 is exact: `isAnswer` holds exactly of the answers of the geometry step.
+-- Assumes nothing.
+use mathlib.Core.Path.{_≡_, refl, ap, sym, _∙_}
+use mathlib.Core.Bool.{Bool, true, false, cond}
+use Prim.Native.Nat.{ℕ, _*_, _^_, _<_}
+use native.Mathlib.Omega.{arith}
+use borrow.Author.Tests.{eq-eqb, eqb-true, lt-ltb, ltb-true}
+use lib.Dec.{eqb, ltb}
+use lib.ListN.{length}
+use Rattle.arith.proofs.Both.{both-true, left-true, right-true}
+use Rattle.answers.specs.declared.Named.{Named}
+use Rattle.geometry.specs.declared.Geometry.{Geometry}
+use Rattle.geometry.specs.declared.Computed.{Computed}
+use Rattle.geometry.specs.Compute.{computeDef, refused}
+use Rattle.answers.specs.Same.{sameGeometry}
+use Rattle.answers.specs.Named.{namedOptions, namedOn, namedFits, namedAnswer, namesOf, isAnswer}
+use Rattle.naming.specs.Answers.{Answered}
+use Rattle.naming.proofs.Again.{again, bytes, label-kept}
+use Rattle.naming.proofs.Same.{geometry-refl, same-is}
+
+-- where the bytes fit, the answer is the step's
+pub fitting : (n : Named) → namedFits n ≡ true → namedAnswer n ≡ namedOn n 512
+unfolding namedAnswer
+fitting n h = rw h
+
+-- a named geometry that is accepted has bytes that fit
+fit-case : (n : Named) (t : Bool) → namedFits n ≡ t → namedAnswer n .number ≡ 0 → namedFits n ≡ true
+unfolding namedAnswer
+fit-case n true h e = h
+fit-case n false h e = absurd (let z : _≡_ {A = ℕ} 30 0 = sym (ap (λ (t : Bool). cond t (namedOn n 512) (refused 30) .number) h) ∙ e in omega arith)
+
+pub accepted-fits : (n : Named) → namedAnswer n .number ≡ 0 → namedFits n ≡ true
+accepted-fits n e = fit-case n (namedFits n) refl e
+
+module _ (g : Geometry) (a : Answered g) where
+  its-number : computeDef (a .options) (a .device) (a .logical) (a .physical) .number ≡ 0
+  its-number = ap (λ (x : Computed). x .number) (a .accepted)
+
+  its-geometry : computeDef (a .options) (a .device) (a .logical) (a .physical) .geometry ≡ g
+  its-geometry = ap (λ (x : Computed). x .geometry) (a .accepted)
+
+  answer-fits : namedFits (namesOf g) ≡ true
+  unfolding namedFits namesOf
+  answer-fits =
+      let b = rw its-geometry at (bytes (a .options) (a .device) (a .logical) (a .physical) its-number) in
+      let s = a .small in
+      both-true (ltb (g .dblocks * g .blocksize) (2 ^ 64)) (ltb (g .agsize * g .blocksize) (2 ^ 64))
+      (lt-ltb (g .dblocks * g .blocksize) (2 ^ 64) (omega arith))
+      (lt-ltb (g .agsize * g .blocksize) (2 ^ 64) (omega arith))
+
+  -- what an answer names gives it again, with any physical sector
+  pub named-again : (other : ℕ) → namedOn (namesOf g) other ≡ record { number = 0; geometry = g }
+  named-again other =
+      ap (λ (x : Geometry). namedOn (namesOf x) other) (sym its-geometry)
+      ∙ again (a .options) (a .device) (a .logical) (a .physical) other (a .label) its-number
+      ∙ a .accepted
+
+  pub answer-again : namedAnswer (namesOf g) ≡ record { number = 0; geometry = g }
+  answer-again = fitting (namesOf g) answer-fits ∙ named-again 512
+
+  -- the geometry of an accepted answer is an answer
+  pub complete : isAnswer g ≡ true
+  unfolding isAnswer
+  complete = rw (answer-again, geometry-refl g)
+
+-- what is named, and the same as g, is an answer
+named-answered : (g : Geometry) → length (g .label) ≡ 12 → namedFits (namesOf g) ≡ true → namedOn (namesOf g) 512 .number ≡ 0 → sameGeometry (namedOn (namesOf g) 512 .geometry) g ≡ true → Answered g
+unfolding namedFits namesOf namedOn namedOptions
+named-answered g label f z s =
+    let p = namedOptions (namesOf g) in
+    let d = g .dblocks * g .blocksize in
+    let r = computeDef p d 512 512 in
+    let e : r .geometry ≡ g = same-is (r .geometry) g (label-kept p d 512 512 label z) label s in
+    record {
+      options = p;
+      label = label;
+      device = d;
+      small = ltb-true d (2 ^ 64) (left-true (ltb d (2 ^ 64)) _ f);
+      logical = 512;
+      physical = 512;
+      accepted = λ i. record { number = z i; geometry = e i };
+    }
+
+-- an answer comes from what it names
+pub sound : (g : Geometry) → length (g .label) ≡ 12 → isAnswer g ≡ true → Answered g
+unfolding isAnswer
+sound g label h =
+    let n = namesOf g in
+    let z : namedAnswer n .number ≡ 0 = eqb-true (namedAnswer n .number) 0 (left-true (eqb (namedAnswer n .number) 0) _ h) in
+    let f : namedFits n ≡ true = accepted-fits n z in
+    named-answered g label f (sym (ap (λ (x : Computed). x .number) (fitting n f)) ∙ z)
+    (rw (fitting n f) at (right-true (eqb (namedAnswer n .number) 0) _ h))

@@ -1,0 +1,5 @@
+pub mod AfterTrim
+pub mod Tests
+pub mod Again
+pub mod Same
+pub mod Exact

@@ -1,0 +1,13 @@
+-- `params::Params::new` meets its contract: each option is absent.
+-- Assumes nothing.
+use Rattle.params.proofs.Params.new.Statement.{statement}
+use Rattle.params.proofs.Params.new.Tie as tie
+
+returns : tie.Need-returns
+returns c = cc
+
+pub new-spec : {M : Type 1} → statement M
+new-spec =
+    tie.close
+    (tie.spec
+    (λ c κs. tt) returns)

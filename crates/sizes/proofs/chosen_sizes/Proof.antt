@@ -1,0 +1,15 @@
+-- `sizes::chosen_sizes` meets its contract: each call gives what its definition says.
+-- Assumes nothing.
+use Rattle.sizes.specs.Sizes.{sizesOf}
+use Rattle.sizes.proofs.chosen_sizes.Statement.{statement}
+use Rattle.sizes.proofs.chosen_sizes.Tie as tie
+
+returns : tie.Need-returns
+unfolding sizesOf
+returns c = cc
+
+pub chosen-sizes-spec : {M : Type 1} → statement M
+chosen-sizes-spec =
+    tie.close
+    (tie.spec
+    (λ c κs. tt) (λ c κs. tt) (λ c κs. tt) (λ c κs. tt) returns)

@@ -1,0 +1,15 @@
+-- `sizes::default_sector` meets its contract: each call gives what its definition says.
+-- Assumes nothing.
+use Rattle.sizes.specs.Sizes.{defaultSector}
+use Rattle.sizes.proofs.default_sector.Statement.{statement}
+use Rattle.sizes.proofs.default_sector.Tie as tie
+
+returns : tie.Need-returns
+unfolding defaultSector
+returns c = cc
+
+pub default-sector-spec : {M : Type 1} → statement M
+default-sector-spec =
+    tie.close
+    (tie.spec
+    (λ c κs. tt) (λ c κs. tt) (λ c κs. tt) (λ c κs. tt) returns)
