@@ -1,2 +1,3 @@
 pub mod Orders
 pub mod Slots
+pub mod Held

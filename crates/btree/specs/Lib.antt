@@ -1,3 +1,4 @@
 pub mod Owners
 pub mod Records
 pub mod Leaf
+pub mod Decode

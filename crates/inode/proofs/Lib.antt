@@ -1,3 +1,4 @@
 pub mod Seconds
 pub mod Core
 pub mod Back
+pub mod Held
