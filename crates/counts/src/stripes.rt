@@ -23,8 +23,8 @@ pub fn bs(g: Geometry) -> Value64
 pub fn rextsize(g: Geometry) -> Value32
     ensures { λ r. ⌜ r ≡ known32 (isAnswer g) (rextSize (g .blocksize)) ⌝ }
 {
-    let blocks = quotient_u32(4096, g.blocksize);
-    let extent = pick_u32(g.blocksize < 4096, blocks, 1);
+    let blocks = quotient_u32(Geometry::MIN_RTEXTSIZE, g.blocksize);
+    let extent = pick_u32(g.blocksize < Geometry::MIN_RTEXTSIZE, blocks, 1);
     known_32(g, extent)
 }
 
@@ -32,7 +32,7 @@ pub fn rextsize(g: Geometry) -> Value32
 pub fn lsunit_bytes(g: Geometry) -> Value32
     ensures { λ r. ⌜ r ≡ known32 (isAnswer g) (lsunitBytes (g .lsectsize) (g .blocksize)) ⌝ }
 {
-    let unit = pick_u32(512 < g.lsectsize, g.blocksize, 0);
+    let unit = pick_u32(Geometry::LOG_HEADER_SIZE < g.lsectsize, g.blocksize, 0);
     known_32(g, unit)
 }
 
@@ -40,7 +40,7 @@ pub fn lsunit_bytes(g: Geometry) -> Value32
 pub fn logsunit(g: Geometry) -> Value32
     ensures { λ r. ⌜ r ≡ known32 (isAnswer g) (logsunitOf (lsunitBytes (g .lsectsize) (g .blocksize))) ⌝ }
 {
-    let unit = pick_u32(512 < g.lsectsize, g.blocksize, 0);
+    let unit = pick_u32(Geometry::LOG_HEADER_SIZE < g.lsectsize, g.blocksize, 0);
     let stored = pick_u32(unit == 0, 1, unit);
     known_32(g, stored)
 }
