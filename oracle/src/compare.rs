@@ -1,7 +1,9 @@
 //! Runs both sides on the same cases, counts, and reports the first difference.
 
 use std::collections::BTreeMap;
+use std::fs;
 use std::io::{self, BufReader, BufWriter, Read, Write};
+use std::path::Path;
 use std::process::{Child, Command, Stdio};
 
 use crate::frames;
@@ -134,10 +136,13 @@ pub fn with_each(mode: &dyn Mode, cases: u64, seed: u64, path: &str) -> io::Resu
     })
 }
 
-/// `cases` cases with their answers, as many of each kind and number as of the others where there are enough.
-pub fn sample(mode: &dyn Mode, cases: u64, seed: u64) -> io::Result<()> {
+/// A case and the Rust's answer.
+type Pair = (Vec<u8>, Vec<u8>);
+
+/// Cases from a seed by kind and number, at most `cases` of each.
+fn found(mode: &dyn Mode, cases: u64, seed: u64) -> io::Result<BTreeMap<Told, Vec<Pair>>> {
     let mut r = Random::new(seed);
-    let mut found: BTreeMap<Told, Vec<(Vec<u8>, Vec<u8>)>> = BTreeMap::new();
+    let mut found: BTreeMap<Told, Vec<Pair>> = BTreeMap::new();
     for _ in 0..cases * 200 {
         let case = mode.case(&mut r);
         let mut out = Vec::new();
@@ -147,14 +152,36 @@ pub fn sample(mode: &dyn Mode, cases: u64, seed: u64) -> io::Result<()> {
             same.push((case, out));
         }
     }
+    Ok(found)
+}
+
+/// `cases` of them, as many of each kind and number as of the others where there are enough.
+fn shared(found: &BTreeMap<Told, Vec<Pair>>, cases: u64) -> Vec<&Pair> {
+    let rows = (0..cases as usize).flat_map(|row| found.values().filter_map(move |same| same.get(row)));
+    rows.take(cases as usize).collect()
+}
+
+/// `cases` cases of all kinds and numbers with their answers, as a stream.
+pub fn sample(mode: &dyn Mode, cases: u64, seed: u64) -> io::Result<()> {
     let mut output = BufWriter::new(io::stdout().lock());
-    let mut left = cases;
-    for row in 0..cases as usize {
-        for pair in found.values().filter_map(|same| same.get(row)).take(left as usize) {
-            frames::write(&mut output, &pair.0)?;
-            frames::write(&mut output, &pair.1)?;
-            left -= 1;
-        }
+    for (case, answer) in shared(&found(mode, cases, seed)?, cases) {
+        frames::write(&mut output, case)?;
+        frames::write(&mut output, answer)?;
     }
     output.flush()
+}
+
+/// The files `stdin` and `stdout` of a program that replays the answers: half of the cases are accepted, the others are
+/// shared among the refusals.
+pub fn replay(mode: &dyn Mode, cases: u64, seed: u64, folder: &str) -> io::Result<()> {
+    let missing = || io::Error::other("no program of the port replays this mode");
+    let (accepted, refused) = found(mode, cases / 2, seed)?.into_iter().partition(|(told, _)| told.number == 0);
+    let (mut cases_file, mut answers_file) = (Vec::new(), Vec::new());
+    for (case, answer) in shared(&accepted, cases / 2).into_iter().chain(shared(&refused, cases - cases / 2)) {
+        cases_file.extend(mode.replayed(case).ok_or_else(missing)?);
+        answers_file.extend(answer);
+    }
+    let folder = Path::new(folder);
+    fs::write(folder.join("stdin"), cases_file)?;
+    fs::write(folder.join("stdout"), answers_file)
 }

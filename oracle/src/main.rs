@@ -5,6 +5,8 @@
 //!     oracle cases MODE --cases N --seed S         N cases as a stream
 //!     oracle count MODE --cases N --seed S         how many of N cases have each number
 //!     oracle sample MODE --cases N --seed S        N cases of all kinds with their answers, as a stream
+//!     oracle replay MODE --cases N --seed S DIR    N cases with their answers, as DIR/stdin and DIR/stdout of the
+//!                                                  program that replays them
 //!     oracle compare MODE --cases N --seed S       both sides on N cases; the port's is the static library that is
 //!         [--program PATH | --each PATH]           linked in, a program over streams, or one run for each case
 
@@ -29,11 +31,12 @@ struct Words {
     frames: bool,
     program: Option<String>,
     each: Option<String>,
+    folder: Option<String>,
 }
 
 impl Words {
     fn read(words: &[String]) -> Option<Words> {
-        let mut w = Words { cases: 1000, seed: 1, frames: false, program: None, each: None };
+        let mut w = Words { cases: 1000, seed: 1, frames: false, program: None, each: None, folder: None };
         let mut it = words.iter();
         while let Some(word) = it.next() {
             match word.as_str() {
@@ -42,7 +45,8 @@ impl Words {
                 "--frames" => w.frames = true,
                 "--program" => w.program = Some(it.next()?.clone()),
                 "--each" => w.each = Some(it.next()?.clone()),
-                _ => return None,
+                _ if word.starts_with('-') || w.folder.is_some() => return None,
+                _ => w.folder = Some(word.clone()),
             }
         }
         Some(w)
@@ -80,16 +84,20 @@ fn cases(mode: &Chosen, w: &Words) -> io::Result<()> {
 
 fn run(words: &[String]) -> Option<io::Result<bool>> {
     let verb = match words.first()?.as_str() {
-        v @ ("cases" | "count" | "sample" | "compare") => v,
+        v @ ("cases" | "count" | "sample" | "replay" | "compare") => v,
         _ => "answer",
     };
     let rest = if verb == "answer" { words } else { &words[1..] };
     let mode = modes::named(rest.first()?)?;
     let w = Words::read(&rest[1..])?;
+    if w.folder.is_some() != (verb == "replay") {
+        return None;
+    }
     Some(match verb {
         "cases" => cases(&mode, &w).map(|()| true),
         "count" => compare::count(&*mode, w.cases, w.seed).map(|()| true),
         "sample" => compare::sample(&*mode, w.cases, w.seed).map(|()| true),
+        "replay" => compare::replay(&*mode, w.cases, w.seed, w.folder.as_ref()?).map(|()| true),
         "compare" => match (&w.program, &w.each) {
             (Some(path), _) => compare::with_program(&*mode, w.cases, w.seed, path),
             (None, Some(path)) => compare::with_each(&*mode, w.cases, w.seed, path),
@@ -111,7 +119,7 @@ fn main() -> ExitCode {
             ExitCode::from(2)
         }
         None => {
-            eprintln!("usage: oracle [cases | count | sample | compare] MODE [--cases N] [--seed S] [--frames] [--program PATH | --each PATH]");
+            eprintln!("usage: oracle [cases | count | sample | replay | compare] MODE [--cases N] [--seed S] [--frames] [--program PATH | --each PATH] [DIR]");
             ExitCode::from(2)
         }
     }

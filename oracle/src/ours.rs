@@ -31,7 +31,6 @@ pub mod crc {
 }
 
 /// Crate `ffi_geometry`.
-#[cfg(feature = "geometry")]
 pub mod geometry {
     /// What the geometry step is given. Bit k of `given` is set where the option with document 01's code k is given.
     pub struct Input {
@@ -51,6 +50,30 @@ pub mod geometry {
         pub physical: u32,
     }
 
+    impl Input {
+        /// Every number in its own width, big-endian, in the order of the parameters.
+        pub fn encode(&self) -> Vec<u8> {
+            [
+                &self.given.to_be_bytes()[..],
+                &self.size.to_be_bytes(),
+                &self.block.to_be_bytes(),
+                &self.sector.to_be_bytes(),
+                &self.inode.to_be_bytes(),
+                &self.agcount.to_be_bytes(),
+                &self.agsize.to_be_bytes(),
+                &self.imaxpct.to_be_bytes(),
+                &self.features.to_be_bytes(),
+                &self.label_length.to_be_bytes(),
+                &self.label,
+                &self.device.to_be_bytes(),
+                &self.logical.to_be_bytes(),
+                &self.physical.to_be_bytes(),
+            ]
+            .concat()
+        }
+    }
+
+    #[cfg(feature = "geometry")]
     extern "C" {
         fn zq_geometry(
             field: u64,
@@ -73,6 +96,7 @@ pub mod geometry {
 
     /// One number of the answer: 0 is the number of document 01, 1 to 20 are the fields in the Rust's order (features
     /// as bits), 21 to 32 the bytes of the label.
+    #[cfg(feature = "geometry")]
     pub fn field(k: u64, i: &Input) -> u64 {
         unsafe {
             zq_geometry(

@@ -34,7 +34,7 @@ pub fn chunk_blocks(g: Geometry) -> Value64
 }
 
 // Blocks of an inode cluster, for these sizes.
-fn cluster_of(inode: u32, bs: u64) -> u64
+pub fn cluster_of(inode: u32, bs: u64) -> u64
     ensures { λ r. ⌜ r ≡ clusterOf inode bs ⌝ }
 {
     let bytes = 8192 * ((inode / Geometry::DINODE_MIN_SIZE) as u64);
@@ -51,7 +51,7 @@ pub fn cluster_align(g: Geometry) -> Value64
 }
 
 // The alignment of chunks, for these sizes.
-fn align_of(sparse: bool, inode: u32, bs: u64) -> u64
+pub fn align_of(sparse: bool, inode: u32, bs: u64) -> u64
     ensures { λ r. ⌜ r ≡ alignOf sparse inode bs ⌝ }
 {
     pick_u64(sparse, chunk_of(inode, bs), cluster_of(inode, bs))
@@ -67,6 +67,13 @@ pub fn inoalignmt(g: Geometry) -> Value64
     known_64(g, align)
 }
 
+// The alignment of sparse chunks in blocks, 0 without them, for these sizes.
+pub fn spino_of(sparse: bool, inode: u32, bs: u64) -> u64
+    ensures { λ r. ⌜ r ≡ sparseAlign sparse inode bs ⌝ }
+{
+    pick_u64(sparse, cluster_of(inode, bs), 0)
+}
+
 // The alignment of sparse chunks in blocks, 0 without them.
 pub fn spino_align(g: Geometry) -> Value32
     ensures { λ r. ⌜ r ≡ known32 (isAnswer g) (sparseAlign (g .features .sparse) (g .inodesize) (g .blocksize)) ⌝ }
@@ -76,7 +83,7 @@ pub fn spino_align(g: Geometry) -> Value32
     }
     let f = g.features;
     let bs = g.blocksize as u64;
-    let align = pick_u64(f.sparse, cluster_of(g.inodesize, bs), 0);
+    let align = spino_of(f.sparse, g.inodesize, bs);
     Value32::Of(align as u32)
 }
 

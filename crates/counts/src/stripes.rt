@@ -19,28 +19,47 @@ pub fn bs(g: Geometry) -> Value64
     known_64(g, bs)
 }
 
+// Blocks of a realtime extent, for this block size.
+pub fn rext_of(block: u32) -> u32
+    ensures { λ r. ⌜ r ≡ rextSize block ⌝ }
+{
+    pick_u32(block < 4096, quotient_u32(4096, block), 1)
+}
+
 // Blocks of a realtime extent.
 pub fn rextsize(g: Geometry) -> Value32
     ensures { λ r. ⌜ r ≡ known32 (isAnswer g) (rextSize (g .blocksize)) ⌝ }
 {
-    let blocks = quotient_u32(4096, g.blocksize);
-    let extent = pick_u32(g.blocksize < 4096, blocks, 1);
+    let extent = rext_of(g.blocksize);
     known_32(g, extent)
+}
+
+// Bytes of the log stripe unit, 0 for none, for these sizes.
+pub fn lsunit_of(lsector: u32, block: u32) -> u32
+    ensures { λ r. ⌜ r ≡ lsunitBytes lsector block ⌝ }
+{
+    pick_u32(512 < lsector, block, 0)
 }
 
 // Bytes of the log stripe unit, 0 for none.
 pub fn lsunit_bytes(g: Geometry) -> Value32
     ensures { λ r. ⌜ r ≡ known32 (isAnswer g) (lsunitBytes (g .lsectsize) (g .blocksize)) ⌝ }
 {
-    let unit = pick_u32(512 < g.lsectsize, g.blocksize, 0);
+    let unit = lsunit_of(g.lsectsize, g.blocksize);
     known_32(g, unit)
+}
+
+// A log stripe unit as the superblock has it, 1 for none.
+pub fn logsunit_of(unit: u32) -> u32
+    ensures { λ r. ⌜ r ≡ logsunitOf unit ⌝ }
+{
+    pick_u32(unit == 0, 1, unit)
 }
 
 // The log stripe unit as the superblock has it, 1 for none.
 pub fn logsunit(g: Geometry) -> Value32
     ensures { λ r. ⌜ r ≡ known32 (isAnswer g) (logsunitOf (lsunitBytes (g .lsectsize) (g .blocksize))) ⌝ }
 {
-    let unit = pick_u32(512 < g.lsectsize, g.blocksize, 0);
-    let stored = pick_u32(unit == 0, 1, unit);
+    let stored = logsunit_of(lsunit_of(g.lsectsize, g.blocksize));
     known_32(g, stored)
 }

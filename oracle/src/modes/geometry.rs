@@ -5,11 +5,12 @@ use std::io;
 use std::panic::catch_unwind;
 
 use mkfs_xfs::geometry::{Features, Geometry};
+use mkfs_xfs::ours::geometry::Input;
 
 use super::{Mode, Out, Told};
 use crate::numbers::{number_of, UNNUMBERED};
 use crate::random::Random;
-use crate::request::{Request, MALFORMED};
+use crate::request::{op, Request, MALFORMED};
 use crate::wishes;
 
 pub struct Geometries;
@@ -61,15 +62,13 @@ pub fn fields(g: &Geometry) -> [(&'static str, u64); 20] {
 }
 
 /// The request as the port's function takes it.
-#[cfg(feature = "geometry")]
-fn port_input(q: &Request) -> mkfs_xfs::ours::geometry::Input {
-    use crate::request::op;
+fn port_input(q: &Request) -> Input {
     let value = |code: usize| q.options[code].unwrap_or(0);
     let text = q.label.clone().unwrap_or_default();
     let mut label = [0u8; 12];
     let kept = text.len().min(label.len());
     label[..kept].copy_from_slice(&text[..kept]);
-    mkfs_xfs::ours::geometry::Input {
+    Input {
         given: (op::SIZE..=op::IMAXPCT).filter(|&k| q.options[k].is_some()).map(|k| 1 << k).sum(),
         size: value(op::SIZE),
         block: value(op::BLOCK) as u32,
@@ -122,6 +121,10 @@ impl Mode for Geometries {
             (21..=32).for_each(|k| line += &format!("{:02x}", field(k, &input)));
         }
         Some((line + "\n").into_bytes())
+    }
+
+    fn replayed(&self, case: &[u8]) -> Option<Vec<u8>> {
+        Some(port_input(&Request::parse(case)?).encode())
     }
 
     fn show_case(&self, case: &[u8]) -> String {

@@ -50,6 +50,11 @@ pub trait Mode {
         None
     }
 
+    /// The case as the program that replays the mode's answers reads it, where there is one.
+    fn replayed(&self, _case: &[u8]) -> Option<Vec<u8>> {
+        None
+    }
+
     /// A case and an answer in words, for the report of a difference.
     fn show_case(&self, case: &[u8]) -> String {
         hex(case)

@@ -19,27 +19,21 @@ returns : tie.Need-returns
 unfolding known32
 returns c = rw (sym (c .before .is-answer .ensures) ∙ not-true _ (c .if1 .taken))
 
-cast-t8 : tie.Need-cast-t8
-cast-t8 c =
-    let e = c .before .before .before .before in
+cast-t7 : tie.Need-cast-t7
+unfolding sparseAlign
+cast-t7 c =
+    let e = c .before .before .before in
     let g = e .before .before .args .g in
     let h : isAnswer g ≡ true = sym (e .before .is-answer .ensures) ∙ not-false _ (e .if1 .left) in
     let l : length (g .label) ≡ 12 = search (needs, e .before .before .good .0 .1 .1 .1 .1 .1 .1 .1 .1 .1 .1 .1 .1 .1 .1 .1 .1 .1 .1 .1) in
-    let w : c .pick-u64 .result ≤ 32 = rw (c .pick-u64 .ensures, c .before .cluster-of .ensures) (picked-le (g .features .sparse) (clusterOf (g .inodesize) (g .blocksize)) 32 (answer-bounds g l h .places .cluster-most)) in
+    let w : c .spino-of .result ≤ 32 = rw (c .spino-of .ensures) (picked-le (g .features .sparse) (clusterOf (g .inodesize) (g .blocksize)) 32 (answer-bounds g l h .places .cluster-most)) in
     record { fits = omega arith }
 
 returns-2 : tie.Need-returns-2
-unfolding known32 sparseAlign
+unfolding known32
 returns-2 c =
-    let e = c .before .before .before .before in
-    rw (
-      c .pick-u64 .ensures,
-      c .before .cluster-of .ensures,
-      sym (e .before .is-answer .ensures) ∙ not-false _ (e .if1 .left),
-    )
+    let e = c .before .before .before in
+    rw (c .spino-of .ensures, sym (e .before .is-answer .ensures) ∙ not-false _ (e .if1 .left))
 
 pub spino-align-spec : {M : Type 1} → statement M
-spino-align-spec =
-    tie.close
-    (tie.spec
-    (λ c κs. tt) returns (λ c. search needs) (λ c κs. tt) (λ c κs. tt) cast-t8 returns-2)
+spino-align-spec = tie.close (tie.spec (λ c κs. tt) returns (λ c. search needs) (λ c κs. tt) cast-t7 returns-2)

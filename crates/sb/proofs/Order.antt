@@ -1,0 +1,57 @@
+-- The order in which the code writes the superblock: its numbers, UUID and label, and then the log's sector. It is the disk's order but for places that don't meet.
+-- Assumes nothing.
+use mathlib.Core.Path.{_≡_, refl, ap, sym, _∙_}
+use mathlib.Core.List.{List, [], _∷_, _++_}
+use mathlib.Core.Bool.{Bool, true, false, _||_}
+use Prim.Native.Nat.{ℕ}
+use lib.Dec.{T, ltb}
+use lib.ListN.{length}
+use Rattle.endian.specs.Bytes.{beBytes}
+use Rattle.endian.specs.Fields.{Field, Span, field, run, write, table, spans, tidy, clear}
+use Rattle.endian.proofs.Order.{any-order}
+use Rattle.crc.specs.Crc.{stamped}
+use Rattle.geometry.specs.declared.Geometry.{Geometry}
+use Rattle.sb.specs.declared.SbState.{SbState}
+use Rattle.sb.specs.Superblock.{crcAt, largeSector, logSector, fieldsWith, sbFields, sbBytes}
+use Rattle.sb.specs.Numbers.{places, numbers}
+
+-- where the numbers of a table stand
+abbrev pub standing : List ℕ → List Span
+standing [] = []
+standing (o ∷ []) = []
+standing (o ∷ (n ∷ os)) = record { from = o; size = n } ∷ standing os
+
+abbrev logPlaces : Bool → List Span
+logPlaces true = standing (193 ∷ 1 ∷ 194 ∷ 2 ∷ [])
+logPlaces false = []
+
+-- where the fields stand, as the code writes them
+abbrev pub codePlaces : Bool → List Span
+codePlaces large = standing places ++ (standing (32 ∷ 16 ∷ 108 ∷ 12 ∷ []) ++ logPlaces large)
+
+abbrev codeFields : Bool → Geometry → SbState → List Field
+codeFields large g s = table places (numbers g s) ++ ((run 32 (s .uuid) ∷ run 108 (g .label) ∷ []) ++ logSector large (g .lsectlog) (g .lsectsize))
+
+module _ (g : Geometry) (s : SbState) (xs : List ℕ) (u : length (s .uuid) ≡ 16) (l : length (g .label) ≡ 12) where
+  stand : (large : Bool) → spans (codeFields large g s) ≡ codePlaces large
+  unfolding beBytes
+  stand true = rw (u, l) refl
+  stand false = rw (u, l) refl
+
+  pub ordered : (large : Bool)
+      → write (logSector large (g .lsectlog) (g .lsectsize)) (write (run 32 (s .uuid) ∷ run 108 (g .label) ∷ []) (write (table places (numbers g s)) xs)) ≡ write (fieldsWith large g s) xs
+  unfolding fieldsWith
+  ordered true = sym (any-order (codePlaces true) 264 tt (codeFields true g s) (stand true) xs)
+  ordered false = sym (any-order (codePlaces false) 264 tt (codeFields false g s) (stand false) xs)
+
+-- the writes one after the other, and the checksum
+pub all-written : (g : Geometry) (s : SbState) (xs ws ys zs us v : List ℕ) (large : Bool) → length (s .uuid) ≡ 16 → length (g .label) ≡ 12
+    → v ≡ numbers g s → large ≡ (ltb 512 (g .sectsize) || ltb 512 (g .lsectsize))
+    → ws ≡ write (table places v) xs → ys ≡ write (run 32 (s .uuid) ∷ run 108 (g .label) ∷ []) ws → zs ≡ write (logSector large (g .lsectlog) (g .lsectsize)) ys
+    → us ≡ stamped crcAt zs → us ≡ sbBytes g s xs
+unfolding sbBytes sbFields largeSector
+all-written g s xs ws ys zs us v large u l ev el ew ey ez eu =
+    eu ∙ ap (stamped crcAt)
+    (ez ∙ ap (write (logSector large (g .lsectlog) (g .lsectsize)))
+    (ey ∙ ap (write (run 32 (s .uuid) ∷ run 108 (g .label) ∷ [])) (ew ∙ ap (λ (w : List ℕ). write (table places w) xs) ev))
+    ∙ ordered g s xs u l large ∙ ap (λ (b : Bool). write (fieldsWith b g s) xs) el)

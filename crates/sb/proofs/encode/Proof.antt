@@ -1,0 +1,43 @@
+-- `sb::encode` meets its contract.
+-- Assumes nothing.
+use Rattle.sb.proofs.Laws.{answer-fits}
+use Rattle.sb.specs.Superblock.{sbNumber}
+use Rattle.structs.proofs.Written.{refused, done}
+use Rattle.layout.proofs.Bounding.{answer-bounds}
+use Rattle.answers.specs.Named.{isAnswer}
+use borrow.Author.Tests.{eq-eqb, ne-eqb}
+use lib.ListN.{length}
+use mathlib.Core.Bool.{true}
+use mathlib.Core.Path.{_≡_, refl, sym, _∙_}
+use borrow.Author.Needs.{needs}
+use Rattle.sb.proofs.encode.Statement.{statement}
+use Rattle.sb.proofs.encode.Tie as tie
+
+is-answer-requires : tie.Need-is-answer-requires
+is-answer-requires c κs = search needs
+
+cast-if2 : tie.Need-cast-if2
+cast-if2 c = search needs
+
+fill-requires : tie.Need-fill-requires
+fill-requires c κs = let g = c .before .before .before .before .before .before .args .g in let l : length (g .label) ≡ 12 = search (needs, c .before .before .before .before .before .before .good .0 .1 .1 .1 .1 .1 .1 .1 .1 .1 .1 .1 .1 .1 .1 .1 .1 .1 .1 .1) in let h : isAnswer g ≡ true = sym (c .before .before .before .before .is-answer .ensures) ∙ c .before .before .before .if1 .taken in answer-fits g (length (c .before .before .before .before .before .before .args .sector .now)) (answer-bounds g l h) (c .before .if2 .taken)
+
+same-length : tie.Need-same-length
+same-length c = search needs
+
+returns : tie.Need-returns
+unfolding sbNumber
+returns c = let h = sym (c .before .before .before .before .before .before .before .is-answer .ensures) ∙ c .before .before .before .before .before .before .if1 .taken in done (rw (h, eq-eqb _ _ (c .before .before .before .before .if2 .taken)) refl) (c .before .before .fill .ensures)
+
+returns-2 : tie.Need-returns-2
+unfolding sbNumber
+returns-2 c = let h = sym (c .before .before .before .is-answer .ensures) ∙ c .before .before .if1 .taken in refused (rw (h, ne-eqb _ _ (c .if2 .left)) refl) refl
+
+returns-3 : tie.Need-returns-3
+unfolding sbNumber
+returns-3 c = let h = sym (c .before .is-answer .ensures) ∙ c .if1 .left in refused (rw h refl) refl
+
+pub encode-spec : {M : Type 1} → statement M
+encode-spec =
+    tie.close
+    (tie.spec is-answer-requires cast-if2 fill-requires same-length returns returns-2 returns-3)

@@ -1,0 +1,17 @@
+-- `sb::incompat` meets its contract.
+-- Assumes nothing.
+use borrow.Author.Needs.{needs}
+use Rattle.sb.proofs.incompat.Statement.{statement}
+use Rattle.sb.proofs.incompat.Tie as tie
+
+in-of-requires : tie.Need-in-of-requires
+in-of-requires c κs = search needs
+
+known-64-requires : tie.Need-known-64-requires
+known-64-requires c κs = search needs
+
+returns : tie.Need-returns
+returns c = cc
+
+pub incompat-spec : {M : Type 1} → statement M
+incompat-spec = tie.close (tie.spec in-of-requires known-64-requires returns)

@@ -1,0 +1,19 @@
+-- `sb::log_start` meets its contract.
+-- Assumes nothing.
+use Rattle.layout.specs.Places.{fsbOf}
+use borrow.Author.Needs.{needs}
+use Rattle.sb.proofs.log_start.Statement.{statement}
+use Rattle.sb.proofs.log_start.Tie as tie
+
+shl-result : tie.Need-shl-result
+shl-result c = search needs
+
+add-result : tie.Need-add-result
+add-result c = search needs
+
+returns : tie.Need-returns
+unfolding fsbOf
+returns c = search needs
+
+pub log-start-spec : {M : Type 1} → statement M
+log-start-spec = tie.close (tie.spec shl-result add-result returns)

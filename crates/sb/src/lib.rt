@@ -1,0 +1,365 @@
+// The superblock, `struct xfs_dsb`. The Rust's structs/sb.rs.
+ghost use mathlib.Core.Path.{_≡_};
+ghost use mathlib.Core.Bool.{_||_};
+ghost use mathlib.Core.List.{[], _∷_};
+ghost use Prim.Native.Nat.{_+_, _*_, _^_, _≤_, _<_};
+ghost use lib.Dec.{ltb};
+ghost use Rattle.arith.specs.Choice.{bit};
+ghost use Rattle.layout.specs.Places.{fsbOf};
+ghost use lib.ListN.{length};
+ghost use Rattle.endian.specs.Fields.{write, table, run};
+ghost use Rattle.structs.specs.Written.{Written};
+ghost use Rattle.answers.specs.Named.{isAnswer};
+ghost use Rattle.counts.specs.Known.{known64};
+ghost use Rattle.sb.specs.Superblock.{features2Bits, fixedVersion, largeSector, versionOf, roCompat, inCompat, logstartOf, logSector, sbNumber, sbBytes};
+ghost use Rattle.sb.specs.Numbers.{places, numbers};
+use answers::is_answer;
+use arith::choice::bit_of;
+use arith::numbers::minus_u8;
+use counts::Value64;
+use counts::inodes::align_of;
+use counts::inodes::spino_of;
+use counts::known_64;
+use counts::stripes::logsunit_of;
+use counts::stripes::lsunit_of;
+use counts::stripes::rext_of;
+use geometry::Geometry;
+use params::Features;
+
+// XFS_SB_MAGIC, "XFSB".
+pub const MAGIC: u64 = 0x5846_5342;
+
+// The refusal of a geometry that is no answer of the geometry step.
+pub const NO_ANSWER: u32 = 31;
+
+// The offset of sb_crc.
+const CRC: usize = 224;
+
+// Version 5 with NLINKBIT, ALIGNBIT, LOGV2BIT, EXTFLGBIT, DIRV2BIT and MOREBITSBIT.
+const VERSION: u64 = 0xb4a5;
+
+// LAZYSBCOUNTBIT, ATTR2BIT, PROJID32BIT and CRCBIT.
+pub const FEATURES2: u64 = 0x18a;
+
+// What differs between the primary superblock and the secondaries, and between the start and the end of a run.
+pub struct SbState {
+    pub uuid: [u8; 16],
+    pub rootino: u64, // or NULL64, as the next two
+    pub rbmino: u64,
+    pub rsumino: u64,
+    pub icount: u64,
+    pub ifree: u64,
+    pub fdblocks: u64,
+    pub inprogress: bool, // the run has not finished
+}
+
+// The numbers at their places.
+fn put_numbers(sector: &mut [u8], v: &[u64; 46])
+    requires { ⌜ 264 ≤ length (now sector) ⌝ }
+    ensures { λ r. ⌜ now (sector .exit) ≡ write (table places (now (v .entry))) (now (sector .entry)) ⌝ }
+{
+    let at: [usize; 92] = [
+        0,
+        4,
+        4,
+        4,
+        8,
+        8,
+        16,
+        8,
+        24,
+        8,
+        48,
+        8,
+        56,
+        8,
+        64,
+        8,
+        72,
+        8,
+        80,
+        4,
+        84,
+        4,
+        88,
+        4,
+        92,
+        4,
+        96,
+        4,
+        100,
+        2,
+        102,
+        2,
+        104,
+        2,
+        106,
+        2,
+        120,
+        1,
+        121,
+        1,
+        122,
+        1,
+        123,
+        1,
+        124,
+        1,
+        125,
+        1,
+        126,
+        1,
+        127,
+        1,
+        128,
+        8,
+        136,
+        8,
+        144,
+        8,
+        152,
+        8,
+        160,
+        8,
+        168,
+        8,
+        180,
+        4,
+        184,
+        4,
+        188,
+        4,
+        192,
+        1,
+        196,
+        4,
+        200,
+        4,
+        204,
+        4,
+        208,
+        4,
+        212,
+        4,
+        216,
+        4,
+        220,
+        4,
+        228,
+        4,
+        232,
+        8,
+        240,
+        8,
+    ];
+    endian::put_all(sector, &at, v);
+}
+
+// UUID and label.
+fn put_names(sector: &mut [u8], uuid: &[u8; 16], label: &[u8; 12])
+    requires { ⌜ 264 ≤ length (now sector) ⌝ }
+    ensures { λ r. ⌜ now (sector .exit) ≡ write (run 32 (now (uuid .entry)) ∷ run 108 (now (label .entry)) ∷ []) (now (sector .entry)) ⌝ }
+{
+    endian::put_bytes(sector, 32, uuid);
+    endian::put_bytes(sector, 108, label);
+}
+
+// The log's sector, where it is named.
+fn put_log_sector(sector: &mut [u8], large: bool, log: u8, size: u16)
+    requires { ⌜ 264 ≤ length (now sector) ⌝ }
+    ensures { λ r. ⌜ now (sector .exit) ≡ write (logSector large log size) (now (sector .entry)) ⌝ }
+{
+    if large {
+        endian::put8(sector, 193, log);
+        endian::put16(sector, 194, size);
+    }
+}
+
+// Whether a sector is above 512 bytes.
+fn large_sector(sector: u32, lsector: u32) -> bool
+    ensures { λ r. ⌜ r ≡ (ltb 512 sector || ltb 512 lsector) ⌝ }
+{
+    if 512 < sector {
+        return true;
+    }
+    512 < lsector
+}
+
+// A flag's weight where it is set.
+fn flag(b: bool, weight: u64) -> u64
+    ensures { λ r. ⌜ (r ≡ weight * bit b) × (r ≤ weight) ⌝ }
+{
+    if b {
+        return weight;
+    }
+    0
+}
+
+// sb_versionnum.
+fn version_of(large: bool) -> u64
+    ensures { λ r. ⌜ r ≡ fixedVersion + 0x800 * bit large ⌝ }
+{
+    VERSION + flag(large, 0x800)
+}
+
+// sb_features_ro_compat.
+fn ro_of(f: Features) -> u64
+    ensures { λ r. ⌜ r ≡ roCompat f ⌝ }
+{
+    flag(f.finobt, 1) + flag(f.rmapbt, 2) + flag(f.reflink, 4) + flag(f.inobtcount, 8)
+}
+
+// sb_features_incompat.
+fn in_of(f: Features) -> u64
+    ensures { λ r. ⌜ r ≡ inCompat f ⌝ }
+{
+    1 + flag(f.sparse, 2) + flag(f.bigtime, 8) + flag(f.nrext64, 0x20)
+}
+
+// The log's first block as a file system block.
+fn log_start(log: u8, k: u64, b: u64) -> u64
+    requires { ⌜ (log < 64) × (k * 2 ^ log + b < 2 ^ 64) ⌝ }
+    ensures { λ r. ⌜ r ≡ fsbOf log k b ⌝ }
+{
+    (k << log) + b
+}
+
+fn wide8(x: u8) -> u64
+    ensures { λ r. ⌜ r ≡ x ⌝ }
+{
+    x as u64
+}
+
+fn wide32(x: u32) -> u64
+    ensures { λ r. ⌜ r ≡ x ⌝ }
+{
+    x as u64
+}
+
+// Every number of the superblock, with the log's start handed in.
+fn all_numbers(g: Geometry, s: SbState, start: u64) -> [u64; 46]
+    requires { ⌜ start ≡ logstartOf g ⌝ }
+    ensures { λ r. ⌜ r ≡ numbers g s ⌝ }
+{
+    let f = g.features;
+    let bs = wide32(g.blocksize);
+    let version = version_of(large_sector(g.sectsize, g.lsectsize));
+    let rext = wide32(rext_of(g.blocksize));
+    let align = align_of(f.sparse, g.inodesize, bs);
+    let dirlog = wide8(minus_u8(g.dirblocklog, g.blocklog));
+    let sunit = wide32(logsunit_of(lsunit_of(g.lsectsize, g.blocksize)));
+    let ro = ro_of(f);
+    let incompat = in_of(f);
+    let spino = spino_of(f.sparse, g.inodesize, bs);
+    let progress = bit_of(s.inprogress);
+    [
+        MAGIC,
+        wide32(g.blocksize),
+        g.dblocks,
+        0,
+        0,
+        start,
+        s.rootino,
+        s.rbmino,
+        s.rsumino,
+        rext,
+        g.agsize,
+        g.agcount,
+        0,
+        g.logblocks,
+        version,
+        wide32(g.sectsize),
+        wide32(g.inodesize),
+        wide32(g.inopblock),
+        wide8(g.blocklog),
+        wide8(g.sectlog),
+        wide8(g.inodelog),
+        wide8(g.inopblog),
+        wide8(g.agblklog),
+        0,
+        progress,
+        wide8(g.imaxpct),
+        s.icount,
+        s.ifree,
+        s.fdblocks,
+        0,
+        0,
+        0,
+        align,
+        0,
+        0,
+        dirlog,
+        sunit,
+        FEATURES2,
+        FEATURES2,
+        0,
+        ro,
+        incompat,
+        0,
+        spino,
+        0,
+        0,
+    ]
+}
+
+// The superblock in a sector that is long enough.
+fn fill(g: Geometry, s: SbState, sector: &mut [u8])
+    requires { ⌜ (264 ≤ length (now sector)) × ((g .agblklog < 64) × (g .logagno * 2 ^ g .agblklog + g .«log_agbno» < 2 ^ 64)) × (g .lsectsize < 2 ^ 16) ⌝ }
+    ensures { λ r. ⌜ now (sector .exit) ≡ sbBytes g s (now (sector .entry)) ⌝ }
+{
+    let start = log_start(g.agblklog, g.logagno, g.log_agbno);
+    let v = all_numbers(g, s, start);
+    let uuid = s.uuid;
+    let label = g.label;
+    let large = large_sector(g.sectsize, g.lsectsize);
+    put_numbers(sector, &v);
+    put_names(sector, &uuid, &label);
+    put_log_sector(sector, large, g.lsectlog, g.lsectsize as u16);
+    crc::stamp(sector, CRC);
+}
+
+// One superblock: its named bytes and its checksum; every other byte of the sector stays. 31 for a geometry that is no answer of the
+// geometry step, 27 unless the sector has its length.
+pub fn encode(g: Geometry, s: SbState, sector: &mut [u8]) -> u32
+    ensures { λ r. ⌜ Written (sbNumber g (length (now (sector .entry)))) (sbBytes g s (now (sector .entry))) (now (sector .entry)) r (now (sector .exit)) ⌝ }
+{
+    if is_answer(g) {
+        if sector.len() == (g.sectsize as usize) {
+            fill(g, s, sector);
+            return 0;
+        }
+        return endian::WRONG_LENGTH;
+    }
+    NO_ANSWER
+}
+
+// sb_versionnum of a geometry; 31 for one that is no answer of the geometry step, here and in the next three.
+pub fn versionnum(g: Geometry) -> Value64
+    ensures { λ r. ⌜ r ≡ known64 (isAnswer g) (versionOf g) ⌝ }
+{
+    let version = version_of(large_sector(g.sectsize, g.lsectsize));
+    known_64(g, version)
+}
+
+// sb_features2, and sb_bad_features2.
+pub fn features2(g: Geometry) -> Value64
+    ensures { λ r. ⌜ r ≡ known64 (isAnswer g) features2Bits ⌝ }
+{
+    known_64(g, FEATURES2)
+}
+
+// sb_features_ro_compat.
+pub fn ro_compat(g: Geometry) -> Value64
+    ensures { λ r. ⌜ r ≡ known64 (isAnswer g) (roCompat (g .features)) ⌝ }
+{
+    let f = g.features;
+    known_64(g, ro_of(f))
+}
+
+// sb_features_incompat.
+pub fn incompat(g: Geometry) -> Value64
+    ensures { λ r. ⌜ r ≡ known64 (isAnswer g) (inCompat (g .features)) ⌝ }
+{
+    let f = g.features;
+    known_64(g, in_of(f))
+}
