@@ -1,3 +1,4 @@
 pub mod Orders
 pub mod Slots
 pub mod Held
+pub mod Ring

@@ -80,7 +80,7 @@ slot-turn n first i list xs ys zs pos lt e d =
 pub slot-room : (n j len : ℕ) → j < n → n ≡ (len - 36) / 4 → 36 ≤ len → 36 + 4 * j + 4 ≤ len
 slot-room n j len h e l = omega arith
 
-length-run : (vs : List ℕ) → length (runBytes 4 vs) ≡ 4 * length vs
+pub length-run : (vs : List ℕ) → length (runBytes 4 vs) ≡ 4 * length vs
 unfolding runBytes beBytes
 length-run [] = refl
 length-run (v ∷ vs) =

@@ -14,24 +14,32 @@ pub const AGFL_MAGIC: u64 = 0x5841_464c;
 // The refusal of a list of more than 64.
 pub const TOO_MANY: u32 = 34;
 
-// The offsets of the UUID, of the checksum and of the first slot.
-pub const UUID: usize = 8;
+// Offsets in `struct xfs_agfl`; the slots start at the last.
+pub mod off {
+    pub const MAGICNUM: usize = 0;
 
-pub const CRC: usize = 32;
+    pub const SEQNO: usize = 4;
 
-pub const BNO: usize = 36;
+    pub const UUID: usize = 8;
+
+    pub const LSN: usize = 24;
+
+    pub const CRC: usize = 32;
+
+    pub const BNO: usize = 36;
+}
 
 // The first `count` blocks of `list` go into the slots of `sector`, the first into slot `first`, and around at the end.
 fn put_slots(sector: &mut [u8], first: u32, list: [u32; 64], count: usize)
     requires { ⌜ (count ≤ 64) × (512 ≤ length (now sector)) ⌝ }
     ensures { λ _. ⌜ now (sector .exit) ≡ patch 36 (runBytes 4 (placed (slotsOf (length (now (sector .entry)))) first (take count list) (replicate (slotsOf (length (now (sector .entry)))) null32))) (now (sector .entry)) ⌝ }
 {
-    let slots = (sector.len() - BNO) / 4;
-    endian::put_same(sector, BNO, 4 * slots, 255);
+    let slots = (sector.len() - off::BNO) / 4;
+    endian::put_same(sector, off::BNO, 4 * slots, 255);
     let mut i = 0;
     while i < count {
         let slot = (first as usize + i) % slots;
-        endian::put32(sector, BNO + 4 * slot, list[i]);
+        endian::put32(sector, off::BNO + 4 * slot, list[i]);
         i += 1;
     }
 }
@@ -40,10 +48,10 @@ fn put_header(sector: &mut [u8], seqno: u32, uuid: &[u8; 16])
     requires { ⌜ 512 ≤ length (now sector) ⌝ }
     ensures { λ _. ⌜ now (sector .exit) ≡ write (agflHeader seqno (now (uuid .entry))) (now (sector .entry)) ⌝ }
 {
-    let at: [usize; 6] = [0, 4, 4, 4, 24, 8];
+    let at: [usize; 6] = [off::MAGICNUM, 4, off::SEQNO, 4, off::LSN, 8];
     let v: [u64; 3] = [AGFL_MAGIC, seqno as u64, 0];
     endian::put_all(sector, &at, &v);
-    endian::put_bytes(sector, UUID, uuid);
+    endian::put_bytes(sector, off::UUID, uuid);
 }
 
 // The header, the first `count` blocks of `list` from slot `first` on, and every other slot null. 27 unless the sector is one, 34 above 64.
@@ -65,6 +73,6 @@ pub fn encode_agfl(
     }
     put_header(sector, seqno, uuid);
     put_slots(sector, first, list, count);
-    crc::stamp(sector, CRC);
+    crc::stamp(sector, off::CRC);
     0
 }

@@ -119,3 +119,16 @@ module _ (magic daddr agno : ℕ) (uuid recs : List ℕ) (numrecs len : ℕ) (u 
   pub leaf-numrecs : numrecs < 2 ^ 16 → beAt 2 6 (leafBytes magic daddr agno uuid recs numrecs len) ≡ numrecs
   unfolding leafFields leafHeader
   leaf-numrecs = read-number (leafFields magic daddr agno uuid recs numrecs) (leafBytes magic daddr agno uuid recs numrecs len) leaf-holds 2 6 2 numrecs (lit< tt) refl
+
+leaf-places : (r r' : List ℕ) → length r ≡ length r' → spans (leafFields 0 0 0 (replicate 16 0) r 0) ≡ spans (leafFields 0 0 0 (replicate 16 0) r' 0)
+unfolding leafFields leafHeader beBytes
+leaf-places r r' e = rw e refl
+
+-- Leaf blocks of equal bytes with records of equal length have equal fields.
+pub leaf-injective : (m d a n m' d' a' n' len : ℕ) (u r u' r' : List ℕ) → length u ≡ 16 → length u' ≡ 16 → length r ≡ length r' → 56 + length r ≤ len
+    → leafBytes m d a u r n len ≡ leafBytes m' d' a' u' r' n' len → leafFields m d a u r n ≡ leafFields m' d' a' u' r' n'
+leaf-injective m d a n m' d' a' n' len u r u' r' eu eu' er fits e =
+    let fits' : 56 + length r' ≤ len = omega arith in
+    let same = leaf-stands m d a u r n len eu fits ∙ leaf-places r r' er ∙ sym (leaf-stands m' d' a' u' r' n' len eu' fits') in
+    one-reading (leafFields m d a u r n) (leafFields m' d' a' u' r' n') (leafBytes m d a u r n len) same (leaf-holds m d a u r n len eu fits)
+    (λ k h. ap (λ (l : List ℕ). part (nth (leafFields m' d' a' u' r' n') k .at) (length (nth (leafFields m' d' a' u' r' n') k .bytes)) l) e ∙ leaf-holds m' d' a' u' r' n' len eu' fits' k h)

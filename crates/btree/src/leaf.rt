@@ -7,18 +7,53 @@ ghost use Rattle.structs.specs.Written.{Written};
 ghost use Rattle.btree.specs.Leaf.{leafNumber, leafHeader, leafBytes};
 use structs::is_block;
 
-// The offsets of the UUID, of the checksum and of the records.
-pub const UUID: usize = 32;
+// Offsets in the header of a leaf block; the records start at the last.
+pub mod off {
+    pub const MAGIC: usize = 0;
 
-pub const CRC: usize = 52;
+    pub const LEVEL: usize = 4;
 
-pub const RECS: usize = 56;
+    pub const NUMRECS: usize = 6;
+
+    pub const LEFTSIB: usize = 8;
+
+    pub const RIGHTSIB: usize = 12;
+
+    pub const BLKNO: usize = 16;
+
+    pub const LSN: usize = 24;
+
+    pub const UUID: usize = 32;
+
+    pub const OWNER: usize = 48;
+
+    pub const CRC: usize = 52;
+
+    pub const RECS: usize = 56;
+}
 
 fn put_header(magic: u32, daddr: u64, agno: u32, uuid: &[u8; 16], numrecs: u16, block: &mut [u8])
     requires { ⌜ 1024 ≤ length (now block) ⌝ }
     ensures { λ _. ⌜ now (block .exit) ≡ write (leafHeader magic daddr agno (now (uuid .entry)) numrecs) (now (block .entry)) ⌝ }
 {
-    let at: [usize; 16] = [0, 4, 4, 2, 6, 2, 8, 4, 12, 4, 16, 8, 24, 8, 48, 4];
+    let at: [usize; 16] = [
+        off::MAGIC,
+        4,
+        off::LEVEL,
+        2,
+        off::NUMRECS,
+        2,
+        off::LEFTSIB,
+        4,
+        off::RIGHTSIB,
+        4,
+        off::BLKNO,
+        8,
+        off::LSN,
+        8,
+        off::OWNER,
+        4,
+    ];
     let v: [u64; 8] = [
         magic as u64,
         0,
@@ -30,7 +65,7 @@ fn put_header(magic: u32, daddr: u64, agno: u32, uuid: &[u8; 16], numrecs: u16, 
         agno as u64,
     ];
     endian::put_all(block, &at, &v);
-    endian::put_bytes(block, UUID, uuid);
+    endian::put_bytes(block, off::UUID, uuid);
 }
 
 // The header, the records, which are encoded already, zeros behind them, and the checksum over the block. 27 unless the block is one,
@@ -49,12 +84,12 @@ pub fn leaf_block(
     if !is_block(block.len()) {
         return endian::WRONG_LENGTH;
     }
-    if !endian::inside(block.len(), RECS, recs.len()) {
+    if !endian::inside(block.len(), off::RECS, recs.len()) {
         return crate::records::TOO_MANY_RECORDS;
     }
     endian::put_same(block, 0, block.len(), 0);
     put_header(magic, daddr, agno, uuid, numrecs, block);
-    endian::put_bytes(block, RECS, recs);
-    crc::stamp(block, CRC);
+    endian::put_bytes(block, off::RECS, recs);
+    crc::stamp(block, off::CRC);
     0
 }

@@ -14,7 +14,7 @@ use Rattle.crc.specs.Crc.{stamped}
 use Rattle.structs.specs.Written.{require}
 use Rattle.structs.proofs.Written.{passed}
 use Rattle.structs.proofs.Reading.{write-append}
-use Rattle.inode.specs.declared.time.Timestamp.{Timestamp}
+use Rattle.params.specs.declared.Timestamp.{Timestamp}
 use Rattle.inode.specs.declared.dinode.Dinode.{Dinode}
 use Rattle.inode.specs.Time.{timeInside, timeRaw, accepted, StoredAs}
 use Rattle.inode.specs.Dinode.{isBig, inside, raw, orElse, timesNumber, TimesAs, coreFields, dinodeFields, dinodeBytes}

@@ -13,7 +13,7 @@ use Rattle.crc.proofs.Laws.{read-stamped}
 use Rattle.structs.specs.Holds.{Holds}
 use Rattle.structs.proofs.Reading.{read-number}
 use Rattle.structs.proofs.Rising.{rises-tidy}
-use Rattle.inode.specs.declared.time.Timestamp.{Timestamp}
+use Rattle.params.specs.declared.Timestamp.{Timestamp}
 use Rattle.inode.specs.declared.dinode.Dinode.{Dinode}
 use Rattle.inode.specs.Dinode.{dinodeFields, dinodeBytes, freeFields, freeBytes}
 

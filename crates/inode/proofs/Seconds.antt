@@ -13,7 +13,7 @@ use mir.ValLaws.{toZ-pos, toZ-ofZ}
 use borrow.Author.Tests.{lt-ltb, le-ltb, le-leb, lt-leb, ltb-true, ltb-false, leb-true, leb-false}
 use Rattle.structs.specs.Written.{require}
 use Rattle.inode.specs.Time.{outOfRange, second, epoch, notEarly, shifted, in32, timeInside, timeRaw, timeNumber, accepted, StoredAs, storable, Inside, signed32, decoded}
-use Rattle.inode.specs.declared.time.Timestamp.{Timestamp}
+use Rattle.params.specs.declared.Timestamp.{Timestamp}
 
 never : {A : Type 0} → false ≡ true → A
 never e = absurd (subst T (sym e) tt)

@@ -10,7 +10,7 @@ use Rattle.endian.specs.Fields.{Field, field, run, write}
 use Rattle.crc.specs.Crc.{stamped}
 use Rattle.structs.specs.Sizes.{isInode}
 use Rattle.structs.specs.Written.{null32, require}
-use Rattle.inode.specs.declared.time.Timestamp.{Timestamp}
+use Rattle.params.specs.declared.Timestamp.{Timestamp}
 use Rattle.inode.specs.declared.dinode.Dinode.{Dinode}
 use Rattle.inode.specs.Time.{outOfRange, timeInside, timeRaw, accepted}
 

@@ -6,7 +6,7 @@ use Prim.Native.Nat.{ℕ, suc, _+_, _-_, _*_, _/_, _%_, _^_}
 use lib.Dec.{leb, ltb, eqb}
 use lib.IntN.{ℤ, pos, negsuc, _-ℤ_}
 use Rattle.structs.specs.Written.{require}
-use Rattle.inode.specs.declared.time.Timestamp.{Timestamp}
+use Rattle.params.specs.declared.Timestamp.{Timestamp}
 
 -- the refusal of a time out of range
 abbrev pub outOfRange : ℕ

@@ -8,20 +8,66 @@ ghost use Rattle.endian.specs.Fields.{write};
 ghost use Rattle.structs.specs.Sizes.{isInode};
 ghost use Rattle.structs.specs.Written.{Written};
 ghost use Rattle.inode.specs.Dinode.{isBig, orElse, TimesAs, coreFields, dinodeNumber, dinodeBytes, freeNumber, freeFields, freeBytes};
-use crate::time::Timestamp;
 use crate::time::encode_time;
+use params::Timestamp;
 use structs::is_inode;
 
 // "IN"
 pub const MAGIC: u64 = 0x494e;
 
+// The version of the inode, and the format of a fork of extents, as numbers of the table.
+const VERSION: u64 = 3;
+
+const EXTENTS: u64 = 2;
+
+// No next unlinked inode: `structs::NULL32`, at the width of the table's numbers.
+const NO_INODE: u64 = 0xffff_ffff;
+
 // The size of the inode core, in bytes; the data fork starts behind it.
 pub const CORE_SIZE: usize = 176;
 
-// The offsets of the checksum and of the UUID.
-pub const CRC: usize = 100;
+// Offsets in `struct xfs_dinode`.
+pub mod off {
+    pub const MAGIC: usize = 0;
 
-pub const UUID: usize = 160;
+    pub const MODE: usize = 2;
+
+    pub const VERSION: usize = 4;
+
+    pub const FORMAT: usize = 5;
+
+    pub const NLINK: usize = 16;
+
+    pub const ATIME: usize = 32;
+
+    pub const MTIME: usize = 40;
+
+    pub const CTIME: usize = 48;
+
+    pub const SIZE: usize = 56;
+
+    pub const FORKOFF: usize = 82;
+
+    pub const AFORMAT: usize = 83;
+
+    pub const FLAGS: usize = 90;
+
+    pub const GEN: usize = 92;
+
+    pub const NEXT_UNLINKED: usize = 96;
+
+    pub const CRC: usize = 100;
+
+    pub const CHANGECOUNT: usize = 104;
+
+    pub const FLAGS2: usize = 120;
+
+    pub const CRTIME: usize = 144;
+
+    pub const INO: usize = 152;
+
+    pub const UUID: usize = 160;
+}
 
 // The formats of a fork.
 pub mod format {
@@ -135,47 +181,47 @@ fn put_core(
     ensures { λ _. ⌜ now (slot .exit) ≡ write (coreFields mode format nlink (t .atime) (t .mtime) (t .ctime) size flags generation changecount flags2 (t .crtime) ino) (now (slot .entry)) ⌝ }
 {
     let at: [usize; 36] = [
-        0,
+        off::MAGIC,
         2,
+        off::MODE,
         2,
+        off::VERSION,
+        1,
+        off::FORMAT,
+        1,
+        off::NLINK,
+        4,
+        off::ATIME,
+        8,
+        off::MTIME,
+        8,
+        off::CTIME,
+        8,
+        off::SIZE,
+        8,
+        off::FORKOFF,
+        1,
+        off::AFORMAT,
+        1,
+        off::FLAGS,
         2,
+        off::GEN,
         4,
-        1,
-        5,
-        1,
-        16,
+        off::NEXT_UNLINKED,
         4,
-        32,
+        off::CHANGECOUNT,
         8,
-        40,
+        off::FLAGS2,
         8,
-        48,
+        off::CRTIME,
         8,
-        56,
-        8,
-        82,
-        1,
-        83,
-        1,
-        90,
-        2,
-        92,
-        4,
-        96,
-        4,
-        104,
-        8,
-        120,
-        8,
-        144,
-        8,
-        152,
+        off::INO,
         8,
     ];
     let v: [u64; 18] = [
         MAGIC,
         mode as u64,
-        3,
+        VERSION,
         format as u64,
         nlink as u64,
         t.atime,
@@ -183,10 +229,10 @@ fn put_core(
         t.ctime,
         size,
         0,
-        2,
+        EXTENTS,
         flags as u64,
         generation as u64,
-        0xffff_ffff,
+        NO_INODE,
         changecount,
         flags2,
         t.crtime,
@@ -226,9 +272,9 @@ impl Dinode {
             self.ino,
             t,
         );
-        endian::put_bytes(slot, UUID, uuid);
+        endian::put_bytes(slot, off::UUID, uuid);
         endian::put_bytes(slot, CORE_SIZE, data);
-        crc::stamp(slot, CRC);
+        crc::stamp(slot, off::CRC);
         0
     }
 }
@@ -240,10 +286,21 @@ pub fn encode_free(ino: u64, generation: u32, uuid: &[u8; 16], slot: &mut [u8]) 
     if !is_inode(slot.len()) {
         return endian::WRONG_LENGTH;
     }
-    let at: [usize; 10] = [0, 2, 4, 1, 92, 4, 96, 4, 152, 8];
-    let v: [u64; 5] = [MAGIC, 3, generation as u64, 0xffff_ffff, ino];
+    let at: [usize; 10] = [
+        off::MAGIC,
+        2,
+        off::VERSION,
+        1,
+        off::GEN,
+        4,
+        off::NEXT_UNLINKED,
+        4,
+        off::INO,
+        8,
+    ];
+    let v: [u64; 5] = [MAGIC, VERSION, generation as u64, NO_INODE, ino];
     endian::put_all(slot, &at, &v);
-    endian::put_bytes(slot, UUID, uuid);
-    crc::stamp(slot, CRC);
+    endian::put_bytes(slot, off::UUID, uuid);
+    crc::stamp(slot, off::CRC);
     0
 }

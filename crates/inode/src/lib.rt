@@ -8,6 +8,5 @@ pub use dinode::encode_free;
 pub use directory::SfDir;
 pub use directory::empty_sf_dir;
 pub use time::Stored;
-pub use time::Timestamp;
 pub use time::decode_time;
 pub use time::encode_time;

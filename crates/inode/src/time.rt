@@ -4,17 +4,12 @@ ghost use Prim.Native.Nat.{_+_, _*_, _%_, _^_, _≤_, _<_};
 ghost use lib.Dec.{ltb};
 ghost use Rattle.structs.specs.Written.{require};
 ghost use Rattle.inode.specs.Time.{Inside, StoredAs, accepted, decoded};
+use params::Timestamp;
 
 // The refusal of a time that is out of range.
 pub const TIME_OUT_OF_RANGE: u32 = 26;
 
 pub const NANOSECONDS: u64 = 1_000_000_000;
-
-// Seconds since 1970 and nanoseconds.
-pub struct Timestamp {
-    pub secs: i64,
-    pub nsecs: u32,
-}
 
 // What an inode stores of a time; `number` is 0, or 26 and the value 0.
 pub struct Stored {

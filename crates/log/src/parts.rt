@@ -26,8 +26,34 @@ pub const CLIENT_LOG: u8 = 0xaa;
 
 pub const UNMOUNT_TRANS: u8 = 0x20;
 
-// The offset of `h_fs_uuid` in `struct xlog_rec_header`.
-const FS_UUID: usize = 304;
+// Offsets in `struct xlog_rec_header`.
+pub mod off {
+    pub const MAGICNO: usize = 0;
+
+    pub const CYCLE: usize = 4;
+
+    pub const VERSION: usize = 8;
+
+    pub const LEN: usize = 12;
+
+    pub const LSN: usize = 16;
+
+    pub const TAIL_LSN: usize = 24;
+
+    pub const CRC: usize = 32;
+
+    pub const PREV_BLOCK: usize = 36;
+
+    pub const NUM_LOGOPS: usize = 40;
+
+    pub const CYCLE_DATA: usize = 44;
+
+    pub const FMT: usize = 300;
+
+    pub const FS_UUID: usize = 304;
+
+    pub const SIZE: usize = 320;
+}
 
 fn larger(a: u64, b: u64) -> u64
     ensures { λ r. ⌜ r ≡ max a b ⌝ }
@@ -62,29 +88,29 @@ pub(crate) fn header(rec: &mut [u8], uuid: &[u8; 16], sunit: u32, lsn: u64, tail
     let len = larger(1024, unit) - 512 * hdrs;
     let size = larger(unit, BIG_RECORD_BSIZE);
     let at: [usize; 24] = [
-        0,
+        off::MAGICNO,
         4,
+        off::CYCLE,
         4,
+        off::VERSION,
         4,
+        off::LEN,
+        4,
+        off::LSN,
         8,
-        4,
-        12,
-        4,
-        16,
+        off::TAIL_LSN,
         8,
-        24,
-        8,
-        32,
+        off::CRC,
         4,
-        36,
+        off::PREV_BLOCK,
         4,
-        40,
+        off::NUM_LOGOPS,
         4,
-        44,
+        off::CYCLE_DATA,
         4,
-        300,
+        off::FMT,
         4,
-        320,
+        off::SIZE,
         4,
     ];
     let v: [u64; 12] = [
@@ -102,7 +128,7 @@ pub(crate) fn header(rec: &mut [u8], uuid: &[u8; 16], sunit: u32, lsn: u64, tail
         size,
     ];
     endian::put_all(rec, &at, &v);
-    endian::put_bytes(rec, FS_UUID, uuid);
+    endian::put_bytes(rec, off::FS_UUID, uuid);
 }
 
 // The cycle goes into the first word of each basic block from `from` up to, not including, `to`.
