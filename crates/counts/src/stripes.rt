@@ -23,19 +23,14 @@ pub fn bs(g: Geometry) -> Value64
 pub fn rext_of(block: u32) -> u32
     ensures { λ r. ⌜ r ≡ rextSize block ⌝ }
 {
-    pick_u32(block < 4096, quotient_u32(4096, block), 1)
+    pick_u32(block < Geometry::MIN_RTEXTSIZE, quotient_u32(Geometry::MIN_RTEXTSIZE, block), 1)
 }
 
 // Blocks of a realtime extent.
 pub fn rextsize(g: Geometry) -> Value32
     ensures { λ r. ⌜ r ≡ known32 (isAnswer g) (rextSize (g .blocksize)) ⌝ }
 {
-<<<<<<< HEAD
     let extent = rext_of(g.blocksize);
-=======
-    let blocks = quotient_u32(Geometry::MIN_RTEXTSIZE, g.blocksize);
-    let extent = pick_u32(g.blocksize < Geometry::MIN_RTEXTSIZE, blocks, 1);
->>>>>>> geometry
     known_32(g, extent)
 }
 
@@ -43,18 +38,14 @@ pub fn rextsize(g: Geometry) -> Value32
 pub fn lsunit_of(lsector: u32, block: u32) -> u32
     ensures { λ r. ⌜ r ≡ lsunitBytes lsector block ⌝ }
 {
-    pick_u32(512 < lsector, block, 0)
+    pick_u32(Geometry::LOG_HEADER_SIZE < lsector, block, 0)
 }
 
 // Bytes of the log stripe unit, 0 for none.
 pub fn lsunit_bytes(g: Geometry) -> Value32
     ensures { λ r. ⌜ r ≡ known32 (isAnswer g) (lsunitBytes (g .lsectsize) (g .blocksize)) ⌝ }
 {
-<<<<<<< HEAD
     let unit = lsunit_of(g.lsectsize, g.blocksize);
-=======
-    let unit = pick_u32(Geometry::LOG_HEADER_SIZE < g.lsectsize, g.blocksize, 0);
->>>>>>> geometry
     known_32(g, unit)
 }
 
@@ -69,11 +60,6 @@ pub fn logsunit_of(unit: u32) -> u32
 pub fn logsunit(g: Geometry) -> Value32
     ensures { λ r. ⌜ r ≡ known32 (isAnswer g) (logsunitOf (lsunitBytes (g .lsectsize) (g .blocksize))) ⌝ }
 {
-<<<<<<< HEAD
     let stored = logsunit_of(lsunit_of(g.lsectsize, g.blocksize));
-=======
-    let unit = pick_u32(Geometry::LOG_HEADER_SIZE < g.lsectsize, g.blocksize, 0);
-    let stored = pick_u32(unit == 0, 1, unit);
->>>>>>> geometry
     known_32(g, stored)
 }
