@@ -23,7 +23,11 @@ pub fn bs(g: Geometry) -> Value64
 pub fn rext_of(block: u32) -> u32
     ensures { λ r. ⌜ r ≡ rextSize block ⌝ }
 {
-    pick_u32(block < Geometry::MIN_RTEXTSIZE, quotient_u32(Geometry::MIN_RTEXTSIZE, block), 1)
+    pick_u32(
+        block < Geometry::MIN_RTEXTSIZE,
+        quotient_u32(Geometry::MIN_RTEXTSIZE, block),
+        1,
+    )
 }
 
 // Blocks of a realtime extent.
