@@ -5,14 +5,13 @@ use mathlib.Core.Path.{_≡_, refl, sym, ap, _∙_}
 use mathlib.Core.Bool.{Bool, true, false}
 use Prim.Native.Nat.{ℕ, _+_, _*_, _-_, _/_, _%_, _^_, _≤_, _<_}
 use native.Mathlib.Omega.{arith}
-use native.Mathlib.Nat.{one-mul, add-zero, mul-comm, mul-assoc, mul-add-div-right, mul-add-mod-self-right, div-eq-of-lt, mod-eq-of-lt, eq-of-mul-eq-mul-right, le-div-iff-mul-le, le-trans}
+use native.Mathlib.Nat.{one-mul, add-zero, mul-comm, mul-assoc, mul-add-div-right, mul-add-mod-self-right, div-eq-of-lt, mod-eq-of-lt, eq-of-mul-eq-mul-right, le-div-iff-mul-le}
 use borrow.Author.Tests.{eq-eqb, leb-true, leb-false}
 use lib.Dec.{leb}
 use lib.ListN.{length}
-use lib.Pow.{pow-mono, pow-pos}
+use lib.Pow.{pow-mono}
 use Rattle.geometry.specs.declared.Geometry.{Geometry}
-use Rattle.answers.specs.Named.{isAnswer}
-use Rattle.layout.specs.Places.{groupBlocks, fsbOf, inoOf, before, daddrOf, byteOf}
+use Rattle.layout.specs.Places.{fsbOf, before, daddrOf, byteOf}
 use Rattle.layout.specs.Bounds.{Bounds}
 use Rattle.layout.proofs.Wide.{whole-blocks}
 use Rattle.layout.proofs.Bounding.{answer-bounds}

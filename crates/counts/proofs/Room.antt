@@ -1,16 +1,15 @@
 -- Head, free list and alignment of any sizes are far below 64 bits.
 -- Assumes nothing.
-use mathlib.Core.Path.{_≡_}
 use mathlib.Core.Bool.{Bool, true, false}
-use Prim.Native.Nat.{ℕ, _+_, _*_, _/_, _^_, _≤_, _<_}
+use Prim.Native.Nat.{ℕ, _+_, _*_, _/_, _≤_, _<_}
 use native.Mathlib.Omega.{arith}
-use native.Mathlib.Nat.{div-le-self, div-mul-le-self, le-trans}
-use Rattle.arith.specs.Choice.{when, bit}
+use native.Mathlib.Nat.{div-le-self, div-mul-le-self}
+use Rattle.arith.specs.Choice.{when}
 use Rattle.arith.proofs.Laws.{bit-le}
 use Rattle.params.specs.declared.Features.{Features}
-use Rattle.geometry.specs.Log.{headerOf, preallocOf}
+use Rattle.geometry.specs.Log.{preallocOf}
 use Rattle.geometry.proofs.Header.{header-le}
-use Rattle.layout.specs.Places.{freelistOf, chunkOf, clusterOf, alignOf}
+use Rattle.layout.specs.Places.{chunkOf, clusterOf, alignOf}
 
 pub prealloc-le : (f : Features) (s b : ℕ) → preallocOf f s b ≤ 4 * s + 6
 unfolding preallocOf

@@ -20,7 +20,7 @@ use params::Features;
 pub fn chunk_of(inode: u32, bs: u64) -> u64
     ensures { λ r. ⌜ r ≡ chunkOf inode bs ⌝ }
 {
-    let bytes = 64 * (inode as u64);
+    let bytes = Geometry::INODES_PER_CHUNK * (inode as u64);
     quotient(bytes, bs)
 }
 
@@ -37,7 +37,7 @@ pub fn chunk_blocks(g: Geometry) -> Value64
 pub fn cluster_of(inode: u32, bs: u64) -> u64
     ensures { λ r. ⌜ r ≡ clusterOf inode bs ⌝ }
 {
-    let bytes = 8192 * ((inode / Geometry::DINODE_MIN_SIZE) as u64);
+    let bytes = Geometry::INODE_BIG_CLUSTER_SIZE * ((inode / Geometry::DINODE_MIN_SIZE) as u64);
     quotient(bytes, bs)
 }
 

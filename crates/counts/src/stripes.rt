@@ -23,7 +23,11 @@ pub fn bs(g: Geometry) -> Value64
 pub fn rext_of(block: u32) -> u32
     ensures { λ r. ⌜ r ≡ rextSize block ⌝ }
 {
-    pick_u32(block < 4096, quotient_u32(4096, block), 1)
+    pick_u32(
+        block < Geometry::MIN_RTEXTSIZE,
+        quotient_u32(Geometry::MIN_RTEXTSIZE, block),
+        1,
+    )
 }
 
 // Blocks of a realtime extent.
@@ -38,7 +42,7 @@ pub fn rextsize(g: Geometry) -> Value32
 pub fn lsunit_of(lsector: u32, block: u32) -> u32
     ensures { λ r. ⌜ r ≡ lsunitBytes lsector block ⌝ }
 {
-    pick_u32(512 < lsector, block, 0)
+    pick_u32(Geometry::LOG_HEADER_SIZE < lsector, block, 0)
 }
 
 // Bytes of the log stripe unit, 0 for none.

@@ -1,7 +1,7 @@
 -- The geometry step: what is chosen, every refusal, and the answer.
 -- Assumes nothing.
 use mathlib.Core.Bool.{Bool, false, cond, _&&_, not}
-use mathlib.Core.List.{List, [], _∷_, _++_}
+use mathlib.Core.List.{List, _∷_, _++_}
 use Prim.Native.Nat.{ℕ, _-_, _/_, min}
 use lib.Dec.{ltb, eqb}
 use lib.ListN.{take, replicate}

@@ -57,10 +57,10 @@ fn default_size(bs: u64, d: u64) -> u64
     ensures { λ r. ⌜ r ≡ defaultSize bs d ⌝ }
 {
     let most = ag_max_blocks(bs);
-    let groups = pick_u64(quotient(0x200_0000, bs) <= d, 2, 1);
-    let groups = pick_u64(quotient(0x400_0000, bs) <= d, 4, groups);
+    let groups = pick_u64(quotient(Geometry::TWO_GROUP_BYTES, bs) <= d, 2, 1);
+    let groups = pick_u64(quotient(Geometry::FOUR_GROUP_BYTES, bs) <= d, 4, groups);
     let part = min_u64(most, div_ceil(d, groups));
-    pick_u64(quotient(4 * Geometry::TIB, bs) <= d, most, part)
+    pick_u64(quotient(Geometry::LARGE_BYTES, bs) <= d, most, part)
 }
 
 // Groups of s blocks over d blocks.

@@ -59,9 +59,19 @@ pub struct Computed {
 impl Geometry {
     pub const DINODE_MIN_SIZE: u32 = 256; // bytes
 
-    pub const INODE_BIG_CLUSTER_SIZE: u32 = 8192; // bytes
+    pub const INODE_BIG_CLUSTER_SIZE: u64 = 8192; // bytes, for inodes of DINODE_MIN_SIZE
 
-    pub const INODES_PER_CHUNK: u32 = 64;
+    pub const INODES_PER_CHUNK: u64 = 64;
+
+    pub const MIN_DIR_BLOCK: u32 = 4096; // bytes
+
+    pub const MIN_DIR_LOG: u8 = 12; // its logarithm
+
+    pub const MIN_RTEXTSIZE: u32 = 4096; // bytes
+
+    pub const LOG_HEADER_SIZE: u32 = 512; // bytes of a log record header
+
+    pub const BBSIZE: u64 = 512; // bytes of an address unit
 
     pub const MAX_LOG_BLOCKS: u64 = 1024 * 1024; // blocks
 
@@ -79,9 +89,17 @@ impl Geometry {
 
     pub const AG_MIN_BYTES: u64 = 1 << 24;
 
-    pub const AG_MAX_BYTES: u64 = 1 << 40;
+    pub const AG_MAX_BYTES: u64 = Geometry::TIB;
 
-    pub const MAX_AGNUMBER: u64 = 0xffff_fffe;
+    pub const MAX_AGNUMBER: u64 = 0xffff_fffe; // the largest number of groups
+
+    pub const MIN_AGCOUNT: u64 = 2;
+
+    pub const LARGE_BYTES: u64 = 4 * Geometry::TIB; // from here on groups have the largest size
+
+    pub const FOUR_GROUP_BYTES: u64 = 64 * 1024 * 1024; // from here on there are four groups
+
+    pub const TWO_GROUP_BYTES: u64 = 32 * 1024 * 1024; // from here on there are two
 
     pub const ALLOCBT_AGFL_RESERVE: u64 = 4; // blocks
 

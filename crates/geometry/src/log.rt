@@ -71,7 +71,7 @@ pub fn last_refusal(
     ensures { λ r. ⌜ r ≡ first (lastRefusals imaxpct label bs dblocks agsize agcount log) 0 ⌝ }
 {
     let n = first(agcount != div_ceil(dblocks, agsize), 24, 0);
-    let n = first(agcount < 2, 23, n);
+    let n = first(agcount < Geometry::MIN_AGCOUNT, 23, n);
     let n = first(log < quotient(Geometry::REALISTIC_LOG_BYTES, bs), 22, n);
     let n = first(dblocks < quotient(Geometry::MIN_SUPPORTED_BYTES, bs), 21, n);
     let n = first(Geometry::MAX_LABEL < label, 20, n);

@@ -33,7 +33,7 @@ use sizes::sizes_refusal;
 fn padded(bytes: [u8; 12], length: usize) -> [u8; 12]
     ensures { λ r. ⌜ r ≡ labelOf length bytes ⌝ }
 {
-    let n = min_usize(length, 12);
+    let n = min_usize(length, Geometry::MAX_LABEL);
     let mut out = [0u8; 12];
     let mut i: usize = 0;
     while i < n {
@@ -122,7 +122,11 @@ fn built(params: Params, c: Chosen) -> Geometry
         inodelog,
         inopblock: quotient_u32(s.block, s.inode),
         inopblog: minus_u8(blocklog, inodelog),
-        dirblocklog: pick_u8(s.block < 4096, 12, blocklog),
+        dirblocklog: pick_u8(
+            s.block < Geometry::MIN_DIR_BLOCK,
+            Geometry::MIN_DIR_LOG,
+            blocklog,
+        ),
         dblocks: g.dblocks,
         agsize: g.agsize,
         agcount: g.agcount,

@@ -1,17 +1,13 @@
 -- Every answer of the geometry step has the bounds.
 -- Assumes nothing.
 use mathlib.Core.Path.{_≡_, refl, sym, ap, subst, _∙_}
-use mathlib.Core.Bool.{Bool, true, false, not, _&&_}
-use Prim.Native.Nat.{ℕ, _+_, _*_, _-_, _/_, _%_, _^_, _≤_, _<_, min, max}
+use mathlib.Core.Bool.{Bool, true, false}
+use Prim.Native.Nat.{ℕ, _+_, _*_, _-_, _/_, _^_, _≤_, _<_}
 use native.Mathlib.Omega.{arith}
-use native.Mathlib.Nat.{le-div-iff-mul-le, mul-le-mul-left, le-trans, div-le-self, pow-succ'}
+use native.Mathlib.Nat.{le-div-iff-mul-le, mul-le-mul-left, pow-succ'}
 use native.Mathlib.Numerals.{add-one}
-use borrow.Author.Tests.{ltb-false}
-use lib.Dec.{eqb, ltb}
 use lib.ListN.{length}
-use lib.Pow.{pow-mono}
-use Rattle.arith.specs.Numbers.{ceilDiv}
-use Rattle.arith.specs.Powers.{powerLog, log2Up}
+use Rattle.arith.specs.Powers.{powerLog}
 use Rattle.arith.proofs.PowerLaws.{log-power, power-least, power-div}
 use Rattle.arith.proofs.PowerLaws as power
 use Rattle.arith.proofs.Least as least

@@ -1,17 +1,17 @@
 -- A block of a group lies within the block count, and none of its units passes 64 bits.
 -- Assumes nothing.
-use mathlib.Core.Path.{_≡_, refl, sym, ap, subst, _∙_}
+use mathlib.Core.Path.{_≡_, refl, sym, ap, _∙_}
 use mathlib.Core.Bool.{Bool, true, false}
-use Prim.Native.Nat.{ℕ, zero, suc, _+_, _*_, _-_, _/_, _%_, _^_, _≤_, _<_}
+use Prim.Native.Nat.{ℕ, zero, suc, _+_, _*_, _-_, _/_, _^_, _≤_, _<_}
 use native.Mathlib.Omega.{arith}
-use native.Mathlib.Nat.{add-mul, one-mul, mul-le-mul-right, mul-le-mul-left, div-le-self, mul-assoc, mul-comm, mul-le-mul, le-trans, pow-succ'}
+use native.Mathlib.Nat.{add-mul, one-mul, mul-le-mul-right, mul-le-mul-left, div-le-self, mul-assoc, mul-comm, pow-succ'}
 use borrow.Author.Tests.{eqb-true, eqb-false}
 use lib.Dec.{eqb}
-use lib.Pow.{pow-mono, pow-pos}
+use lib.Pow.{pow-mono}
 use Rattle.arith.specs.Choice.{when}
 use Rattle.geometry.specs.declared.Geometry.{Geometry}
 use Rattle.geometry.specs.Limits.{mib}
-use Rattle.layout.specs.Places.{groupBlocks, fsbOf, inoOf, before, daddrOf, byteOf}
+use Rattle.layout.specs.Places.{groupBlocks}
 use Rattle.layout.specs.Bounds.{Bounds}
 use Rattle.layout.proofs.Ceil.{one-more}
 

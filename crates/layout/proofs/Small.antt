@@ -1,13 +1,13 @@
 -- Head, free list and chunk of an answer are small: their blocks for sizes that are accepted.
 -- Assumes nothing.
-use mathlib.Core.Path.{_≡_, refl, sym, ap, _∙_}
+use mathlib.Core.Path.{_≡_, refl}
 use mathlib.Core.Bool.{Bool, true, false}
-use Prim.Native.Nat.{ℕ, _+_, _*_, _-_, _/_, _^_, _≤_, _<_}
+use Prim.Native.Nat.{ℕ, _+_, _*_, _-_, _/_, _≤_, _<_}
 use native.Mathlib.Omega.{arith}
-use native.Mathlib.Nat.{div-le-of-le-mul, div-mul-le-self, le-trans, mul-comm}
-use borrow.Author.Tests.{ltb-true, ltb-false}
+use native.Mathlib.Nat.{div-le-of-le-mul, div-mul-le-self, mul-comm}
+use borrow.Author.Tests.{ltb-true}
 use lib.Dec.{ltb}
-use Rattle.arith.specs.Choice.{when, bit}
+use Rattle.arith.specs.Choice.{when}
 use Rattle.arith.specs.Numbers.{ceilDiv}
 use Rattle.arith.proofs.Laws.{bit-le}
 use Rattle.params.specs.declared.Features.{Features}

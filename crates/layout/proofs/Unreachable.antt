@@ -1,15 +1,15 @@
 -- The two refusals of the source that have no number can't occur.
 -- Assumes nothing.
-use mathlib.Core.Path.{_≡_, refl, sym, ap, _∙_}
+use mathlib.Core.Path.{_≡_, refl, ap, _∙_}
 use mathlib.Core.Bool.{Bool, true, false}
 use Prim.Native.Nat.{ℕ, _+_, _*_, _-_, _/_, _^_, _≤_, _<_, min, max}
 use native.Mathlib.Omega.{arith}
-use native.Mathlib.Nat.{mul-comm, div-div-eq-div-mul, mul-div-mul-right, div-mul-le-self, le-div-iff-mul-le, div-lt-iff-lt-mul}
+use native.Mathlib.Nat.{div-div-eq-div-mul, mul-div-mul-right, le-div-iff-mul-le, div-lt-iff-lt-mul}
 use borrow.Author.Tests.{ltb-true, ltb-false, le-ltb}
 use lib.Dec.{ltb}
 use lib.Pow.{pow-pos}
 use Rattle.arith.specs.Choice.{when}
-use Rattle.geometry.specs.Limits.{minLogBytes, maxLogBytes, maxLogBlocks, logRatio, minBytes}
+use Rattle.geometry.specs.Limits.{minLogBytes, maxLogBytes, maxLogBlocks, logRatio}
 use Rattle.geometry.specs.Log.{logBlocks}
 use Rattle.layout.specs.Places.{usableOf}
 use Rattle.layout.specs.Source.{under300, sourceWanted, sourceLog, logTooLarge}

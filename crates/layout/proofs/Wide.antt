@@ -2,12 +2,12 @@
 -- Assumes nothing.
 use mathlib.Core.Path.{_≡_, refl, sym, ap, subst, _∙_}
 use mathlib.Core.Bool.{Bool, true, false}
-use Prim.Native.Nat.{ℕ, _+_, _*_, _-_, _/_, _^_, _≤_, _<_}
+use Prim.Native.Nat.{ℕ, _+_, _*_, _-_, _/_, _^_, _≤_}
 use native.Mathlib.Omega.{arith}
-use native.Mathlib.Nat.{mul-assoc, mul-div-cancel, mul-le-mul-right, le-trans}
+use native.Mathlib.Nat.{mul-assoc, mul-div-cancel, mul-le-mul-right}
 use borrow.Author.Tests.{leb-true, leb-false}
 use lib.Dec.{leb}
-use lib.Pow.{pow-mono, pow-lt, pow-pos, pow-add}
+use lib.Pow.{pow-lt, pow-pos, pow-add}
 
 order-case : (a b : ℕ) (t : Bool) → leb a b ≡ t → 2 ^ a ≤ 2 ^ b → a ≤ b
 order-case a b true e h = leb-true a b e

@@ -6,7 +6,8 @@ use lib.Dec.{ltb, eqb}
 use Rattle.arith.specs.Choice.{when, bit}
 use Rattle.arith.specs.Numbers.{ceilDiv}
 use Rattle.params.specs.declared.Features.{Features}
-use Rattle.geometry.specs.Log.{headerOf, preallocOf}
+use Rattle.layout.specs.Limits.{agflHeader, agflSlot, agflReserve, rmapFreelist, plainFreelist, chunkInodes, bigCluster, leastInode, realtimeExtent, logHeader, addressUnit}
+use Rattle.geometry.specs.Log.{preallocOf}
 
 -- ---- the head of a group, in blocks from its start: header blocks, roots by block and by count, inode root,
 -- then free inode root, rmap root and reference count root where their features are on
@@ -28,27 +29,27 @@ refcBlock f header = header + 3 + bit (f .finobt) + bit (f .rmapbt)
 
 -- blocks of a group that can be handed out: all but the head and the reserve of 4
 unfoldable pub usableOf : ℕ → ℕ → ℕ
-usableOf agsize prealloc = agsize - (prealloc + 4)
+usableOf agsize prealloc = agsize - (prealloc + agflReserve)
 
 -- ---- the free list
 
--- slots of 4 bytes in its sector, after a header of 36
+-- its slots: what its sector holds after the header
 unfoldable pub agflSize : ℕ → ℕ
-agflSize sector = (sector - 36) / 4
+agflSize sector = (sector - agflHeader) / agflSlot
 
 -- it has 6 blocks with rmapbt, else 4
 unfoldable pub freelistOf : Features → ℕ
-freelistOf f = when (f .rmapbt) 6 4
+freelistOf f = when (f .rmapbt) rmapFreelist plainFreelist
 
 -- ---- inodes
 
 -- blocks of a chunk of 64 inodes
 unfoldable pub chunkOf : ℕ → ℕ → ℕ
-chunkOf inode bs = 64 * inode / bs
+chunkOf inode bs = chunkInodes * inode / bs
 
 -- blocks of an inode cluster: 8192 bytes where inodes have 256, in proportion where they are larger
 unfoldable pub clusterOf : ℕ → ℕ → ℕ
-clusterOf inode bs = 8192 * (inode / 256) / bs
+clusterOf inode bs = bigCluster * (inode / leastInode) / bs
 
 -- the alignment of chunks, in blocks
 unfoldable pub alignOf : Bool → ℕ → ℕ → ℕ
@@ -74,11 +75,11 @@ rootChunkOf f sector inode bs = aligned (preallocOf f sector bs + freelistOf f) 
 
 -- blocks of a realtime extent: 4096 bytes, or one block
 unfoldable pub rextSize : ℕ → ℕ
-rextSize block = when (ltb block 4096) (4096 / block) 1
+rextSize block = when (ltb block realtimeExtent) (realtimeExtent / block) 1
 
 -- bytes of the log stripe unit: one block where the log's sector is above 512 bytes, else none
 unfoldable pub lsunitBytes : ℕ → ℕ → ℕ
-lsunitBytes lsector block = when (ltb 512 lsector) block 0
+lsunitBytes lsector block = when (ltb logHeader lsector) block 0
 
 -- as the superblock has it: 1 for none
 unfoldable pub logsunitOf : ℕ → ℕ
@@ -108,7 +109,7 @@ before s k b = k * s + b
 
 -- its address in units of 512 bytes
 unfoldable pub daddrOf : ℕ → ℕ → ℕ → ℕ → ℕ
-daddrOf bs s k b = before s k b * (bs / 512)
+daddrOf bs s k b = before s k b * (bs / addressUnit)
 
 -- its offset in bytes
 unfoldable pub byteOf : ℕ → ℕ → ℕ → ℕ → ℕ

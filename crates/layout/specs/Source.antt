@@ -1,6 +1,6 @@
 -- The source's own arithmetic for the log, with its two refusals that have no number.
 -- Assumes nothing.
-use mathlib.Core.Bool.{Bool, _&&_}
+use mathlib.Core.Bool.{Bool}
 use Prim.Native.Nat.{ℕ, _*_, _-_, _/_, _^_, min, max}
 use lib.Dec.{ltb}
 use Rattle.arith.specs.Choice.{when}

@@ -28,7 +28,7 @@ use Rattle.geometry.specs.Compute.{withGroups, askedGroups, withSizes, chosenOf
 use Rattle.answers.specs.Named.{namedOptions, namedOn, namesOf}
 use Rattle.geometry.proofs.Answer.{accepted, number-of}
 use Rattle.naming.proofs.AfterTrim.{trim-long, trim-le, not-short, named-groups}
-use Rattle.naming.proofs.Tests.{all-clear, none-again, sizes-part, options-part, groups-part, last-part, sizes-clear, groups-clear, last-clear, groups-of, rest-of, block-pos, some-group, group-pos, bytes-le, group-le}
+use Rattle.naming.proofs.Tests.{all-clear, none-again, sizes-part, options-part, groups-part, last-part, sizes-clear, groups-clear, last-clear, groups-of, rest-of, block-pos, group-pos, bytes-le, group-le}
 
 -- ---- the tests
 

@@ -2,9 +2,9 @@
 -- Assumes nothing.
 use mathlib.Core.Path.{_≡_, refl, ap, sym, _∙_}
 use mathlib.Core.Bool.{Bool, true, false, cond}
-use Prim.Native.Nat.{ℕ, _*_, _^_, _<_}
+use Prim.Native.Nat.{ℕ, _*_, _^_}
 use native.Mathlib.Omega.{arith}
-use borrow.Author.Tests.{eq-eqb, eqb-true, lt-ltb, ltb-true}
+use borrow.Author.Tests.{eqb-true, lt-ltb, ltb-true}
 use lib.Dec.{eqb, ltb}
 use lib.ListN.{length}
 use Rattle.arith.proofs.Both.{both-true, left-true, right-true}
@@ -14,7 +14,7 @@ use Rattle.geometry.specs.declared.Computed.{Computed}
 use Rattle.geometry.specs.Compute.{computeDef, refused}
 use Rattle.answers.specs.Same.{sameGeometry}
 use Rattle.answers.specs.Named.{namedOptions, namedOn, namedFits, namedAnswer, namesOf, isAnswer}
-use Rattle.naming.specs.Answers.{Answered}
+use Rattle.naming.specs.Answers.{Answered, TypedOptions, TypedGeometry, TypedAnswer}
 use Rattle.naming.proofs.Again.{again, bytes, label-kept}
 use Rattle.naming.proofs.Same.{geometry-refl, same-is}
 
@@ -64,7 +64,7 @@ module _ (g : Geometry) (a : Answered g) where
   complete = rw (answer-again, geometry-refl g)
 
 -- what is named, and the same as g, is an answer
-named-answered : (g : Geometry) → length (g .label) ≡ 12 → namedFits (namesOf g) ≡ true → namedOn (namesOf g) 512 .number ≡ 0 → sameGeometry (namedOn (namesOf g) 512 .geometry) g ≡ true → Answered g
+unfoldable pub named-answered : (g : Geometry) → length (g .label) ≡ 12 → namedFits (namesOf g) ≡ true → namedOn (namesOf g) 512 .number ≡ 0 → sameGeometry (namedOn (namesOf g) 512 .geometry) g ≡ true → Answered g
 unfolding namedFits namesOf namedOn namedOptions
 named-answered g label f z s =
     let p = namedOptions (namesOf g) in
@@ -82,7 +82,7 @@ named-answered g label f z s =
     }
 
 -- an answer comes from what it names
-pub sound : (g : Geometry) → length (g .label) ≡ 12 → isAnswer g ≡ true → Answered g
+unfoldable pub sound : (g : Geometry) → length (g .label) ≡ 12 → isAnswer g ≡ true → Answered g
 unfolding isAnswer
 sound g label h =
     let n = namesOf g in
@@ -90,3 +90,35 @@ sound g label h =
     let f : namedFits n ≡ true = accepted-fits n z in
     named-answered g label f (sym (ap (λ (x : Computed). x .number) (fitting n f)) ∙ z)
     (rw (fitting n f) at (right-true (eqb (namedAnswer n .number) 0) _ h))
+
+named-typed : (g : Geometry) → TypedGeometry g → namedFits (namesOf g) ≡ true → TypedOptions (namedOptions (namesOf g))
+unfolding namedOptions namesOf namedFits
+named-typed g t f =
+    record {
+      size = omega arith;
+      block-size = t .blocksize;
+      sector-size = t .sectsize;
+      inode-size = t .inodesize;
+      agcount = omega arith;
+      agsize =
+          ltb-true (g .agsize * g .blocksize) (2 ^ 64) (right-true (ltb (g .dblocks * g .blocksize) (2 ^ 64)) _ f);
+      imaxpct = t .imaxpct;
+      label-length = omega arith;
+      label-size = t .label-size;
+      label-bytes = t .label-bytes;
+    }
+
+typed : (g : Geometry) → TypedGeometry g → isAnswer g ≡ true → TypedAnswer g
+unfolding isAnswer sound named-answered
+typed g t h =
+    let z : namedAnswer (namesOf g) .number ≡ 0 = eqb-true (namedAnswer (namesOf g) .number) 0 (left-true (eqb (namedAnswer (namesOf g) .number) 0) _ h) in
+    record {
+      answered = sound g (t .label-size) h;
+      options = named-typed g t (accepted-fits (namesOf g) z);
+      logical = omega arith;
+      physical = omega arith;
+    }
+
+-- 31 is exact: a geometry passes exactly where some options and some device have it as their accepted answer
+pub exact : (g : Geometry) → TypedGeometry g → (isAnswer g ≡ true → TypedAnswer g) × (Answered g → isAnswer g ≡ true)
+exact g t = (typed g t, complete g)

@@ -11,7 +11,7 @@ use lib.Dec.{eqb}
 use lib.ListN.{length, getD}
 use lib.Seq.{ext-getD}
 use Rattle.arith.specs.Choice.{sameBool}
-use Rattle.arith.proofs.Both.{both-true, left-true, right-true}
+use Rattle.arith.proofs.Both.{left-true, right-true}
 use Rattle.params.specs.declared.Features.{Features}
 use Rattle.geometry.specs.declared.Geometry.{Geometry}
 use Rattle.answers.specs.Same.{sameFeatures, numbersOf, sameFrom, sameGeometry}

@@ -1,15 +1,14 @@
 -- The tests of an accepted answer: each part of the table is clear, and what that says of the numbers.
 -- Assumes nothing.
-use mathlib.Core.Path.{_≡_, refl}
-use mathlib.Core.Bool.{Bool, false}
+use mathlib.Core.Path.{_≡_}
+use mathlib.Core.Bool.{Bool}
 use mathlib.Core.List.{List, _++_}
-use Prim.Native.Nat.{ℕ, _*_, _/_, _^_, _≤_, _<_}
+use Prim.Native.Nat.{ℕ, _*_, _/_, _≤_, _<_}
 use native.Mathlib.Omega.{arith}
 use native.Mathlib.Nat.{le-div-iff-mul-le, mul-le-mul-right}
 use borrow.Author.Tests.{ltb-false, eqb-true, eqb-false, not-false}
 use Rattle.arith.specs.Numbers.{ceilDiv}
 use Rattle.arith.specs.Powers.{powerLog}
-use Rattle.arith.proofs.PowerLaws.{power-least}
 use Rattle.refusals.specs.Table.{Refusal}
 use Rattle.refusals.proofs.Clear.{clear, passed, passes, left, right}
 use Rattle.params.specs.declared.Params.{Params}

@@ -1,16 +1,16 @@
 -- What the numbers of a place say of it.
 -- Assumes nothing.
-use mathlib.Core.Path.{_≡_, refl, sym, _∙_}
+use mathlib.Core.Path.{_≡_, refl, _∙_}
 use mathlib.Core.Bool.{Bool, true, false, not}
 use mathlib.Core.List.{[], _∷_}
-use Prim.Native.Nat.{ℕ, _*_, _-_, _≤_, _<_}
+use Prim.Native.Nat.{ℕ, _-_, _≤_, _<_}
 use native.Mathlib.Omega.{arith}
-use borrow.Author.Tests.{le-leb, lt-leb, leb-true, leb-false, le-ltb, lt-ltb, ltb-true, not-false}
+use borrow.Author.Tests.{le-leb, lt-leb, leb-false, le-ltb, lt-ltb, ltb-true, not-false}
 use lib.Dec.{leb, ltb}
 use Rattle.arith.specs.Choice.{when}
 use Rattle.arith.proofs.Both.{left-true, right-true}
-use Rattle.refusals.specs.Table.{_if_, first}
-use Rattle.refusals.proofs.Clear.{clear, passed}
+use Rattle.refusals.specs.Table.{_if_}
+use Rattle.refusals.proofs.Clear.{passed}
 use Rattle.geometry.specs.declared.Geometry.{Geometry}
 use Rattle.answers.specs.Named.{isAnswer}
 use Rattle.layout.specs.Places.{groupBlocks, isPlace}

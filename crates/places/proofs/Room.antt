@@ -1,7 +1,6 @@
 -- What the conversions of a place ask for: no unit of a place of the disk passes 64 bits.
 -- Assumes nothing.
 use mathlib.Core.Path.{_≡_}
-use mathlib.Core.Bool.{true}
 use Prim.Native.Nat.{ℕ, _+_, _*_, _-_, _/_, _^_, _≤_, _<_}
 use native.Mathlib.Omega.{arith}
 use native.Mathlib.Nat.{mul-le-mul}
@@ -9,12 +8,11 @@ use lib.ListN.{length}
 use lib.Pow.{pow-mono}
 use Rattle.geometry.specs.declared.Geometry.{Geometry}
 use Rattle.geometry.specs.Log.{preallocOf}
-use Rattle.answers.specs.Named.{isAnswer}
 use Rattle.layout.specs.Places.{groupBlocks, rootChunkOf}
 use Rattle.layout.specs.Bounds.{Bounds}
 use Rattle.layout.proofs.Bounding.{answer-bounds}
-use Rattle.layout.proofs.Inside.{Fits, few-blocks, inodes-most, blocks-least, fitting}
-use Rattle.places.specs.Answers.{placeRefusal, rootChunk}
+use Rattle.layout.proofs.Inside.{Fits, few-blocks, blocks-least, fitting}
+use Rattle.places.specs.Answers.{placeRefusal}
 use Rattle.places.proofs.Refused.{a-place}
 
 -- a part of a sum is below what the sum is below

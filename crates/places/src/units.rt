@@ -46,7 +46,7 @@ fn daddr_of(bs: u64, s: u64, k: u64, b: u64) -> u64
     requires { ⌜ (k * s + b < 2 ^ 64) × ((k * s + b) * (bs / 512) < 2 ^ 64) ⌝ }
     ensures { λ r. ⌜ r ≡ daddrOf bs s k b ⌝ }
 {
-    (k * s + b) * (bs / 512)
+    (k * s + b) * (bs / Geometry::BBSIZE)
 }
 
 // The byte offset of block b of group k.

@@ -1,8 +1,7 @@
 -- `answers::Named::answer` meets its contract: where the bytes fit, the options that are named are computed.
 -- Assumes nothing.
 use borrow.Author.Needs.{needs}
-use mathlib.Core.Path.{_≡_, _∙_, sym}
-use mathlib.Core.Bool.{true}
+use mathlib.Core.Path.{_∙_, sym}
 use borrow.Author.Tests.{not-true, not-false, ltb-true}
 use Rattle.arith.proofs.Both.{left-true, right-true}
 use Rattle.answers.specs.Named.{namedOn, namedFits, namedAnswer}

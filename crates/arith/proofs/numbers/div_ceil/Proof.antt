@@ -1,6 +1,5 @@
 -- `arith::numbers::div_ceil` meets its contract: rounded up, a quotient is at most the dividend, so the sum fits.
 -- Assumes nothing.
-use mathlib.Core.Path.{sym, subst}
 use mir.Facts.{fits-le}
 use Rattle.arith.specs.Numbers.{ceilDiv}
 use Rattle.arith.proofs.Laws.{ceil-le}

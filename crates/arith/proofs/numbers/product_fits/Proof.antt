@@ -1,10 +1,8 @@
 -- `arith::numbers::product_fits` meets its contract.
 -- Assumes nothing.
-use mathlib.Core.Path.{sym}
 use native.Mathlib.Omega.{arith}
 use native.Mathlib.Nat.{mul-zero}
 use borrow.Author.Needs.{needs}
-use borrow.Author.Tests.{lt-ltb}
 use Rattle.arith.proofs.Product.{fits-test}
 use Rattle.arith.proofs.numbers.product_fits.Statement.{statement}
 use Rattle.arith.proofs.numbers.product_fits.Tie as tie

@@ -2,7 +2,6 @@
 -- Assumes nothing.
 use mathlib.Core.Path.{ap, sym}
 use borrow.Author.Tests.{ne-eqb}
-use borrow.Author.Needs.{needs}
 use Rattle.arith.specs.Choice.{when}
 use Rattle.arith.specs.Powers.{powerIn, powerLog}
 use Rattle.arith.proofs.powers.pow2_log.Statement.{statement}

@@ -1,7 +1,6 @@
 -- `counts::inodes::align_to` meets its contract: by the test of the alignment.
 -- Assumes nothing.
 use borrow.Author.Needs.{needs}
-use mathlib.Core.Path.{_∙_}
 use borrow.Author.Tests.{lt-ltb, le-ltb}
 use Rattle.arith.specs.Choice.{when}
 use Rattle.layout.specs.Places.{aligned}

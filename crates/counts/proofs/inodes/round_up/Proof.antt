@@ -1,7 +1,6 @@
 -- `counts::inodes::round_up` meets its contract: rounding up adds less than a multiple.
 -- Assumes nothing.
 use native.Mathlib.Omega.{arith}
-use mir.Facts.{fits-le}
 use Rattle.layout.specs.Places.{roundUp}
 use Rattle.layout.proofs.Small.{round-most}
 use Rattle.counts.proofs.inodes.round_up.Statement.{statement}

@@ -1,6 +1,5 @@
 -- `geometry::grouping::default_size` meets its contract: each call gives what its definition says.
 -- Assumes nothing.
-use borrow.Author.Needs.{needs}
 use Rattle.geometry.specs.Groups.{defaultSize}
 use Rattle.geometry.proofs.grouping.default_size.Statement.{statement}
 use Rattle.geometry.proofs.grouping.default_size.Tie as tie
@@ -13,5 +12,5 @@ pub default-size-spec : {M : Type 1} → statement M
 default-size-spec =
     tie.close
     (tie.spec
-    (λ c κs. tt) (λ c κs. tt) (λ c κs. tt) (λ c κs. tt) (λ c κs. tt) (λ c κs. tt) (λ c κs. tt) (λ c. search needs)
+    (λ c κs. tt) (λ c κs. tt) (λ c κs. tt) (λ c κs. tt) (λ c κs. tt) (λ c κs. tt) (λ c κs. tt)
     (λ c κs. tt) (λ c κs. tt) returns)

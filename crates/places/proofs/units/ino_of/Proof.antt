@@ -1,6 +1,5 @@
 -- `places::units::ino_of` meets its contract: the shifts multiply.
 -- Assumes nothing.
-use mathlib.Core.Path.{_∙_}
 use Rattle.layout.specs.Places.{fsbOf, inoOf}
 use Rattle.places.proofs.Room.{part-below}
 use Rattle.places.proofs.units.ino_of.Statement.{statement}
