@@ -27,7 +27,10 @@ returns : tie.Need-returns Inv-loop μ-loop
 returns c = refused (sym (c .before .number .ensures)) (ne-eqb _ 0 (c .if1 .taken))
 
 loop-holds : tie.Need-loop-holds Inv-loop μ-loop
-loop-holds c = let k : length (c .before .before .before .args .t1) ≡ 64 = search needs in let a = accepted 8 (c .before .before .before .args .count) (length (c .before .before .before .args .out .now)) (sym (c .before .number .ensures) ∙ c .if1 .left) in (le-refl _, refl, a .0, omega arith, k, record-none allocBytes 8 alloc-size noAlloc (c .before .before .before .args .t1) (c .before .before .before .args .count) (omega arith) (c .before .before .before .args .out .now))
+loop-holds c =
+    let k : length (c .before .before .before .args .t1) ≡ 64 = search needs in
+    let a = accepted 8 (c .before .before .before .args .count) (length (c .before .before .before .args .out .now)) (sym (c .before .number .ensures) ∙ c .if1 .left) in
+    (le-refl _, refl, a .0, omega arith, k, record-none allocBytes 8 alloc-size noAlloc (c .before .before .before .args .t1) (c .before .before .before .args .count) (omega arith) (c .before .before .before .args .out .now))
 
 sub-i : tie.Need-sub-i Inv-loop μ-loop
 sub-i c = search needs
