@@ -47,11 +47,12 @@ same-length c = search needs
 returns-3 : tie.Need-returns-3
 unfolding agflNumber
 returns-3 c =
-    let t : isSector (length (c .before .before .before .before .before .before .before .before .before .before .before .before .before .before .before .before .args .sector .now)) ≡ true = sym (c .before .before .before .before .before .before .before .before .before .before .before .before .before .before .is-sector .ensures) ∙ not-false _ (c .before .before .before .before .before .before .before .before .before .before .before .before .before .if1 .left) in
-    let l = sector-least (length (c .before .before .before .before .before .before .before .before .before .before .before .before .before .before .before .before .args .sector .now)) t in
+    let args = c .before .before .before .before .before .before .before .before .before .before .before .before .before .before .before .before .args in
+    let t : isSector (length (args .sector .now)) ≡ true = sym (c .before .before .before .before .before .before .before .before .before .before .before .before .before .before .is-sector .ensures) ∙ not-false _ (c .before .before .before .before .before .before .before .before .before .before .before .before .before .if1 .left) in
+    let l = sector-least (length (args .sector .now)) t in
     let k1 = c .before .before .before .before .before .before .before .before .before .before .put-header .kept .0 in
     let k2 = c .before .before .before .before .before .before .put-slots .kept .0 in
-    done (rw (t, le-leb _ _ (c .before .before .before .before .before .before .before .before .before .before .before .before .if2 .left)) refl) (agfl-written (c .before .before .before .before .before .before .before .before .before .before .before .before .before .before .before .before .args .seqno) (c .before .before .before .before .before .before .before .before .before .before .before .before .before .before .before .before .args .uuid .now) (c .before .before .before .before .before .before .before .before .before .before .before .before .before .before .before .before .args .first) (take (c .before .before .before .before .before .before .before .before .before .before .before .before .before .before .before .before .args .count) (c .before .before .before .before .before .before .before .before .before .before .before .before .before .before .before .before .args .list)) (c .before .before .before .before .before .before .before .before .before .before .before .before .before .before .before .before .args .sector .now) _ _ _ k1 (c .before .before .before .before .before .before .before .before .before .before .put-header .ensures) (c .before .before .before .before .before .before .put-slots .ensures) (stamp-in 32 (c .before .before .stamp .ensures) (omega (arith, l, k1, k2)) .1))
+    done (rw (t, le-leb _ _ (c .before .before .before .before .before .before .before .before .before .before .before .before .if2 .left)) refl) (agfl-written (args .seqno) (args .uuid .now) (args .first) (take (args .count) (args .list)) (args .sector .now) _ _ _ k1 (c .before .before .before .before .before .before .before .before .before .before .put-header .ensures) (c .before .before .before .before .before .before .put-slots .ensures) (stamp-in 32 (c .before .before .stamp .ensures) (omega (arith, l, k1, k2)) .1))
 
 pub encode-agfl-spec : {M : Type 1} → statement M
 encode-agfl-spec =
