@@ -1,8 +1,8 @@
 -- A product by halves: the two high halves' product and what passes the middle falls out of 64 bits.
 -- Assumes nothing.
-use mathlib.Core.Path.{_≡_, refl, ap, ap₂, sym, _∙_}
+use mathlib.Core.Path.{_≡_, ap, ap₂, sym, _∙_}
 use Prim.Native.Nat.{ℕ, _+_, _*_, _/_, _%_, _^_, _≤_, _<_}
-use native.Mathlib.Nat.{mul-add, add-mul, mul-assoc, mul-right-comm, mul-mul-mul-comm, add-mul-mod-self-right, mul-le-mul-left, mul-lt-mul-of-pos-right, lt-of-le-of-lt, le-of-lt}
+use native.Mathlib.Nat.{mul-add, add-mul, mul-assoc, mul-right-comm, mul-mul-mul-comm, add-mul-mod-self-right, mul-le-mul-left}
 use native.Mathlib.Omega.{arith}
 
 -- the product of two numbers of 32 bits fits 64
