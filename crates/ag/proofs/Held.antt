@@ -1,14 +1,12 @@
 -- Every field of a group's headers is read back from the sector, and two headers of equal bytes are equal.
 -- Assumes nothing.
 use mathlib.Core.Path.{_≡_, refl, ap, sym, _∙_}
-use mathlib.Core.List.{List, [], _∷_, _++_}
-use Prim.Native.Nat.{ℕ, _+_, _*_, _-_, _/_, _%_, _≤_, _<_, _^_}
-use native.Mathlib.Omega.{arith}
-use native.Mathlib.Nat.{le-trans}
-use lib.Dec.{T, leb, ltb→lt, lit<, lit≤, ltb}
+use mathlib.Core.List.{List}
+use Prim.Native.Nat.{ℕ, _≤_, _<_, _^_}
+use lib.Dec.{T, ltb→lt, ltb}
 use lib.ListN.{length, replicate}
 use Rattle.endian.specs.Bytes.{beBytes, beAt, runBytes}
-use Rattle.endian.specs.Fields.{Field, field, nth, part, spans}
+use Rattle.endian.specs.Fields.{field, nth, part, spans}
 use Rattle.crc.proofs.Laws.{read-stamped}
 use Rattle.structs.specs.Holds.{Holds}
 use Rattle.structs.proofs.Reading.{read-number, one-reading}

@@ -1,7 +1,7 @@
 -- The order in which the code writes the headers: the numbers first, and then the runs of bytes.
 -- Assumes nothing.
 use mathlib.Core.Path.{_≡_, refl, ap, sym, _∙_}
-use mathlib.Core.List.{List, [], _∷_, _++_}
+use mathlib.Core.List.{List, [], _∷_}
 use Prim.Native.Nat.{ℕ}
 use lib.ListN.{length, replicate}
 use Rattle.endian.specs.Bytes.{beBytes, runBytes, patch}

@@ -1,7 +1,7 @@
 -- The free list is read back: its header, every slot, and each block from its slot.
 -- Assumes nothing.
 use mathlib.Core.Path.{_≡_, refl, ap, sym, _∙_}
-use mathlib.Core.List.{List, [], _∷_, _++_}
+use mathlib.Core.List.{List, [], _∷_}
 use mathlib.Core.Bool.{Bool, true, false}
 use Prim.Native.Nat.{ℕ, zero, suc, _+_, _*_, _-_, _/_, _%_, _≤_, _<_, _^_}
 use native.Mathlib.Nat.{div-add-mod', add-mul-mod-self-right, mod-eq-of-lt, mod-lt, one-mul, add-zero}
@@ -10,7 +10,7 @@ use lib.Dec.{ltb, lit<}
 use lib.ListN.{length, getD, set, replicate, length-replicate, length-set}
 use lib.Seq.{getD-set-same, getD-set-other}
 use borrow.Author.Tests.{ltb-true, ltb-false}
-use Rattle.endian.specs.Bytes.{beBytes, beAt, below, runBytes, numbersAt}
+use Rattle.endian.specs.Bytes.{beBytes, below, runBytes, numbersAt}
 use Rattle.endian.specs.Fields.{part, spans}
 use Rattle.endian.proofs.Consecutive.{run-back}
 use Rattle.crc.proofs.Laws.{read-stamped}

@@ -1,20 +1,17 @@
 -- The slots of the free list: a number put into a slot, one turn of the loop after the other.
 -- Assumes nothing.
-use mathlib.Core.Path.{_≡_, refl, ap, sym, _∙_, subst}
-use mathlib.Core.Bool.{Bool, true, false, _||_}
-use lib.Dec.{T, leb}
-use borrow.Author.Tests.{le-leb}
+use mathlib.Core.Path.{_≡_, refl, ap, sym, _∙_}
 use mathlib.Core.List.{List, [], _∷_, _++_}
 use Prim.Native.Nat.{ℕ, zero, suc, _+_, _*_, _-_, _/_, _%_, _≤_, _<_}
-use native.Mathlib.Nat.{mul-suc, mul-comm, add-assoc, add-comm, add-zero, mod-lt, mul-zero}
+use native.Mathlib.Nat.{add-zero, mod-lt}
 use native.Mathlib.Numerals.{add-one}
 use native.Mathlib.Omega.{arith}
-use lib.ListN.{length, take, drop, getD, set, replicate, length-set, length-replicate, drop-of-length-le}
-use lib.Seq.{drop-cons, take-suc, getD-take, set-set, set-comm, length-take-le}
+use lib.ListN.{length, take, getD, set, replicate, length-set, length-replicate}
+use lib.Seq.{take-suc, length-take-le}
 use Rattle.endian.specs.Bytes.{beBytes, runBytes, patch}
-use Rattle.endian.proofs.Laws.{length-be, patch-append, length-patch}
-use Rattle.endian.proofs.Order.{patch-over, trade}
-use Rattle.endian.specs.Fields.{Field, field, run, write}
+use Rattle.endian.proofs.Laws.{length-be, patch-append}
+use Rattle.endian.proofs.Order.{patch-over}
+use Rattle.endian.specs.Fields.{run, write}
 use Rattle.structs.specs.Written.{null32}
 use Rattle.structs.proofs.Reading.{patch-apart, write-append}
 use Rattle.ag.specs.Agfl.{placed, slotsOf, agflHeader, agflSlots, agflFields, agflBytes}
@@ -75,10 +72,6 @@ slot-turn n first i list xs ys zs pos lt e d =
     (ap (λ (j : ℕ). set (placed n first (take i list) slots) ((first + j) % n) (getD list i 0)) (sym k)
     ∙ sym (placed-more n first (take i list) (getD list i 0) slots)
     ∙ ap (λ (l : List ℕ). placed n first l slots) (sym (ap (λ (k : ℕ). take k list) (add-one i) ∙ take-suc list i 0 lt)))
-
--- the room of a slot
-pub slot-room : (n j len : ℕ) → j < n → n ≡ (len - 36) / 4 → 36 ≤ len → 36 + 4 * j + 4 ≤ len
-slot-room n j len h e l = omega arith
 
 pub length-run : (vs : List ℕ) → length (runBytes 4 vs) ≡ 4 * length vs
 unfolding runBytes beBytes

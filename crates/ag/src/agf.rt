@@ -1,5 +1,4 @@
 // The free space header of a group.
-ghost use mathlib.Core.Path.{_≡_};
 ghost use lib.ListN.{length};
 ghost use Rattle.structs.specs.Written.{Written};
 ghost use Rattle.ag.specs.Sector.{sectorNumber};

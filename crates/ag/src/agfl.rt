@@ -1,6 +1,6 @@
 // The free list of a group.
 ghost use mathlib.Core.Path.{_≡_};
-ghost use Prim.Native.Nat.{_+_, _-_, _*_, _/_, _%_, _≤_, _<_, _^_};
+ghost use Prim.Native.Nat.{_≤_};
 ghost use lib.ListN.{length, take, replicate};
 ghost use Rattle.endian.specs.Bytes.{patch, runBytes};
 ghost use Rattle.endian.specs.Fields.{write};

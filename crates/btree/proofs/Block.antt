@@ -1,15 +1,12 @@
 -- The order in which a leaf block is written, and the fields that it then holds.
 -- Assumes nothing.
 use mathlib.Core.Path.{_≡_, refl, ap, sym, _∙_}
-use mathlib.Core.List.{List, [], _∷_, _++_}
-use mathlib.Core.Bool.{Bool, true, false}
-use Prim.Native.Nat.{ℕ, _+_, _≤_, _<_}
-use native.Mathlib.Omega.{arith}
+use mathlib.Core.List.{List, [], _∷_}
+use Prim.Native.Nat.{ℕ}
 use lib.ListN.{length, replicate, length-replicate}
 use Rattle.endian.specs.Bytes.{beBytes, patch}
 use Rattle.endian.specs.Fields.{Field, field, run, write, spans}
 use Rattle.endian.proofs.Order.{any-order}
-use Rattle.endian.proofs.Fields.{write-length}
 use Rattle.crc.specs.Crc.{stamped}
 use Rattle.structs.specs.Written.{null32}
 use Rattle.structs.proofs.Reading.{write-append, patch-whole}

@@ -2,18 +2,18 @@
 -- Assumes nothing.
 use mathlib.Core.Path.{_≡_, refl, ap, ap₂, sym, _∙_}
 use mathlib.Core.List.{List, [], _∷_, _++_}
-use mathlib.Core.Bool.{Bool, true, false}
+use mathlib.Core.Bool.{true, false}
 use Prim.Native.Nat.{ℕ, zero, suc, _+_, _*_, _-_, _≤_, _<_, _^_}
 use native.Mathlib.Nat.{mul-suc, add-comm, add-zero}
 use native.Mathlib.Omega.{arith}
-use lib.Dec.{T, ltb, ltb→lt, lit<, lit≤}
+use lib.Dec.{lit<, lit≤}
 use lib.IntN.{negsuc}
 use lib.ListN.{length, getD, take, drop, replicate, length-replicate}
 use lib.Seq.{take-at, drop-at}
 use mir.Syntax.{w64}
 use mir.Val.{ofZ}
 use Rattle.endian.specs.Bytes.{beBytes, beAt}
-use Rattle.endian.specs.Fields.{Field, field, run, part, nth, spans, clear}
+use Rattle.endian.specs.Fields.{part, nth, spans}
 use Rattle.endian.proofs.Consecutive.{part-take, part-drop}
 use Rattle.crc.proofs.Laws.{read-stamped}
 use Rattle.structs.specs.Holds.{Holds}

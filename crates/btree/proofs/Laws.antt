@@ -1,18 +1,18 @@
 -- Records one after the other: one law over the record's type, for the loops that write them.
 -- Assumes nothing.
-use mathlib.Core.Path.{_≡_, refl, ap, sym, _∙_}
+use mathlib.Core.Path.{_≡_, ap, sym, _∙_}
 use mathlib.Core.List.{List, [], _∷_, _++_}
-use Prim.Native.Nat.{ℕ, zero, suc, _+_, _*_, _-_, _/_, _%_, _≤_, _<_}
+use Prim.Native.Nat.{ℕ, suc, _+_, _*_, _-_, _/_, _%_, _≤_, _<_}
 use mathlib.Core.Bool.{Bool, true, false}
-use native.Mathlib.Nat.{mul-suc, mul-le-mul-left, add-assoc, add-comm, zero-add, mul-comm, mul-zero, mul-div-cancel-left, mul-mod-right, div-add-mod', add-zero}
+use native.Mathlib.Nat.{mul-suc, mul-le-mul-left, add-comm, mul-comm, mul-zero, mul-div-cancel-left, mul-mod-right, div-add-mod', add-zero}
 use native.Mathlib.Omega.{arith}
-use lib.ListN.{length, replicate, take, drop, getD, length-append, drop-of-length-le, length-take}
+use lib.ListN.{length, replicate, take, drop, getD, length-append, drop-of-length-le}
 use lib.Seq.{drop-cons, getD-take, length-take-le}
 use lib.Dec.{eqb, leb, lit<}
 use borrow.Author.Tests.{eqb-true, leb-true}
 use Rattle.structs.proofs.Written.{passed}
 use Rattle.endian.specs.Bytes.{beBytes, patch}
-use Rattle.endian.proofs.Laws.{length-be, patch-append}
+use Rattle.endian.proofs.Laws.{patch-append}
 use Rattle.endian.proofs.Fields.{write-length}
 use Rattle.structs.proofs.Reading.{patch-whole}
 use Rattle.btree.specs.declared.records.AllocRec.{AllocRec}

@@ -4,7 +4,7 @@
 use mathlib.Core.List.{List, [], _∷_, _++_}
 use Prim.Native.Nat.{ℕ, _+_}
 use lib.Dec.{leb}
-use lib.ListN.{length, replicate}
+use lib.ListN.{replicate}
 use Rattle.endian.specs.Answer.{wrongLength}
 use Rattle.endian.specs.Fields.{Field, field, run, write}
 use Rattle.crc.specs.Crc.{stamped}

@@ -1,22 +1,20 @@
 -- The four times of an inode, and the order in which its parts are written.
 -- Assumes nothing.
-use mathlib.Core.Path.{_≡_, refl, ap, sym, _∙_}
+use mathlib.Core.Path.{_≡_, refl, ap, _∙_}
 use mathlib.Core.List.{List, [], _∷_, _++_}
 use mathlib.Core.Bool.{Bool, true, false, _&&_}
-use Prim.Native.Nat.{ℕ, _+_, _^_, _≤_, _<_}
+use Prim.Native.Nat.{ℕ, _^_, _≤_, _<_}
 use native.Mathlib.Omega.{arith}
-use lib.Dec.{eqb, lit<, ltb}
-use lib.ListN.{length, replicate}
+use lib.Dec.{eqb, lit<}
 use borrow.Author.Tests.{lt-ltb, le-ltb}
 use Rattle.endian.specs.Bytes.{beBytes, patch}
-use Rattle.endian.specs.Fields.{Field, run, write}
+use Rattle.endian.specs.Fields.{write}
 use Rattle.crc.specs.Crc.{stamped}
 use Rattle.structs.specs.Written.{require}
 use Rattle.structs.proofs.Written.{passed}
-use Rattle.structs.proofs.Reading.{write-append}
 use Rattle.params.specs.declared.Timestamp.{Timestamp}
 use Rattle.inode.specs.declared.dinode.Dinode.{Dinode}
-use Rattle.inode.specs.Time.{timeInside, timeRaw, accepted, StoredAs}
+use Rattle.inode.specs.Time.{timeInside, accepted, StoredAs}
 use Rattle.inode.specs.Dinode.{isBig, inside, raw, orElse, timesNumber, TimesAs, coreFields, dinodeFields, dinodeBytes}
 use Rattle.inode.specs.Directory.{emptyDir, EmptyDir}
 

@@ -1,25 +1,22 @@
 -- Signed seconds, shifted to unsigned at both ends of the range.
 -- Assumes nothing.
 use mathlib.Core.Path.{_≡_, refl, ap, ap₂, sym, _∙_, subst}
-use mathlib.Core.Bool.{Bool, true, false, _&&_, cond}
+use mathlib.Core.Bool.{Bool, true, false, cond}
 use Prim.Native.Nat.{ℕ, suc, _+_, _-_, _*_, _/_, _%_, _^_, _≤_, _<_}
 use native.Mathlib.Omega.{arith}
-use lib.Dec.{T, leb, ltb}
-use lib.IntN.{ℤ, pos, negsuc, _+ℤ_, _-ℤ_, natAbs}
-use lib.Signed.{ltZ, nonNeg, mag}
+use lib.Dec.{T, ltb}
+use lib.IntN.{ℤ, pos, negsuc, _+ℤ_, _-ℤ_}
+use lib.Signed.{ltZ}
 use mir.Syntax.{w64}
-use mir.Val.{SFits, Fits, toZ, ofZ}
+use mir.Val.{SFits, toZ, ofZ}
 use mir.ValLaws.{toZ-pos, toZ-ofZ}
 use borrow.Author.Tests.{lt-ltb, le-ltb, le-leb, lt-leb, ltb-true, ltb-false, leb-true, leb-false}
 use Rattle.structs.specs.Written.{require}
-use Rattle.inode.specs.Time.{outOfRange, second, epoch, notEarly, shifted, in32, timeInside, timeRaw, timeNumber, accepted, StoredAs, storable, Inside, signed32, decoded}
+use Rattle.inode.specs.Time.{second, epoch, notEarly, shifted, in32, timeInside, timeRaw, accepted, StoredAs, storable, Inside, signed32, decoded}
 use Rattle.params.specs.declared.Timestamp.{Timestamp}
 
 never : {A : Type 0} → false ≡ true → A
 never e = absurd (subst T (sym e) tt)
-
-never' : {A : Type 0} → true ≡ false → A
-never' e = absurd (subst T e tt)
 
 -- ---- the two tests of the seconds
 pub early : (x s : ℤ) → x ≡ s → ltZ x (negsuc 2147483647) ≡ true → storable s ≡ false

@@ -7,7 +7,7 @@ ghost use lib.ListN.{length};
 ghost use Rattle.endian.specs.Fields.{write};
 ghost use Rattle.structs.specs.Sizes.{isInode};
 ghost use Rattle.structs.specs.Written.{Written};
-ghost use Rattle.inode.specs.Dinode.{isBig, orElse, TimesAs, coreFields, dinodeNumber, dinodeBytes, freeNumber, freeFields, freeBytes};
+ghost use Rattle.inode.specs.Dinode.{isBig, orElse, TimesAs, coreFields, dinodeNumber, dinodeBytes, freeNumber, freeBytes};
 use crate::time::encode_time;
 use params::Timestamp;
 use structs::is_inode;

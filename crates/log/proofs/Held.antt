@@ -1,14 +1,13 @@
 -- Every field of a log record is read back: the fields stand in rising order, however many blocks there are.
 -- Assumes nothing.
-use mathlib.Core.Path.{_≡_, refl, ap, sym, _∙_, subst}
-use mathlib.Core.List.{List, [], _∷_, _++_}
-use mathlib.Core.Bool.{Bool, true, false}
-use Prim.Native.Nat.{ℕ, zero, suc, _+_, _*_, _-_, _≤_, _<_}
+use mathlib.Core.Path.{_≡_, refl}
+use mathlib.Core.List.{List, _∷_, _++_}
+use Prim.Native.Nat.{ℕ, zero, suc, _+_, _*_, _-_, _≤_}
 use native.Mathlib.Omega.{arith}
 use lib.Dec.{T, leb, lit≤}
 use lib.ListN.{length, replicate, length-replicate}
 use Rattle.endian.specs.Bytes.{beBytes, leBytes}
-use Rattle.endian.specs.Fields.{Field, Span, field, run, spans, tidy, write}
+use Rattle.endian.specs.Fields.{Field, field, run, spans}
 use Rattle.structs.specs.Holds.{Holds}
 use Rattle.structs.proofs.Reading.{held}
 use Rattle.structs.proofs.Rising.{rises, end, both, le-test, rises-tidy}

@@ -2,7 +2,7 @@
 pub mod parts; // the pieces of a record: sizes, header, stamps, the unmount record
 
 ghost use mathlib.Core.Path.{_≡_};
-ghost use Prim.Native.Nat.{_+_, _*_, _<_, _^_};
+ghost use Prim.Native.Nat.{_^_};
 ghost use lib.ListN.{length};
 ghost use Rattle.structs.specs.Written.{Written};
 ghost use Rattle.log.specs.Record.{clearSunit, lsnOf, recordNumber, recordBytes};

@@ -1,9 +1,9 @@
 // The pieces of a log record: its sizes, its header, the stamps of its basic blocks and the unmount record.
 ghost use mathlib.Core.Path.{_≡_};
-ghost use Prim.Native.Nat.{_+_, _*_, _-_, _/_, _≤_, _^_, max};
+ghost use Prim.Native.Nat.{_+_, _*_, _-_, _≤_, max};
 ghost use lib.ListN.{length};
 ghost use Rattle.endian.specs.Fields.{write};
-ghost use Rattle.log.specs.Record.{roundedUp, headersOf, blocksOf, headerFields, stamps, unmountFields, bodyFields};
+ghost use Rattle.log.specs.Record.{headersOf, blocksOf, headerFields, stamps, unmountFields, bodyFields};
 
 // A basic block, in bytes.
 pub const BBSIZE: usize = 512;

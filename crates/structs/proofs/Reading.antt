@@ -3,11 +3,11 @@
 use mathlib.Core.Bool.{Bool, true, false, _||_}
 use mathlib.Core.Path.{_≡_, refl, ap, ap₂, sym, _∙_, subst}
 use mathlib.Core.List.{List, [], _∷_, _++_, append-nil}
-use Prim.Native.Nat.{ℕ, zero, suc, _+_, _≤_, _<_, _^_}
+use Prim.Native.Nat.{ℕ, suc, _+_, _≤_, _<_, _^_}
 use native.Mathlib.Omega.{arith}
 use lib.Dec.{T, leb}
 use borrow.Author.Tests.{le-leb}
-use lib.ListN.{length, drop, drop-of-length-le}
+use lib.ListN.{length, drop-of-length-le}
 use Rattle.endian.specs.Bytes.{beBytes, beAt, patch, runBytes}
 use Rattle.endian.specs.Fields.{Field, Span, field, run, write, part, nth, spans, tidy}
 use Rattle.endian.proofs.Laws.{length-be, patch-split, patch-append}

@@ -1,13 +1,13 @@
 -- Fields in rising order do not meet: one test for structures of fixed and of variable length.
 -- Assumes nothing.
-use mathlib.Core.Path.{_≡_, refl, sym, subst}
-use mathlib.Core.List.{List, [], _∷_, _++_}
+use mathlib.Core.Path.{sym, subst}
+use mathlib.Core.List.{List, [], _∷_}
 use mathlib.Core.Bool.{Bool, true, false, _&&_, _||_}
 use Prim.Native.Nat.{ℕ, _+_, _≤_}
 use native.Mathlib.Omega.{arith}
 use lib.Dec.{T, leb, leb→le}
 use borrow.Author.Tests.{le-leb}
-use Rattle.endian.specs.Fields.{Field, Span, spans, clear, tidy}
+use Rattle.endian.specs.Fields.{Span, clear, tidy}
 use Rattle.endian.proofs.Fields.{and-left, and-right}
 
 -- each span starts at the end of the one before or behind it, the first at `o` or behind it

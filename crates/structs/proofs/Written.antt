@@ -6,7 +6,6 @@ use mathlib.Core.Bool.{Bool, true, false}
 use Prim.Native.Nat.{ℕ, _<_}
 use native.Mathlib.Omega.{arith}
 use lib.Dec.{eqb}
-use Rattle.endian.specs.Answer.{chosen}
 use Rattle.structs.specs.Written.{Written, require}
 
 -- the number `r` applies, and the bytes are as they were

@@ -20,17 +20,23 @@ is-sector-requires c κs = search needs
 
 returns : tie.Need-returns
 unfolding agflNumber
-returns c = let t : isSector (length (c .before .before .before .args .sector .now)) ≡ false = sym (c .before .is-sector .ensures) ∙ not-true _ (c .if1 .taken) in refused (rw t refl) refl
+returns c =
+    let t : isSector (length (c .before .before .before .args .sector .now)) ≡ false = sym (c .before .is-sector .ensures) ∙ not-true _ (c .if1 .taken) in
+    refused (rw t refl) refl
 
 returns-2 : tie.Need-returns-2
 unfolding agflNumber
-returns-2 c = let t : isSector (length (c .before .before .before .before .args .sector .now)) ≡ true = sym (c .before .before .is-sector .ensures) ∙ not-false _ (c .before .if1 .left) in refused (rw (t, lt-leb _ _ (c .if2 .taken)) refl) refl
+returns-2 c =
+    let t : isSector (length (c .before .before .before .before .args .sector .now)) ≡ true = sym (c .before .before .is-sector .ensures) ∙ not-false _ (c .before .if1 .left) in
+    refused (rw (t, lt-leb _ _ (c .if2 .taken)) refl) refl
 
 put-header-requires : tie.Need-put-header-requires
 put-header-requires c κs = sector-least (length (c .before .before .before .before .before .args .sector .now)) (sym (c .before .before .before .is-sector .ensures) ∙ not-false _ (c .before .before .if1 .left))
 
 put-slots-requires : tie.Need-put-slots-requires
-put-slots-requires c κs = let l = sector-least (length (c .before .before .before .before .before .before .before .before .before .args .sector .now)) (sym (c .before .before .before .before .before .before .before .is-sector .ensures) ∙ not-false _ (c .before .before .before .before .before .before .if1 .left)) in (c .before .before .before .before .before .if2 .left, omega (arith, l, c .before .before .before .put-header .kept .0))
+put-slots-requires c κs =
+    let l = sector-least (length (c .before .before .before .before .before .before .before .before .before .args .sector .now)) (sym (c .before .before .before .before .before .before .before .is-sector .ensures) ∙ not-false _ (c .before .before .before .before .before .before .if1 .left)) in
+    (c .before .before .before .before .before .if2 .left, omega (arith, l, c .before .before .before .put-header .kept .0))
 
 stamp-requires : tie.Need-stamp-requires
 stamp-requires c κs = search needs
@@ -40,7 +46,13 @@ same-length c = search needs
 
 returns-3 : tie.Need-returns-3
 unfolding agflNumber
-returns-3 c = let t : isSector (length (c .before .before .before .before .before .before .before .before .before .before .before .before .before .before .before .before .args .sector .now)) ≡ true = sym (c .before .before .before .before .before .before .before .before .before .before .before .before .before .before .is-sector .ensures) ∙ not-false _ (c .before .before .before .before .before .before .before .before .before .before .before .before .before .if1 .left) in let l = sector-least (length (c .before .before .before .before .before .before .before .before .before .before .before .before .before .before .before .before .args .sector .now)) t in let k1 = c .before .before .before .before .before .before .before .before .before .before .put-header .kept .0 in let k2 = c .before .before .before .before .before .before .put-slots .kept .0 in done (rw (t, le-leb _ _ (c .before .before .before .before .before .before .before .before .before .before .before .before .if2 .left)) refl) (agfl-written (c .before .before .before .before .before .before .before .before .before .before .before .before .before .before .before .before .args .seqno) (c .before .before .before .before .before .before .before .before .before .before .before .before .before .before .before .before .args .uuid .now) (c .before .before .before .before .before .before .before .before .before .before .before .before .before .before .before .before .args .first) (take (c .before .before .before .before .before .before .before .before .before .before .before .before .before .before .before .before .args .count) (c .before .before .before .before .before .before .before .before .before .before .before .before .before .before .before .before .args .list)) (c .before .before .before .before .before .before .before .before .before .before .before .before .before .before .before .before .args .sector .now) _ _ _ k1 (c .before .before .before .before .before .before .before .before .before .before .put-header .ensures) (c .before .before .before .before .before .before .put-slots .ensures) (stamp-in 32 (c .before .before .stamp .ensures) (omega (arith, l, k1, k2)) .1))
+returns-3 c =
+    let args = c .before .before .before .before .before .before .before .before .before .before .before .before .before .before .before .before .args in
+    let t : isSector (length (args .sector .now)) ≡ true = sym (c .before .before .before .before .before .before .before .before .before .before .before .before .before .before .is-sector .ensures) ∙ not-false _ (c .before .before .before .before .before .before .before .before .before .before .before .before .before .if1 .left) in
+    let l = sector-least (length (args .sector .now)) t in
+    let k1 = c .before .before .before .before .before .before .before .before .before .before .put-header .kept .0 in
+    let k2 = c .before .before .before .before .before .before .put-slots .kept .0 in
+    done (rw (t, le-leb _ _ (c .before .before .before .before .before .before .before .before .before .before .before .before .if2 .left)) refl) (agfl-written (args .seqno) (args .uuid .now) (args .first) (take (args .count) (args .list)) (args .sector .now) _ _ _ k1 (c .before .before .before .before .before .before .before .before .before .before .put-header .ensures) (c .before .before .before .before .before .before .put-slots .ensures) (stamp-in 32 (c .before .before .stamp .ensures) (omega (arith, l, k1, k2)) .1))
 
 pub encode-agfl-spec : {M : Type 1} → statement M
 encode-agfl-spec =

@@ -27,7 +27,12 @@ same-length : tie.Need-same-length
 same-length c = search needs
 
 returns : tie.Need-returns
-returns c = let u : length (c .before .before .before .before .before .before .before .before .before .before .before .before .args .uuid .now) ≡ 16 = search needs in put-in (c .before .before .put-bytes .ensures) (search needs) ∙ ap (patch 8 (c .before .before .before .before .before .before .before .before .before .before .before .before .args .uuid .now)) (put-table 32 (c .before .before .before .before .before .before .before .put-all .ensures) (let h : 32 ≤ length (c .before .before .before .before .before .before .before .before .before .before .before .before .args .sector .now) = search needs in h) tt) ∙ agfl-order _ _ _ u
+returns c =
+    let args = c .before .before .before .before .before .before .before .before .before .before .before .before .args in
+    let u : length (args .uuid .now) ≡ 16 = search needs in
+    put-in (c .before .before .put-bytes .ensures) (search needs)
+    ∙ ap (patch 8 (args .uuid .now)) (put-table 32 (c .before .before .before .before .before .before .before .put-all .ensures) (let h : 32 ≤ length (args .sector .now) = search needs in h) tt)
+    ∙ agfl-order _ _ _ u
 
 pub put-header-spec : {M : Type 1} → statement M
 put-header-spec =

@@ -31,7 +31,9 @@ put-same-requires : tie.Need-put-same-requires Inv-loop μ-loop
 put-same-requires c κs = search needs
 
 loop-holds : tie.Need-loop-holds Inv-loop μ-loop
-loop-holds c = (omega arith, refl, slot-start ((length (c .before .before .before .before .before .args .sector .now) - 36) / 4) (c .before .before .before .before .before .args .first) (c .before .before .before .before .before .args .t3) (c .before .before .before .before .before .args .sector .now) _ (put-in (c .before .before .put-same .ensures) (omega arith)))
+loop-holds c =
+    let args = c .before .before .before .before .before .args in
+    (omega arith, refl, slot-start ((length (args .sector .now) - 36) / 4) (args .first) (args .t3) (args .sector .now) _ (put-in (c .before .before .put-same .ensures) (omega arith)))
 
 add-slot : tie.Need-add-slot Inv-loop μ-loop
 add-slot c = omega arith
@@ -40,10 +42,16 @@ rem-slot : tie.Need-rem-slot Inv-loop μ-loop
 rem-slot c = omega arith
 
 mul-put32 : tie.Need-mul-put32 Inv-loop μ-loop
-mul-put32 c = let m = mod-lt (c .before .before .before .before .before .before .before .before .args .first + c .before .before .loop .i) (let p : 0 < (length (c .before .before .before .before .before .before .before .before .args .sector .now) - 36) / 4 = omega arith in p) in omega (arith, m, c .before .before .before .before .before .put-same .kept .0, c .before .before .before .before .before .before .before .before .good .0 .0)
+mul-put32 c =
+    let args = c .before .before .before .before .before .before .before .before .args in
+    let m = mod-lt (args .first + c .before .before .loop .i) (let p : 0 < (length (args .sector .now) - 36) / 4 = omega arith in p) in
+    omega (arith, m, c .before .before .before .before .before .put-same .kept .0, c .before .before .before .before .before .before .before .before .good .0 .0)
 
 add-put32 : tie.Need-add-put32 Inv-loop μ-loop
-add-put32 c = let m = mod-lt (c .before .before .before .before .before .before .before .before .args .first + c .before .before .loop .i) (let p : 0 < (length (c .before .before .before .before .before .before .before .before .args .sector .now) - 36) / 4 = omega arith in p) in omega (arith, m, c .before .before .before .before .before .put-same .kept .0, c .before .before .before .before .before .before .before .before .good .0 .0)
+add-put32 c =
+    let args = c .before .before .before .before .before .before .before .before .args in
+    let m = mod-lt (args .first + c .before .before .loop .i) (let p : 0 < (length (args .sector .now) - 36) / 4 = omega arith in p) in
+    omega (arith, m, c .before .before .before .before .before .put-same .kept .0, c .before .before .before .before .before .before .before .before .good .0 .0)
 
 mul-put32-2 : tie.Need-mul-put32-2 Inv-loop μ-loop
 mul-put32-2 c = omega arith
@@ -61,13 +69,20 @@ loop-less : tie.Need-loop-less Inv-loop μ-loop
 loop-less c = omega arith
 
 loop-again : tie.Need-loop-again Inv-loop μ-loop
-loop-again c = let k : length (c .before .before .before .before .before .before .before .before .before .before .before .args .t3) ≡ 64 = search needs in let m = mod-lt (c .before .before .before .before .before .before .before .before .before .before .before .args .first + c .before .before .before .before .before .loop .i) (let p : 0 < (length (c .before .before .before .before .before .before .before .before .before .before .before .args .sector .now) - 36) / 4 = omega arith in p) in (omega arith, c .before .before .put32 .kept .0 ∙ c .before .before .before .before .before .loop .inv .1, slot-turn ((length (c .before .before .before .before .before .before .before .before .before .before .before .args .sector .now) - 36) / 4) (c .before .before .before .before .before .before .before .before .before .before .before .args .first) (c .before .before .before .before .before .loop .i) (c .before .before .before .before .before .before .before .before .before .before .before .args .t3) _ _ _ (omega arith) (omega arith) (c .before .before .before .before .before .loop .inv .2) (put-in (c .before .before .put32 .ensures) (omega (arith, m, c .before .before .before .before .before .before .before .before .put-same .kept .0, c .before .before .before .before .before .loop .inv .1))))
+loop-again c =
+    let args = c .before .before .before .before .before .before .before .before .before .before .before .args in
+    let k : length (args .t3) ≡ 64 = search needs in
+    let m = mod-lt (args .first + c .before .before .before .before .before .loop .i) (let p : 0 < (length (args .sector .now) - 36) / 4 = omega arith in p) in
+    (omega arith, c .before .before .put32 .kept .0 ∙ c .before .before .before .before .before .loop .inv .1, slot-turn ((length (args .sector .now) - 36) / 4) (args .first) (c .before .before .before .before .before .loop .i) (args .t3) _ _ _ (omega arith) (omega arith) (c .before .before .before .before .before .loop .inv .2) (put-in (c .before .before .put32 .ensures) (omega (arith, m, c .before .before .before .before .before .before .before .before .put-same .kept .0, c .before .before .before .before .before .loop .inv .1))))
 
 same-length : tie.Need-same-length Inv-loop μ-loop
 same-length c = c .before .loop .inv .1 ∙ c .before .before .before .before .put-same .kept .0
 
 returns : tie.Need-returns Inv-loop μ-loop
-returns c = let e : c .before .loop .i ≡ c .before .before .before .before .before .before .before .args .count = omega arith in slot-end ((length (c .before .before .before .before .before .before .before .args .sector .now) - 36) / 4) (c .before .before .before .before .before .before .before .args .first) (take (c .before .before .before .before .before .before .before .args .count) (c .before .before .before .before .before .before .before .args .t3)) (c .before .before .before .before .before .before .before .args .sector .now) _ _ (put-in (c .before .before .before .before .put-same .ensures) (omega arith)) (rw e at (c .before .loop .inv .2))
+returns c =
+    let args = c .before .before .before .before .before .before .before .args in
+    let e : c .before .loop .i ≡ args .count = omega arith in
+    slot-end ((length (args .sector .now) - 36) / 4) (args .first) (take (args .count) (args .t3)) (args .sector .now) _ _ (put-in (c .before .before .before .before .put-same .ensures) (omega arith)) (rw e at (c .before .loop .inv .2))
 
 pub put-slots-spec : {M : Type 1} → statement M
 put-slots-spec =

@@ -28,7 +28,14 @@ same-length : tie.Need-same-length
 same-length c = search needs
 
 returns : tie.Need-returns
-returns c = let u : length (c .before .before .before .before .before .before .before .before .before .before .before .before .before .before .before .args .uuid .now) ≡ 16 = search needs in let v : length (c .before .before .before .before .before .before .before .before .before .before .before .before .before .before .before .args .t2) ≡ 10 = search needs in let l = c .before .before .before .before .before .before .before .before .before .before .before .before .before .before .before .pre in let k1 = c .before .before .before .before .before .before .before .before .before .before .before .put32-run .kept .0 in let k2 = c .before .before .before .before .before .before .before .put-same .kept .0 in rw (put-in (c .before .before .put-bytes .ensures) (omega (arith, l, u, k1, k2)), put-in (c .before .before .before .before .before .before .before .put-same .ensures) (omega (arith, l, k1)), put-in (c .before .before .before .before .before .before .before .before .before .before .before .put32-run .ensures) (omega (arith, l, v))) (front-written (c .before .before .before .before .before .before .before .before .before .before .before .before .before .before .before .args .t2) (c .before .before .before .before .before .before .before .before .before .before .before .before .before .before .before .args .uuid .now) (c .before .before .before .before .before .before .before .before .before .before .before .before .before .before .before .args .sector .now))
+returns c =
+    let args = c .before .before .before .before .before .before .before .before .before .before .before .before .before .before .before .args in
+    let u : length (args .uuid .now) ≡ 16 = search needs in
+    let v : length (args .t2) ≡ 10 = search needs in
+    let l = c .before .before .before .before .before .before .before .before .before .before .before .before .before .before .before .pre in
+    let k1 = c .before .before .before .before .before .before .before .before .before .before .before .put32-run .kept .0 in
+    let k2 = c .before .before .before .before .before .before .before .put-same .kept .0 in
+    rw (put-in (c .before .before .put-bytes .ensures) (omega (arith, l, u, k1, k2)), put-in (c .before .before .before .before .before .before .before .put-same .ensures) (omega (arith, l, k1)), put-in (c .before .before .before .before .before .before .before .before .before .before .before .put32-run .ensures) (omega (arith, l, v))) (front-written (args .t2) (args .uuid .now) (args .sector .now))
 
 pub put-front-spec : {M : Type 1} → statement M
 put-front-spec =

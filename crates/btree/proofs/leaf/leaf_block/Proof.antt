@@ -23,20 +23,29 @@ is-block-requires c κs = search needs
 
 returns : tie.Need-returns
 unfolding leafNumber
-returns c = let t : isBlock (length (c .before .before .before .before .args .block .now)) ≡ false = sym (c .before .is-block .ensures) ∙ not-true _ (c .if1 .taken) in refused (rw t refl) refl
+returns c =
+    let t : isBlock (length (c .before .before .before .before .args .block .now)) ≡ false = sym (c .before .is-block .ensures) ∙ not-true _ (c .if1 .taken) in
+    refused (rw t refl) refl
 
 inside-requires : tie.Need-inside-requires
 inside-requires c κs = search needs
 
 returns-2 : tie.Need-returns-2
 unfolding leafNumber
-returns-2 c = let t : isBlock (length (c .before .before .before .before .before .before .args .block .now)) ≡ true = sym (c .before .before .before .is-block .ensures) ∙ not-false _ (c .before .before .if1 .left) in let f : leb (56 + length (c .before .before .before .before .before .before .args .recs .now)) (length (c .before .before .before .before .before .before .args .block .now)) ≡ false = sym (c .before .inside .ensures) ∙ not-true _ (c .if2 .taken) in refused (rw (t, f) refl) refl
+returns-2 c =
+    let args = c .before .before .before .before .before .before .args in
+    let t : isBlock (length (args .block .now)) ≡ true = sym (c .before .before .before .is-block .ensures) ∙ not-false _ (c .before .before .if1 .left) in
+    let f : leb (56 + length (args .recs .now)) (length (args .block .now)) ≡ false = sym (c .before .inside .ensures) ∙ not-true _ (c .if2 .taken) in
+    refused (rw (t, f) refl) refl
 
 put-same-requires : tie.Need-put-same-requires
 put-same-requires c κs = search needs
 
 put-header-requires : tie.Need-put-header-requires
-put-header-requires c κs = let t : isBlock (length (c .before .before .before .before .before .before .before .before .before .before .before .args .block .now)) ≡ true = sym (c .before .before .before .before .before .before .before .before .is-block .ensures) ∙ not-false _ (c .before .before .before .before .before .before .before .if1 .left) in omega (arith, block-least (length (c .before .before .before .before .before .before .before .before .before .before .before .args .block .now)) t, c .before .before .before .put-same .kept .0)
+put-header-requires c κs =
+    let args = c .before .before .before .before .before .before .before .before .before .before .before .args in
+    let t : isBlock (length (args .block .now)) ≡ true = sym (c .before .before .before .before .before .before .before .before .is-block .ensures) ∙ not-false _ (c .before .before .before .before .before .before .before .if1 .left) in
+    omega (arith, block-least (length (args .block .now)) t, c .before .before .before .put-same .kept .0)
 
 put-bytes-requires : tie.Need-put-bytes-requires
 put-bytes-requires c κs = search needs
@@ -49,7 +58,16 @@ same-length c = search needs
 
 returns-3 : tie.Need-returns-3
 unfolding leafNumber
-returns-3 c = let t : isBlock (length (c .before .before .before .before .before .before .before .before .before .before .before .before .before .before .before .before .before .before .before .before .before .before .args .block .now)) ≡ true = sym (c .before .before .before .before .before .before .before .before .before .before .before .before .before .before .before .before .before .before .before .is-block .ensures) ∙ not-false _ (c .before .before .before .before .before .before .before .before .before .before .before .before .before .before .before .before .before .before .if1 .left) in let f : leb (56 + length (c .before .before .before .before .before .before .before .before .before .before .before .before .before .before .before .before .before .before .before .before .before .before .args .recs .now)) (length (c .before .before .before .before .before .before .before .before .before .before .before .before .before .before .before .before .before .before .before .before .before .before .args .block .now)) ≡ true = sym (c .before .before .before .before .before .before .before .before .before .before .before .before .before .before .before .before .before .inside .ensures) ∙ not-false _ (c .before .before .before .before .before .before .before .before .before .before .before .before .before .before .before .before .if2 .left) in let l = block-least (length (c .before .before .before .before .before .before .before .before .before .before .before .before .before .before .before .before .before .before .before .before .before .before .args .block .now)) t in let g = leb-true (56 + length (c .before .before .before .before .before .before .before .before .before .before .before .before .before .before .before .before .before .before .before .before .before .before .args .recs .now)) (length (c .before .before .before .before .before .before .before .before .before .before .before .before .before .before .before .before .before .before .before .before .before .before .args .block .now)) f in let k1 = c .before .before .before .before .before .before .before .before .before .before .before .before .before .before .put-same .kept .0 in let k2 = c .before .before .before .before .before .before .before .before .before .before .put-header .kept .1 .1 .1 .1 .1 .0 in let k3 = c .before .before .before .before .before .before .put-bytes .kept .0 in done (rw (t, f) refl) (leaf-written _ _ _ _ _ _ (c .before .before .before .before .before .before .before .before .before .before .before .before .before .before .before .before .before .before .before .before .before .before .args .block .now) _ _ _ _ (put-in (c .before .before .before .before .before .before .before .before .before .before .before .before .before .before .put-same .ensures) (search needs)) (c .before .before .before .before .before .before .before .before .before .before .put-header .ensures) (put-in (c .before .before .before .before .before .before .put-bytes .ensures) (omega (arith, k1, k2, g))) (stamp-in 52 (c .before .before .stamp .ensures) (omega (arith, k1, k2, k3, l)) .1))
+returns-3 c =
+    let args = c .before .before .before .before .before .before .before .before .before .before .before .before .before .before .before .before .before .before .before .before .before .before .args in
+    let t : isBlock (length (args .block .now)) ≡ true = sym (c .before .before .before .before .before .before .before .before .before .before .before .before .before .before .before .before .before .before .before .is-block .ensures) ∙ not-false _ (c .before .before .before .before .before .before .before .before .before .before .before .before .before .before .before .before .before .before .if1 .left) in
+    let f : leb (56 + length (args .recs .now)) (length (args .block .now)) ≡ true = sym (c .before .before .before .before .before .before .before .before .before .before .before .before .before .before .before .before .before .inside .ensures) ∙ not-false _ (c .before .before .before .before .before .before .before .before .before .before .before .before .before .before .before .before .if2 .left) in
+    let l = block-least (length (args .block .now)) t in
+    let g = leb-true (56 + length (args .recs .now)) (length (args .block .now)) f in
+    let k1 = c .before .before .before .before .before .before .before .before .before .before .before .before .before .before .put-same .kept .0 in
+    let k2 = c .before .before .before .before .before .before .before .before .before .before .put-header .kept .1 .1 .1 .1 .1 .0 in
+    let k3 = c .before .before .before .before .before .before .put-bytes .kept .0 in
+    done (rw (t, f) refl) (leaf-written _ _ _ _ _ _ (args .block .now) _ _ _ _ (put-in (c .before .before .before .before .before .before .before .before .before .before .before .before .before .before .put-same .ensures) (search needs)) (c .before .before .before .before .before .before .before .before .before .before .put-header .ensures) (put-in (c .before .before .before .before .before .before .put-bytes .ensures) (omega (arith, k1, k2, g))) (stamp-in 52 (c .before .before .stamp .ensures) (omega (arith, k1, k2, k3, l)) .1))
 
 pub leaf-block-spec : {M : Type 1} → statement M
 leaf-block-spec =

@@ -24,11 +24,15 @@ returns-2 c = rw (ne-eqb _ _ (no-multiple' (c .before .before .args .size) (c .b
 
 returns-3 : tie.Need-returns-3
 unfolding recsNumber
-returns-3 c = rw (eq-eqb _ _ (multiple (c .before .before .before .args .size) (c .before .before .before .args .count) (c .before .before .before .args .len) (c .before .before .if1 .left) (c .before .if2 .left)), lt-leb _ _ (c .if3 .taken)) refl
+returns-3 c =
+    let args = c .before .before .before .args in
+    rw (eq-eqb _ _ (multiple (args .size) (args .count) (args .len) (c .before .before .if1 .left) (c .before .if2 .left)), lt-leb _ _ (c .if3 .taken)) refl
 
 returns-4 : tie.Need-returns-4
 unfolding recsNumber
-returns-4 c = rw (eq-eqb _ _ (multiple (c .before .before .before .args .size) (c .before .before .before .args .count) (c .before .before .before .args .len) (c .before .before .if1 .left) (c .before .if2 .left)), le-leb _ _ (c .if3 .left)) refl
+returns-4 c =
+    let args = c .before .before .before .args in
+    rw (eq-eqb _ _ (multiple (args .size) (args .count) (args .len) (c .before .before .if1 .left) (c .before .if2 .left)), le-leb _ _ (c .if3 .left)) refl
 
 pub number-spec : {M : Type 1} → statement M
 number-spec = tie.close (tie.spec div-if1 returns rem-if2 returns-2 returns-3 returns-4)

@@ -19,7 +19,9 @@ same-length : tie.Need-same-length
 same-length c = search needs
 
 returns : tie.Need-returns
-returns c = rw (put-in (c .before .before .put322 .ensures) (search needs), put-in (c .before .before .before .before .before .before .put32 .ensures) (search needs)) (alloc-put (c .before .before .before .before .before .before .before .before .before .args .o) (c .before .before .before .before .before .before .before .before .before .args .out .now) (c .before .before .before .before .before .before .before .before .before .args .r))
+returns c =
+    let args = c .before .before .before .before .before .before .before .before .before .args in
+    rw (put-in (c .before .before .put322 .ensures) (search needs), put-in (c .before .before .before .before .before .before .put32 .ensures) (search needs)) (alloc-put (args .o) (args .out .now) (args .r))
 
 pub put-alloc-spec : {M : Type 1} → statement M
 put-alloc-spec = tie.close (tie.spec add-put32 put32-requires put32-requires-2 same-length returns)

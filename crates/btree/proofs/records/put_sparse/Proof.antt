@@ -37,7 +37,9 @@ same-length : tie.Need-same-length
 same-length c = search needs
 
 returns : tie.Need-returns
-returns c = rw (put-in (c .before .before .put32 .ensures) (search needs), put-in (c .before .before .before .before .before .before .put16 .ensures) (search needs), put-in (c .before .before .before .before .before .before .before .before .before .before .put82 .ensures) (search needs), put-in (c .before .before .before .before .before .before .before .before .before .before .before .before .before .before .put8 .ensures) (search needs), put-in (c .before .before .before .before .before .before .before .before .before .before .before .before .before .before .before .before .before .before .put64 .ensures) (search needs)) (sparse-put (c .before .before .before .before .before .before .before .before .before .before .before .before .before .before .before .before .before .before .before .before .before .args .o) (c .before .before .before .before .before .before .before .before .before .before .before .before .before .before .before .before .before .before .before .before .before .args .out .now) (c .before .before .before .before .before .before .before .before .before .before .before .before .before .before .before .before .before .before .before .before .before .args .r))
+returns c =
+    let args = c .before .before .before .before .before .before .before .before .before .before .before .before .before .before .before .before .before .before .before .before .before .args in
+    rw (put-in (c .before .before .put32 .ensures) (search needs), put-in (c .before .before .before .before .before .before .put16 .ensures) (search needs), put-in (c .before .before .before .before .before .before .before .before .before .before .put82 .ensures) (search needs), put-in (c .before .before .before .before .before .before .before .before .before .before .before .before .before .before .put8 .ensures) (search needs), put-in (c .before .before .before .before .before .before .before .before .before .before .before .before .before .before .before .before .before .before .put64 .ensures) (search needs)) (sparse-put (args .o) (args .out .now) (args .r))
 
 pub put-sparse-spec : {M : Type 1} → statement M
 put-sparse-spec =

@@ -23,7 +23,9 @@ is-inode-requires : tie.Need-is-inode-requires
 is-inode-requires c κs = search needs
 
 returns : tie.Need-returns
-returns c = let t : isInode (length (c .before .before .before .args .slot .now)) ≡ false = sym (c .before .is-inode .ensures) ∙ not-true _ (c .if1 .taken) in refused (rw t refl) refl
+returns c =
+    let t : isInode (length (c .before .before .before .args .slot .now)) ≡ false = sym (c .before .is-inode .ensures) ∙ not-true _ (c .if1 .taken) in
+    refused (rw t refl) refl
 
 slice-aggregate-put-all : tie.Need-slice-aggregate-put-all
 slice-aggregate-put-all c = search needs
@@ -45,7 +47,14 @@ same-length c = search needs
 
 returns-2 : tie.Need-returns-2
 unfolding freeBytes freeFields
-returns-2 c = let t : isInode (length (c .before .before .before .before .before .before .before .before .before .before .before .before .before .before .before .before .before .before .args .slot .now)) ≡ true = sym (c .before .before .before .before .before .before .before .before .before .before .before .before .before .before .before .before .is-inode .ensures) ∙ not-false _ (c .before .before .before .before .before .before .before .before .before .before .before .before .before .before .before .if1 .left) in let l = inode-least (length (c .before .before .before .before .before .before .before .before .before .before .before .before .before .before .before .before .before .before .args .slot .now)) t in let u : length (c .before .before .before .before .before .before .before .before .before .before .before .before .before .before .before .before .before .before .args .uuid .now) ≡ 16 = search needs in let k1 = c .before .before .before .before .before .before .before .before .before .before .before .put-all .kept .0 in let k2 = c .before .before .before .before .before .before .put-bytes .kept .0 in done (rw t refl) (stamp-in 100 (c .before .before .stamp .ensures) (omega (arith, l, k1, k2)) .1 ∙ ap (stamped 100) (put-in (c .before .before .before .before .before .before .put-bytes .ensures) (omega (arith, l, u, k1)) ∙ ap (patch 160 (c .before .before .before .before .before .before .before .before .before .before .before .before .before .before .before .before .before .before .args .uuid .now)) (put-table 160 (c .before .before .before .before .before .before .before .before .before .before .before .put-all .ensures) (let h : 160 ≤ length (c .before .before .before .before .before .before .before .before .before .before .before .before .before .before .before .before .before .before .args .slot .now) = omega (arith, l) in h) tt)))
+returns-2 c =
+    let args = c .before .before .before .before .before .before .before .before .before .before .before .before .before .before .before .before .before .before .args in
+    let t : isInode (length (args .slot .now)) ≡ true = sym (c .before .before .before .before .before .before .before .before .before .before .before .before .before .before .before .before .is-inode .ensures) ∙ not-false _ (c .before .before .before .before .before .before .before .before .before .before .before .before .before .before .before .if1 .left) in
+    let l = inode-least (length (args .slot .now)) t in
+    let u : length (args .uuid .now) ≡ 16 = search needs in
+    let k1 = c .before .before .before .before .before .before .before .before .before .before .before .put-all .kept .0 in
+    let k2 = c .before .before .before .before .before .before .put-bytes .kept .0 in
+    done (rw t refl) (stamp-in 100 (c .before .before .stamp .ensures) (omega (arith, l, k1, k2)) .1 ∙ ap (stamped 100) (put-in (c .before .before .before .before .before .before .put-bytes .ensures) (omega (arith, l, u, k1)) ∙ ap (patch 160 (args .uuid .now)) (put-table 160 (c .before .before .before .before .before .before .before .before .before .before .before .put-all .ensures) (let h : 160 ≤ length (args .slot .now) = omega (arith, l) in h) tt)))
 
 pub encode-free-spec : {M : Type 1} → statement M
 encode-free-spec =

@@ -14,7 +14,9 @@ inside-requires : tie.Need-inside-requires
 inside-requires c κs = search needs
 
 returns : tie.Need-returns
-returns c = let t : isInode (c .before .before .before .args .len) ≡ true = sym (c .before .before .is-inode .ensures) ∙ c .before .if1 .taken in rw t (c .inside .ensures)
+returns c =
+    let t : isInode (c .before .before .before .args .len) ≡ true = sym (c .before .before .is-inode .ensures) ∙ c .before .if1 .taken in
+    rw t (c .inside .ensures)
 
 returns-2 : tie.Need-returns-2
 returns-2 c = let t : isInode (c .before .before .args .len) ≡ false = sym (c .before .is-inode .ensures) ∙ c .if1 .left in rw t refl

@@ -36,7 +36,9 @@ sub-t14 : tie.Need-sub-t14
 sub-t14 c = difference-fits (c .before .before .args .raw / 4294967296) 4294967295 (omega arith) (omega arith)
 
 returns-3 : tie.Need-returns-3
-returns-3 c = rw (c .before .if1 .left) (decoded-minus (c .before .before .args .raw) _ (c .if2 .left) (difference-read (c .before .before .args .raw / 4294967296) 4294967295 (omega arith) (omega arith)))
+returns-3 c =
+    let args = c .before .before .args in
+    rw (c .before .if1 .left) (decoded-minus (args .raw) _ (c .if2 .left) (difference-read (args .raw / 4294967296) 4294967295 (omega arith) (omega arith)))
 
 pub decode-time-spec : {M : Type 1} → statement M
 decode-time-spec =

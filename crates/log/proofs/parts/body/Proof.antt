@@ -19,7 +19,9 @@ add-stamp-blocks : tie.Need-add-stamp-blocks
 add-stamp-blocks c = omega (arith, c .before .before .headers .ensures, headers-few (c .before .before .before .before .args .sunit) (c .before .before .before .before .pre .1))
 
 stamp-blocks-requires : tie.Need-stamp-blocks-requires
-stamp-blocks-requires c κs = omega (arith, c .before .before .headers .ensures, headers-few (c .before .before .before .before .args .sunit) (c .before .before .before .before .pre .1), headers-before (c .before .before .before .before .args .sunit), c .before .before .before .before .pre .0)
+stamp-blocks-requires c κs =
+    let args = c .before .before .before .before .args in
+    omega (arith, c .before .before .headers .ensures, headers-few (args .sunit) (c .before .before .before .before .pre .1), headers-before (args .sunit), c .before .before .before .before .pre .0)
 
 mul-unmount : tie.Need-mul-unmount
 mul-unmount c = omega (arith, c .before .before .before .before .before .before .headers .ensures, headers-few (c .before .before .before .before .before .before .before .before .args .sunit) (c .before .before .before .before .before .before .before .before .pre .1))
@@ -37,7 +39,9 @@ same-length : tie.Need-same-length
 same-length c = search needs
 
 returns : tie.Need-returns
-returns c = body-written (c .before .before .before .before .before .before .before .before .before .before .before .before .before .before .before .args .sunit) (c .before .before .before .before .before .before .before .before .before .before .before .before .before .before .before .args .lsn) (c .before .before .before .before .before .before .before .before .before .before .before .before .before .headers .result) (c .before .before .before .before .before .before .before .before .before .before .before .before .before .before .before .args .rec .now) _ _ _ (c .before .before .before .before .before .before .before .before .before .before .before .before .before .headers .ensures) (c .before .before .before .before .before .before .before .before .before .before .stamp-blocks .ensures) (c .before .before .before .before .before .before .unmount .ensures) (rw (c .before .before .before .before .before .before .before .before .before .before .before .before .record-blocks .ensures) at (c .before .before .stamp-blocks2 .ensures))
+returns c =
+    let args = c .before .before .before .before .before .before .before .before .before .before .before .before .before .before .before .args in
+    body-written (args .sunit) (args .lsn) (c .before .before .before .before .before .before .before .before .before .before .before .before .before .headers .result) (args .rec .now) _ _ _ (c .before .before .before .before .before .before .before .before .before .before .before .before .before .headers .ensures) (c .before .before .before .before .before .before .before .before .before .before .stamp-blocks .ensures) (c .before .before .before .before .before .before .unmount .ensures) (rw (c .before .before .before .before .before .before .before .before .before .before .before .before .record-blocks .ensures) at (c .before .before .stamp-blocks2 .ensures))
 
 pub body-spec : {M : Type 1} → statement M
 body-spec =

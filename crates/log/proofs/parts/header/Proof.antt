@@ -43,7 +43,12 @@ same-length : tie.Need-same-length
 same-length c = search needs
 
 returns : tie.Need-returns
-returns c = let u : length (c .before .before .before .before .before .before .before .before .before .before .before .before .before .before .before .args .uuid .now) ≡ 16 = search needs in put-in (c .before .before .put-bytes .ensures) (search needs) ∙ ap (patch 304 (c .before .before .before .before .before .before .before .before .before .before .before .before .before .before .before .args .uuid .now)) (put-table 324 (c .before .before .before .before .before .before .before .put-all .ensures) (let h : 324 ≤ length (c .before .before .before .before .before .before .before .before .before .before .before .before .before .before .before .args .rec .now) = search needs in h) tt) ∙ header-written _ _ _ _ _ _ _ u (cc) (c .before .before .before .before .before .before .before .before .before .before .before .larger2 .ensures)
+returns c =
+    let args = c .before .before .before .before .before .before .before .before .before .before .before .before .before .before .before .args in
+    let u : length (args .uuid .now) ≡ 16 = search needs in
+    put-in (c .before .before .put-bytes .ensures) (search needs)
+    ∙ ap (patch 304 (args .uuid .now)) (put-table 324 (c .before .before .before .before .before .before .before .put-all .ensures) (let h : 324 ≤ length (args .rec .now) = search needs in h) tt)
+    ∙ header-written _ _ _ _ _ _ _ u (cc) (c .before .before .before .before .before .before .before .before .before .before .before .larger2 .ensures)
 
 pub header-spec : {M : Type 1} → statement M
 header-spec =

@@ -21,7 +21,9 @@ is-sector-requires : tie.Need-is-sector-requires
 is-sector-requires c κs = search needs
 
 returns : tie.Need-returns
-returns c = let t : isSector (length (c .before .before .before .args .sector .now)) ≡ false = sym (c .before .is-sector .ensures) ∙ not-true _ (c .if1 .taken) in refused (rw t refl) refl
+returns c =
+    let t : isSector (length (c .before .before .before .args .sector .now)) ≡ false = sym (c .before .is-sector .ensures) ∙ not-true _ (c .if1 .taken) in
+    refused (rw t refl) refl
 
 slice-aggregate-put32-run : tie.Need-slice-aggregate-put32-run
 slice-aggregate-put32-run c = search needs
@@ -49,7 +51,16 @@ same-length c = search needs
 
 returns-2 : tie.Need-returns-2
 unfolding agfBytes
-returns-2 c = let t : isSector (length (c .before .before .before .before .before .before .before .before .before .before .before .before .before .before .before .before .before .before .before .before .before .before .before .before .before .before .args .sector .now)) ≡ true = sym (c .before .before .before .before .before .before .before .before .before .before .before .before .before .before .before .before .before .before .before .before .before .before .before .before .is-sector .ensures) ∙ not-false _ (c .before .before .before .before .before .before .before .before .before .before .before .before .before .before .before .before .before .before .before .before .before .before .before .if1 .left) in let l = sector-least (length (c .before .before .before .before .before .before .before .before .before .before .before .before .before .before .before .before .before .before .before .before .before .before .before .before .before .before .args .sector .now)) t in let u : length (c .before .before .before .before .before .before .before .before .before .before .before .before .before .before .before .before .before .before .before .before .before .before .before .before .before .before .args .uuid .now) ≡ 16 = search needs in let k1 = c .before .before .before .before .before .before .before .before .before .before .before .before .before .before .before .before .before .before .before .before .put32-run .kept .0 in let k2 = c .before .before .before .before .before .before .before .before .before .before .before .before .before .before .before .put-bytes .kept .0 in let k3 = c .before .before .before .before .before .before .before .before .before .before .put32-run2 .kept .0 in let k4 = c .before .before .before .before .before .before .put64 .kept .0 in done (rw t refl) (stamp-in 216 (c .before .before .stamp .ensures) (omega (arith, l, k1, k2, k3, k4)) .1 ∙ ap (stamped 216) (rw (put-in (c .before .before .before .before .before .before .put64 .ensures) (omega (arith, l, k1, k2, k3)), put-in (c .before .before .before .before .before .before .before .before .before .before .put32-run2 .ensures) (omega (arith, l, k1, k2)), put-in (c .before .before .before .before .before .before .before .before .before .before .before .before .before .before .before .put-bytes .ensures) (omega (arith, l, u, k1)), put-in (c .before .before .before .before .before .before .before .before .before .before .before .before .before .before .before .before .before .before .before .before .put32-run .ensures) (omega (arith, l))) (agf-written (c .before .before .before .before .before .before .before .before .before .before .before .before .before .before .before .before .before .before .before .before .before .before .before .before .before .before .args .self) (c .before .before .before .before .before .before .before .before .before .before .before .before .before .before .before .before .before .before .before .before .before .before .before .before .before .before .args .uuid .now) (c .before .before .before .before .before .before .before .before .before .before .before .before .before .before .before .before .before .before .before .before .before .before .before .before .before .before .args .sector .now))))
+returns-2 c =
+    let args = c .before .before .before .before .before .before .before .before .before .before .before .before .before .before .before .before .before .before .before .before .before .before .before .before .before .before .args in
+    let t : isSector (length (args .sector .now)) ≡ true = sym (c .before .before .before .before .before .before .before .before .before .before .before .before .before .before .before .before .before .before .before .before .before .before .before .before .is-sector .ensures) ∙ not-false _ (c .before .before .before .before .before .before .before .before .before .before .before .before .before .before .before .before .before .before .before .before .before .before .before .if1 .left) in
+    let l = sector-least (length (args .sector .now)) t in
+    let u : length (args .uuid .now) ≡ 16 = search needs in
+    let k1 = c .before .before .before .before .before .before .before .before .before .before .before .before .before .before .before .before .before .before .before .before .put32-run .kept .0 in
+    let k2 = c .before .before .before .before .before .before .before .before .before .before .before .before .before .before .before .put-bytes .kept .0 in
+    let k3 = c .before .before .before .before .before .before .before .before .before .before .put32-run2 .kept .0 in
+    let k4 = c .before .before .before .before .before .before .put64 .kept .0 in
+    done (rw t refl) (stamp-in 216 (c .before .before .stamp .ensures) (omega (arith, l, k1, k2, k3, k4)) .1 ∙ ap (stamped 216) (rw (put-in (c .before .before .before .before .before .before .put64 .ensures) (omega (arith, l, k1, k2, k3)), put-in (c .before .before .before .before .before .before .before .before .before .before .put32-run2 .ensures) (omega (arith, l, k1, k2)), put-in (c .before .before .before .before .before .before .before .before .before .before .before .before .before .before .before .put-bytes .ensures) (omega (arith, l, u, k1)), put-in (c .before .before .before .before .before .before .before .before .before .before .before .before .before .before .before .before .before .before .before .before .put32-run .ensures) (omega (arith, l))) (agf-written (args .self) (args .uuid .now) (args .sector .now))))
 
 pub encode-spec : {M : Type 1} → statement M
 encode-spec =

@@ -21,10 +21,15 @@ is-sector-requires : tie.Need-is-sector-requires
 is-sector-requires c κs = search needs
 
 returns : tie.Need-returns
-returns c = let t : isSector (length (c .before .before .before .args .sector .now)) ≡ false = sym (c .before .is-sector .ensures) ∙ not-true _ (c .if1 .taken) in refused (rw t refl) refl
+returns c =
+    let t : isSector (length (c .before .before .before .args .sector .now)) ≡ false = sym (c .before .is-sector .ensures) ∙ not-true _ (c .if1 .taken) in
+    refused (rw t refl) refl
 
 put-front-requires : tie.Need-put-front-requires
-put-front-requires c κs = let t : isSector (length (c .before .before .before .before .args .sector .now)) ≡ true = sym (c .before .before .is-sector .ensures) ∙ not-false _ (c .before .if1 .left) in sector-least (length (c .before .before .before .before .args .sector .now)) t
+put-front-requires c κs =
+    let args = c .before .before .before .before .args in
+    let t : isSector (length (args .sector .now)) ≡ true = sym (c .before .before .is-sector .ensures) ∙ not-false _ (c .before .if1 .left) in
+    sector-least (length (args .sector .now)) t
 
 put64-requires : tie.Need-put64-requires
 put64-requires c κs = search needs
@@ -43,7 +48,14 @@ same-length c = search needs
 
 returns-2 : tie.Need-returns-2
 unfolding agiBytes
-returns-2 c = let t : isSector (length (c .before .before .before .before .before .before .before .before .before .before .before .before .before .before .before .before .before .before .before .before .args .sector .now)) ≡ true = sym (c .before .before .before .before .before .before .before .before .before .before .before .before .before .before .before .before .before .before .is-sector .ensures) ∙ not-false _ (c .before .before .before .before .before .before .before .before .before .before .before .before .before .before .before .before .before .if1 .left) in let l = sector-least (length (c .before .before .before .before .before .before .before .before .before .before .before .before .before .before .before .before .before .before .before .before .args .sector .now)) t in let k1 = c .before .before .before .before .before .before .before .before .before .before .before .before .before .before .before .put-front .kept .0 in let k2 = c .before .before .before .before .before .before .before .before .before .before .before .put64 .kept .0 in let k3 = c .before .before .before .before .before .before .put32-run .kept .0 in done (rw t refl) (stamp-in 312 (c .before .before .stamp .ensures) (omega (arith, l, k1, k2, k3)) .1 ∙ ap (stamped 312) (rw (put-in (c .before .before .before .before .before .before .put32-run .ensures) (omega (arith, l, k1, k2)), put-in (c .before .before .before .before .before .before .before .before .before .before .before .put64 .ensures) (omega (arith, l, k1))) (agi-written (c .before .before .before .before .before .before .before .before .before .before .before .before .before .before .before .before .before .before .before .before .args .self) (c .before .before .before .before .before .before .before .before .before .before .before .before .before .before .before .before .before .before .before .before .args .uuid .now) (c .before .before .before .before .before .before .before .before .before .before .before .before .before .before .before .before .before .before .before .before .args .sector .now) _ (c .before .before .before .before .before .before .before .before .before .before .before .before .before .before .before .put-front .ensures))))
+returns-2 c =
+    let args = c .before .before .before .before .before .before .before .before .before .before .before .before .before .before .before .before .before .before .before .before .args in
+    let t : isSector (length (args .sector .now)) ≡ true = sym (c .before .before .before .before .before .before .before .before .before .before .before .before .before .before .before .before .before .before .is-sector .ensures) ∙ not-false _ (c .before .before .before .before .before .before .before .before .before .before .before .before .before .before .before .before .before .if1 .left) in
+    let l = sector-least (length (args .sector .now)) t in
+    let k1 = c .before .before .before .before .before .before .before .before .before .before .before .before .before .before .before .put-front .kept .0 in
+    let k2 = c .before .before .before .before .before .before .before .before .before .before .before .put64 .kept .0 in
+    let k3 = c .before .before .before .before .before .before .put32-run .kept .0 in
+    done (rw t refl) (stamp-in 312 (c .before .before .stamp .ensures) (omega (arith, l, k1, k2, k3)) .1 ∙ ap (stamped 312) (rw (put-in (c .before .before .before .before .before .before .put32-run .ensures) (omega (arith, l, k1, k2)), put-in (c .before .before .before .before .before .before .before .before .before .before .before .put64 .ensures) (omega (arith, l, k1))) (agi-written (args .self) (args .uuid .now) (args .sector .now) _ (c .before .before .before .before .before .before .before .before .before .before .before .before .before .before .before .put-front .ensures))))
 
 pub encode-spec : {M : Type 1} → statement M
 encode-spec =

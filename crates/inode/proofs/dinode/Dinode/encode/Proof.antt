@@ -23,17 +23,26 @@ encode-times-requires c κs = search needs
 
 returns : tie.Need-returns
 unfolding dinodeNumber
-returns c = let e = c .before .encode-times .ensures .number-is in refused (times-refuse _ _ _ _ _ _ (λ z. c .if1 .taken (e ∙ z)) ∙ sym e) (ne-eqb _ 0 (c .if1 .taken))
+returns c =
+    let e = c .before .encode-times .ensures .number-is in
+    refused (times-refuse _ _ _ _ _ _ (λ z. c .if1 .taken (e ∙ z)) ∙ sym e) (ne-eqb _ 0 (c .if1 .taken))
 
 has-room-requires : tie.Need-has-room-requires
 has-room-requires c κs = search needs
 
 returns-2 : tie.Need-returns-2
 unfolding dinodeNumber
-returns-2 c = let e = c .before .before .before .encode-times .ensures .number-is in let f = times-fit _ _ _ _ _ (sym e ∙ c .before .before .if1 .left) in let t : isInode (length (c .before .before .before .before .before .before .before .before .before .before .args .slot .now)) && leb (176 + length (c .before .before .before .before .before .before .before .before .before .before .args .«data» .now)) (length (c .before .before .before .before .before .before .before .before .before .before .args .slot .now)) ≡ false = sym (c .before .has-room .ensures) ∙ not-true _ (c .if2 .taken) in refused (times-pass _ _ _ _ _ _ f ∙ rw t refl) refl
+returns-2 c =
+    let args = c .before .before .before .before .before .before .before .before .before .before .args in
+    let e = c .before .before .before .encode-times .ensures .number-is in
+    let f = times-fit _ _ _ _ _ (sym e ∙ c .before .before .if1 .left) in
+    let t : isInode (length (args .slot .now)) && leb (176 + length (args .«data» .now)) (length (args .slot .now)) ≡ false = sym (c .before .has-room .ensures) ∙ not-true _ (c .if2 .taken) in
+    refused (times-pass _ _ _ _ _ _ f ∙ rw t refl) refl
 
 put-core-requires : tie.Need-put-core-requires
-put-core-requires c κs = let t = sym (c .before .before .has-room .ensures) ∙ not-false _ (c .before .if2 .left) in inode-least (length (c .before .before .before .before .before .before .before .before .before .before .before .args .slot .now)) (both-left _ _ t)
+put-core-requires c κs =
+    let t = sym (c .before .before .has-room .ensures) ∙ not-false _ (c .before .if2 .left) in
+    inode-least (length (c .before .before .before .before .before .before .before .before .before .before .before .args .slot .now)) (both-left _ _ t)
 
 put-bytes-requires : tie.Need-put-bytes-requires
 put-bytes-requires c κs = search needs
@@ -49,7 +58,18 @@ same-length c = search needs
 
 returns-3 : tie.Need-returns-3
 unfolding dinodeNumber
-returns-3 c = let e = c .before .before .before .before .before .before .before .before .before .before .before .before .before .before .before .before .before .before .before .before .encode-times .ensures .number-is in let f = times-fit _ _ _ _ _ (sym e ∙ c .before .before .before .before .before .before .before .before .before .before .before .before .before .before .before .before .before .before .before .if1 .left) in let t : isInode (length (c .before .before .before .before .before .before .before .before .before .before .before .before .before .before .before .before .before .before .before .before .before .before .before .before .before .before .before .args .slot .now)) && leb (176 + length (c .before .before .before .before .before .before .before .before .before .before .before .before .before .before .before .before .before .before .before .before .before .before .before .before .before .before .before .args .«data» .now)) (length (c .before .before .before .before .before .before .before .before .before .before .before .before .before .before .before .before .before .before .before .before .before .before .before .before .before .before .before .args .slot .now)) ≡ true = sym (c .before .before .before .before .before .before .before .before .before .before .before .before .before .before .before .before .before .before .has-room .ensures) ∙ not-false _ (c .before .before .before .before .before .before .before .before .before .before .before .before .before .before .before .before .before .if2 .left) in let l = inode-least (length (c .before .before .before .before .before .before .before .before .before .before .before .before .before .before .before .before .before .before .before .before .before .before .before .before .before .before .before .args .slot .now)) (both-left _ _ t) in let g = leb-true (176 + length (c .before .before .before .before .before .before .before .before .before .before .before .before .before .before .before .before .before .before .before .before .before .before .before .before .before .before .before .args .«data» .now)) (length (c .before .before .before .before .before .before .before .before .before .before .before .before .before .before .before .before .before .before .before .before .before .before .before .before .before .before .before .args .slot .now)) (both-right (isInode (length (c .before .before .before .before .before .before .before .before .before .before .before .before .before .before .before .before .before .before .before .before .before .before .before .before .before .before .before .args .slot .now))) _ t) in let u : length (c .before .before .before .before .before .before .before .before .before .before .before .before .before .before .before .before .before .before .before .before .before .before .before .before .before .before .before .args .uuid .now) ≡ 16 = search needs in let k1 = c .before .before .before .before .before .before .before .before .before .before .before .before .before .before .before .put-core .kept .0 in let k2 = c .before .before .before .before .before .before .before .before .before .before .put-bytes .kept .0 in let k3 = c .before .before .before .before .before .before .put-bytes2 .kept .0 in done (times-pass _ _ _ _ _ _ f ∙ rw t refl) (dinode-written (c .before .before .before .before .before .before .before .before .before .before .before .before .before .before .before .before .before .before .before .before .before .before .before .before .before .before .before .args .self) _ _ _ _ _ _ _ _ _ _ _ _ (c .before .before .before .before .before .before .before .before .before .before .before .before .before .before .before .before .before .before .before .before .encode-times .ensures) f (c .before .before .before .before .before .before .before .before .before .before .before .before .before .before .before .put-core .ensures) (put-in (c .before .before .before .before .before .before .before .before .before .before .put-bytes .ensures) (omega (arith, l, u, k1))) (put-in (c .before .before .before .before .before .before .put-bytes2 .ensures) (omega (arith, g, k1, k2))) (stamp-in 100 (c .before .before .stamp .ensures) (omega (arith, l, k1, k2, k3)) .1))
+returns-3 c =
+    let args = c .before .before .before .before .before .before .before .before .before .before .before .before .before .before .before .before .before .before .before .before .before .before .before .before .before .before .before .args in
+    let e = c .before .before .before .before .before .before .before .before .before .before .before .before .before .before .before .before .before .before .before .before .encode-times .ensures .number-is in
+    let f = times-fit _ _ _ _ _ (sym e ∙ c .before .before .before .before .before .before .before .before .before .before .before .before .before .before .before .before .before .before .before .if1 .left) in
+    let t : isInode (length (args .slot .now)) && leb (176 + length (args .«data» .now)) (length (args .slot .now)) ≡ true = sym (c .before .before .before .before .before .before .before .before .before .before .before .before .before .before .before .before .before .before .has-room .ensures) ∙ not-false _ (c .before .before .before .before .before .before .before .before .before .before .before .before .before .before .before .before .before .if2 .left) in
+    let l = inode-least (length (args .slot .now)) (both-left _ _ t) in
+    let g = leb-true (176 + length (args .«data» .now)) (length (args .slot .now)) (both-right (isInode (length (args .slot .now))) _ t) in
+    let u : length (args .uuid .now) ≡ 16 = search needs in
+    let k1 = c .before .before .before .before .before .before .before .before .before .before .before .before .before .before .before .put-core .kept .0 in
+    let k2 = c .before .before .before .before .before .before .before .before .before .before .put-bytes .kept .0 in
+    let k3 = c .before .before .before .before .before .before .put-bytes2 .kept .0 in
+    done (times-pass _ _ _ _ _ _ f ∙ rw t refl) (dinode-written (args .self) _ _ _ _ _ _ _ _ _ _ _ _ (c .before .before .before .before .before .before .before .before .before .before .before .before .before .before .before .before .before .before .before .before .encode-times .ensures) f (c .before .before .before .before .before .before .before .before .before .before .before .before .before .before .before .put-core .ensures) (put-in (c .before .before .before .before .before .before .before .before .before .before .put-bytes .ensures) (omega (arith, l, u, k1))) (put-in (c .before .before .before .before .before .before .put-bytes2 .ensures) (omega (arith, g, k1, k2))) (stamp-in 100 (c .before .before .stamp .ensures) (omega (arith, l, k1, k2, k3)) .1))
 
 pub encode-spec : {M : Type 1} → statement M
 encode-spec =
