@@ -4,7 +4,7 @@ use mathlib.Core.Path.{_≡_}
 use Prim.Native.Nat.{ℕ, _+_, _*_, _-_, _/_, _^_, _≤_, _<_}
 use Rattle.arith.specs.Numbers.{ceilDiv}
 use Rattle.geometry.specs.declared.Geometry.{Geometry}
-use Rattle.geometry.specs.Limits.{mib}
+use Rattle.geometry.specs.Limits.{minGroupBytes, minGroups, maxGroups, minBytes, minLogBytes, maxLogBlocks, logReserve, maxImaxpct}
 use Rattle.geometry.specs.Log.{headerOf, preallocOf}
 use Rattle.layout.specs.Places.{chunkOf, clusterOf, rootChunkOf, freelistOf}
 
@@ -24,20 +24,20 @@ pub record SizeBounds (g : Geometry) : Type 0 where
   pub inode-half : g .inodelog + 1 ≤ g .blocklog
   pub inodes-power : g .inopblock ≡ 2 ^ g .inopblog
   pub inodes-log : g .inopblog ≡ g .blocklog - g .inodelog
-  pub imaxpct-most : g .imaxpct ≤ 100
+  pub imaxpct-most : g .imaxpct ≤ maxImaxpct
 
 -- block count and groups
 pub record GroupBounds (g : Geometry) : Type 0 where
-  pub count-least : 2 ≤ g .agcount
-  pub count-most : g .agcount ≤ 4294967294
+  pub count-least : minGroups ≤ g .agcount
+  pub count-most : g .agcount ≤ maxGroups
   pub count : g .agcount ≡ ceilDiv (g .dblocks) (g .agsize)
   -- every group, the last too, has at least 16 MiB
-  pub group-least : 16 * mib ≤ g .agsize * g .blocksize
-  pub last-least : 16 * mib ≤ (g .dblocks - (g .agcount - 1) * g .agsize) * g .blocksize
+  pub group-least : minGroupBytes ≤ g .agsize * g .blocksize
+  pub last-least : minGroupBytes ≤ (g .dblocks - (g .agcount - 1) * g .agsize) * g .blocksize
   pub group-most : g .agsize < 2 ^ 30
   pub before-last : (g .agcount - 1) * g .agsize < g .dblocks
   pub all-groups : g .dblocks ≤ g .agcount * g .agsize
-  pub disk-least : 300 * mib ≤ g .dblocks * g .blocksize
+  pub disk-least : minBytes ≤ g .dblocks * g .blocksize
   pub disk-most : g .dblocks * g .blocksize < 2 ^ 64
   -- agblklog is the least power of two that is at least agsize
   pub log-enough : g .agsize ≤ 2 ^ g .agblklog
@@ -52,10 +52,10 @@ pub record PlaceBounds (g : Geometry) : Type 0 where
   pub log-group : g .logagno ≡ g .agcount / 2
   pub log-not-first : 0 < g .logagno
   pub log-inside : g .logagno < g .agcount
-  pub log-bytes : 64 * mib ≤ g .logblocks * g .blocksize
-  pub log-blocks : g .logblocks ≤ 1048576
+  pub log-bytes : minLogBytes ≤ g .logblocks * g .blocksize
+  pub log-blocks : g .logblocks ≤ maxLogBlocks
   -- the log lies in its group, with 5 blocks to spare
-  pub log-room : g .«log_agbno» + g .logblocks + 5 ≤ g .agsize
+  pub log-room : g .«log_agbno» + g .logblocks + logReserve ≤ g .agsize
   -- a chunk and a cluster have at most 32 blocks
   pub chunk-most : chunkOf (g .inodesize) (g .blocksize) ≤ 32
   pub cluster-most : clusterOf (g .inodesize) (g .blocksize) ≤ 32

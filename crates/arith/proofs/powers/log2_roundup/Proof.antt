@@ -10,8 +10,6 @@ use Rattle.arith.specs.Powers.{leastFrom, log2Up}
 use Rattle.arith.proofs.Loops.{least-here, least-next, least-last, least-past}
 use Rattle.arith.proofs.powers.log2_roundup.Statement.{statement}
 use Rattle.arith.proofs.powers.log2_roundup.Tie as tie
-use Rattle.arith.proofs.powers.log2_roundup.Reads as reads
-use Rattle.arith.proofs.powers.log2_roundup.Lts as lts
 
 abbrev Inv-loop : tie.InvT-loop
 Inv-loop n l₀ p₀ l p = (l ≤ 63) × (p ≡ 2 ^ l) × (leastFrom (64 - l) l n ≡ log2Up n)
