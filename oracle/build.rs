@@ -4,7 +4,7 @@
 use std::env;
 use std::path::Path;
 
-const FEATURES: [&str; 2] = ["crc", "geometry"];
+const FEATURES: [&str; 4] = ["crc", "geometry", "sb", "structs"];
 
 fn main() {
     println!("cargo:rerun-if-env-changed=ZECHURQI_STATICLIB");
