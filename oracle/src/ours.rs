@@ -450,3 +450,86 @@ pub mod sb {
         }
     }
 }
+
+/// Crate `ffi_places`.
+#[cfg(feature = "places")]
+pub mod places {
+    use super::geometry::Input;
+
+    macro_rules! answers {
+        ($($name:ident),*) => {
+            extern "C" {
+                $(fn $name(
+                    which: u64,
+                    agno: u64,
+                    agbno: u64,
+                    slot: u64,
+                    given: u64,
+                    size: u64,
+                    block: u32,
+                    sector: u32,
+                    inode: u32,
+                    agcount: u64,
+                    agsize: u64,
+                    imaxpct: u8,
+                    features: u64,
+                    label_length: usize,
+                    label: *const [u8; 12],
+                    device: u64,
+                    logical: u32,
+                    physical: u32,
+                ) -> u64;)*
+            }
+        };
+    }
+    answers!(zq_place_number, zq_place_value);
+
+    /// The number and the value of one answer: 0 to 22 are the methods that take no number, in the Rust's order, then
+    /// come ag_blocks, agb_to_fsb, agb_to_byte, agb_to_daddr and ino of the place (group, block, slot).
+    pub fn answer(which: u64, place: [u64; 3], i: &Input) -> (u64, u64) {
+        macro_rules! asked {
+            ($name:ident) => {
+                unsafe {
+                    $name(
+                        which,
+                        place[0],
+                        place[1],
+                        place[2],
+                        i.given,
+                        i.size,
+                        i.block,
+                        i.sector,
+                        i.inode,
+                        i.agcount,
+                        i.agsize,
+                        i.imaxpct,
+                        i.features,
+                        i.label_length,
+                        &i.label,
+                        i.device,
+                        i.logical,
+                        i.physical,
+                    )
+                }
+            };
+        }
+        (asked!(zq_place_number), asked!(zq_place_value))
+    }
+}
+
+/// Crate `ffi_helpers`.
+#[cfg(feature = "helpers")]
+pub mod helpers {
+    extern "C" {
+        fn zq_log2_roundup(n: u64) -> u8;
+        fn zq_ag_min_blocks(blocklog: u8) -> u64;
+    }
+
+    pub fn log2_roundup(n: u64) -> u8 {
+        unsafe { zq_log2_roundup(n) }
+    }
+
+    pub fn ag_min_blocks(blocklog: u8) -> u64 {
+        unsafe { zq_ag_min_blocks(blocklog) }
+    }
+}

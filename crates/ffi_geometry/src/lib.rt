@@ -115,7 +115,7 @@ fn bits_of(f: Features) -> u64
 }
 
 // The options; neither UUID, time nor seed is given.
-fn params_of(
+pub fn params_of(
     given: u64,
     size: u64,
     block: u32,

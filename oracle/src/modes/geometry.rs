@@ -62,7 +62,7 @@ pub fn fields(g: &Geometry) -> [(&'static str, u64); 20] {
 }
 
 /// The request as the port's function takes it.
-fn port_input(q: &Request) -> Input {
+pub fn port_input(q: &Request) -> Input {
     let value = |code: usize| q.options[code].unwrap_or(0);
     let text = q.label.clone().unwrap_or_default();
     let mut label = [0u8; 12];

@@ -20,7 +20,14 @@ const NO_PLACE: u32 = 29;
 /// a line each with the number, and after 0 the result, of ag_blocks, agb_to_fsb, agb_to_byte, agb_to_daddr and ino.
 pub struct Places;
 
-fn methods(g: &Geometry) -> [u64; 23] {
+/// The methods that take no number.
+const METHODS: u64 = 23;
+
+/// The lines after them.
+#[cfg(feature = "places")]
+const CONVERSIONS: u64 = 5;
+
+fn methods(g: &Geometry) -> [u64; METHODS as usize] {
     [
         g.bs(),
         g.header_blocks(),
@@ -107,6 +114,30 @@ impl Mode for Places {
         Ok(if in_block { told } else { Told::apart("no place", NO_PLACE) })
     }
 
+    #[cfg(feature = "places")]
+    fn ours(&self, case: &[u8]) -> Option<Vec<u8>> {
+        use mkfs_xfs::ours::{geometry::field, places::answer};
+        let mut f = Fields(case);
+        let place = [f.u64(), f.u64(), f.u64()];
+        let input = super::geometry::port_input(&Request::parse(f.rest())?);
+        let number = field(0, &input);
+        let mut lines = format!("{number}\n");
+        if number != 0 {
+            return Some(lines.into_bytes());
+        }
+        let method = |k: u64| match answer(k, place, &input) {
+            (0, value) => value.to_string(),
+            (number, _) => format!("refused {number}"),
+        };
+        let conversion = |k: u64| match answer(k, place, &input) {
+            (0, value) => format!("\n0 {value}"),
+            (number, _) => format!("\n{number}"),
+        };
+        lines += &(0..METHODS).map(method).collect::<Vec<_>>().join(" ");
+        lines.extend((METHODS..METHODS + CONVERSIONS).map(conversion));
+        Some((lines + "\n").into_bytes())
+    }
+
     fn show_case(&self, case: &[u8]) -> String {
         format!("{} {:?}", super::hex(case), case.get(24..).map(Request::parse))
     }
@@ -136,6 +167,14 @@ impl Mode for Helpers {
         let asked = log.is_ok() && least.is_ok();
         writeln!(out, "{} {}", log.unwrap_or(64), least.unwrap_or(0))?;
         Ok(Told { kind: "", number: 0, asked })
+    }
+
+    #[cfg(feature = "helpers")]
+    fn ours(&self, case: &[u8]) -> Option<Vec<u8>> {
+        use mkfs_xfs::ours::helpers;
+        let mut f = Fields(case);
+        let (number, shift) = (f.u64(), f.u8());
+        Some(format!("{} {}\n", helpers::log2_roundup(number), helpers::ag_min_blocks(shift)).into_bytes())
     }
 
     fn show_answer(&self, answer: &[u8]) -> String {
