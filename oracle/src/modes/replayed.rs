@@ -115,7 +115,9 @@ impl Mode for Structs {
             _ => {}
         }
         writeln!(out, "{} {:08x}", told.number, crc32c(&left))?;
-        Ok(Told { kind: ENCODERS[encoder].0, ..told })
+        // So that the sample has some of both.
+        let several = ENCODERS[encoder].0 == "record" && left.len() > 32768;
+        Ok(Told { kind: if several { "record of several headers" } else { ENCODERS[encoder].0 }, ..told })
     }
 
     fn replayed(&self, case: &[u8]) -> Option<Vec<u8>> {
