@@ -120,6 +120,337 @@ pub mod geometry {
     }
 }
 
+/// Crate `ffi_structs`. Every function that is lent a buffer gives the number.
+#[cfg(feature = "structs")]
+pub mod structs {
+    use crate::geometry::Timestamp;
+    use crate::structs::ag::{Agf, Agi};
+    use crate::structs::inode::Dinode;
+
+    type Uuid = [u8; 16];
+
+    extern "C" {
+        fn zq_clear_sunit(logsunit: u32, logsectsize: u32) -> u32;
+        fn zq_lsn(cycle: u32, block: u32) -> u64;
+        fn zq_record(uuid: *const Uuid, sunit: u32, lsn: u64, tail_lsn: u64, rec: *mut u8, len: usize) -> u32;
+        fn zq_first_record(uuid: *const Uuid, sunit: u32, rec: *mut u8, len: usize) -> u32;
+        fn zq_agf(
+            seqno: u32,
+            length: u32,
+            bno_root: u32,
+            bno_level: u32,
+            cnt_root: u32,
+            cnt_level: u32,
+            rmap_root: u32,
+            rmap_level: u32,
+            rmap_blocks: u32,
+            refcount_root: u32,
+            refcount_level: u32,
+            refcount_blocks: u32,
+            flfirst: u32,
+            fllast: u32,
+            flcount: u32,
+            freeblks: u32,
+            longest: u32,
+            btreeblks: u32,
+            uuid: *const Uuid,
+            sector: *mut u8,
+            len: usize,
+        ) -> u32;
+        fn zq_agi(
+            seqno: u32,
+            length: u32,
+            count: u32,
+            root: u32,
+            level: u32,
+            freecount: u32,
+            newino: u32,
+            free_root: u32,
+            free_level: u32,
+            iblocks: u32,
+            fblocks: u32,
+            uuid: *const Uuid,
+            sector: *mut u8,
+            len: usize,
+        ) -> u32;
+        fn zq_agfl(
+            seqno: u32,
+            uuid: *const Uuid,
+            first: u32,
+            list: *const [u32; 64],
+            count: usize,
+            sector: *mut u8,
+            len: usize,
+        ) -> u32;
+        fn zq_leaf_block(
+            magic: u32,
+            daddr: u64,
+            agno: u32,
+            uuid: *const Uuid,
+            recs: *const u8,
+            used: usize,
+            numrecs: u16,
+            block: *mut u8,
+            len: usize,
+        ) -> u32;
+        fn zq_dinode(
+            ino: u64,
+            mode: u16,
+            format: u8,
+            nlink: u32,
+            size: u64,
+            flags: u16,
+            flags2: u64,
+            gen: u32,
+            changecount: u64,
+            atime_secs: i64,
+            atime_nsecs: u32,
+            mtime_secs: i64,
+            mtime_nsecs: u32,
+            ctime_secs: i64,
+            ctime_nsecs: u32,
+            crtime_secs: i64,
+            crtime_nsecs: u32,
+            data: *const u8,
+            used: usize,
+            uuid: *const Uuid,
+            slot: *mut u8,
+            len: usize,
+        ) -> u32;
+        fn zq_encode_free(ino: u64, gen: u32, uuid: *const Uuid, slot: *mut u8, len: usize) -> u32;
+        fn zq_time_number(secs: i64, nsecs: u32, bigtime: bool) -> u32;
+        fn zq_encode_time(secs: i64, nsecs: u32, bigtime: bool) -> u64;
+        fn zq_decode_secs(raw: u64, bigtime: bool) -> i64;
+        fn zq_decode_nsecs(raw: u64, bigtime: bool) -> u32;
+        fn zq_empty_sf_dir(parent: u64, bytes: *mut [u8; 10]) -> usize;
+    }
+
+    pub fn clear_sunit(logsunit: u32, logsectsize: u32) -> u32 {
+        unsafe { zq_clear_sunit(logsunit, logsectsize) }
+    }
+
+    pub fn lsn(cycle: u32, block: u32) -> u64 {
+        unsafe { zq_lsn(cycle, block) }
+    }
+
+    pub fn record(uuid: &Uuid, sunit: u32, lsn: u64, tail_lsn: u64, rec: &mut [u8]) -> u32 {
+        unsafe { zq_record(uuid, sunit, lsn, tail_lsn, rec.as_mut_ptr(), rec.len()) }
+    }
+
+    pub fn first_record(uuid: &Uuid, sunit: u32, rec: &mut [u8]) -> u32 {
+        unsafe { zq_first_record(uuid, sunit, rec.as_mut_ptr(), rec.len()) }
+    }
+
+    pub fn agf(a: &Agf, uuid: &Uuid, sector: &mut [u8]) -> u32 {
+        unsafe {
+            zq_agf(
+                a.seqno,
+                a.length,
+                a.bno_root,
+                a.bno_level,
+                a.cnt_root,
+                a.cnt_level,
+                a.rmap_root,
+                a.rmap_level,
+                a.rmap_blocks,
+                a.refcount_root,
+                a.refcount_level,
+                a.refcount_blocks,
+                a.flfirst,
+                a.fllast,
+                a.flcount,
+                a.freeblks,
+                a.longest,
+                a.btreeblks,
+                uuid,
+                sector.as_mut_ptr(),
+                sector.len(),
+            )
+        }
+    }
+
+    pub fn agi(a: &Agi, uuid: &Uuid, sector: &mut [u8]) -> u32 {
+        unsafe {
+            zq_agi(
+                a.seqno,
+                a.length,
+                a.count,
+                a.root,
+                a.level,
+                a.freecount,
+                a.newino,
+                a.free_root,
+                a.free_level,
+                a.iblocks,
+                a.fblocks,
+                uuid,
+                sector.as_mut_ptr(),
+                sector.len(),
+            )
+        }
+    }
+
+    pub fn agfl(seqno: u32, uuid: &Uuid, first: u32, list: &[u32; 64], count: usize, sector: &mut [u8]) -> u32 {
+        unsafe { zq_agfl(seqno, uuid, first, list, count, sector.as_mut_ptr(), sector.len()) }
+    }
+
+    pub fn leaf_block(
+        magic: u32,
+        daddr: u64,
+        agno: u32,
+        uuid: &Uuid,
+        recs: &[u8],
+        numrecs: u16,
+        block: &mut [u8],
+    ) -> u32 {
+        let (records, used) = (recs.as_ptr(), recs.len());
+        unsafe { zq_leaf_block(magic, daddr, agno, uuid, records, used, numrecs, block.as_mut_ptr(), block.len()) }
+    }
+
+    pub fn dinode(d: &Dinode, uuid: &Uuid, slot: &mut [u8]) -> u32 {
+        unsafe {
+            zq_dinode(
+                d.ino,
+                d.mode,
+                d.format,
+                d.nlink,
+                d.size,
+                d.flags,
+                d.flags2,
+                d.gen,
+                d.changecount,
+                d.atime.secs,
+                d.atime.nsecs,
+                d.mtime.secs,
+                d.mtime.nsecs,
+                d.ctime.secs,
+                d.ctime.nsecs,
+                d.crtime.secs,
+                d.crtime.nsecs,
+                d.data.as_ptr(),
+                d.data.len(),
+                uuid,
+                slot.as_mut_ptr(),
+                slot.len(),
+            )
+        }
+    }
+
+    pub fn encode_free(ino: u64, gen: u32, uuid: &Uuid, slot: &mut [u8]) -> u32 {
+        unsafe { zq_encode_free(ino, gen, uuid, slot.as_mut_ptr(), slot.len()) }
+    }
+
+    /// The number, and what is stored.
+    pub fn encode_time(t: Timestamp, bigtime: bool) -> (u32, u64) {
+        unsafe { (zq_time_number(t.secs, t.nsecs, bigtime), zq_encode_time(t.secs, t.nsecs, bigtime)) }
+    }
+
+    pub fn decode_time(raw: u64, bigtime: bool) -> Timestamp {
+        unsafe { Timestamp { secs: zq_decode_secs(raw, bigtime), nsecs: zq_decode_nsecs(raw, bigtime) } }
+    }
+
+    pub fn empty_sf_dir(parent: u64) -> Vec<u8> {
+        let mut bytes = [0; 10];
+        let n = unsafe { zq_empty_sf_dir(parent, &mut bytes) };
+        bytes[..n].to_vec()
+    }
+}
+
+/// Crate `ffi_sb`.
+#[cfg(feature = "sb")]
+pub mod sb {
+    use crate::geometry::Geometry;
+    use crate::structs::sb::SbState;
+
+    extern "C" {
+        fn zq_sb(
+            blocksize: u32,
+            blocklog: u8,
+            sectsize: u32,
+            sectlog: u8,
+            lsectsize: u32,
+            lsectlog: u8,
+            inodesize: u32,
+            inodelog: u8,
+            inopblock: u32,
+            inopblog: u8,
+            dirblocklog: u8,
+            dblocks: u64,
+            agsize: u64,
+            agcount: u64,
+            agblklog: u8,
+            imaxpct: u8,
+            logblocks: u64,
+            logagno: u64,
+            log_agbno: u64,
+            finobt: bool,
+            rmapbt: bool,
+            reflink: bool,
+            inobtcount: bool,
+            bigtime: bool,
+            nrext64: bool,
+            sparse: bool,
+            label: *const [u8; 12],
+            uuid: *const [u8; 16],
+            rootino: u64,
+            rbmino: u64,
+            rsumino: u64,
+            icount: u64,
+            ifree: u64,
+            fdblocks: u64,
+            inprogress: bool,
+            sector: *mut u8,
+            len: usize,
+        ) -> u32;
+    }
+
+    /// The number.
+    pub fn encode(g: &Geometry, s: &SbState, sector: &mut [u8]) -> u32 {
+        let f = &g.features;
+        unsafe {
+            zq_sb(
+                g.blocksize,
+                g.blocklog,
+                g.sectsize,
+                g.sectlog,
+                g.lsectsize,
+                g.lsectlog,
+                g.inodesize,
+                g.inodelog,
+                g.inopblock,
+                g.inopblog,
+                g.dirblocklog,
+                g.dblocks,
+                g.agsize,
+                g.agcount,
+                g.agblklog,
+                g.imaxpct,
+                g.logblocks,
+                g.logagno,
+                g.log_agbno,
+                f.finobt,
+                f.rmapbt,
+                f.reflink,
+                f.inobtcount,
+                f.bigtime,
+                f.nrext64,
+                f.sparse,
+                &g.label,
+                &s.uuid,
+                s.rootino,
+                s.rbmino,
+                s.rsumino,
+                s.icount,
+                s.ifree,
+                s.fdblocks,
+                s.inprogress,
+                sector.as_mut_ptr(),
+                sector.len(),
+            )
+        }
+    }
+}
+
 /// Crate `ffi_places`.
 #[cfg(feature = "places")]
 pub mod places {

@@ -6,6 +6,8 @@ use mkfs_xfs::geometry::Timestamp;
 use mkfs_xfs::structs::inode::{self, decode_time, encode_time, Dinode};
 
 use super::plans::{time_fits, BAD_TIME};
+#[cfg(feature = "structs")]
+use super::structs::port_encoded;
 use super::structs::{encoded, length};
 use super::{numbered, Mode, Out, Told};
 use crate::frames::Fields;
@@ -38,6 +40,29 @@ fn timestamp(f: &mut Fields) -> Timestamp {
     Timestamp { secs: f.u64() as i64, nsecs: f.u32() }
 }
 
+fn dinode(f: &mut Fields) -> (Dinode, [u8; 16]) {
+    let mut d = Dinode {
+        ino: f.u64(),
+        mode: f.u16(),
+        format: f.u8(),
+        nlink: f.u32(),
+        size: f.u64(),
+        flags: f.u16(),
+        flags2: f.u64(),
+        gen: f.u32(),
+        changecount: f.u64(),
+        atime: timestamp(f),
+        mtime: timestamp(f),
+        ctime: timestamp(f),
+        crtime: timestamp(f),
+        data: Vec::new(),
+    };
+    let uuid = f.array();
+    let n = f.u32() as usize;
+    d.data = f.bytes(n).to_vec();
+    (d, uuid)
+}
+
 /// ino (8 bytes), mode (2), format (1), nlink (4), size (8), flags (2), flags2 (8), gen (4), changecount (8), four
 /// times (12 each: atime, mtime, ctime, crtime), UUID, the data with its length (4) before it, slot.
 pub struct Allocated;
@@ -65,25 +90,7 @@ impl Mode for Allocated {
 
     fn answer(&self, case: &[u8], out: Out) -> io::Result<Told> {
         let mut f = Fields(case);
-        let mut d = Dinode {
-            ino: f.u64(),
-            mode: f.u16(),
-            format: f.u8(),
-            nlink: f.u32(),
-            size: f.u64(),
-            flags: f.u16(),
-            flags2: f.u64(),
-            gen: f.u32(),
-            changecount: f.u64(),
-            atime: timestamp(&mut f),
-            mtime: timestamp(&mut f),
-            ctime: timestamp(&mut f),
-            crtime: timestamp(&mut f),
-            data: Vec::new(),
-        };
-        let uuid = f.array();
-        let n = f.u32() as usize;
-        d.data = f.bytes(n).to_vec();
+        let (d, uuid) = dinode(&mut f);
         let buf = f.rest();
         let bigtime = d.flags2 & inode::DIFLAG2_BIGTIME != 0;
         let number = match () {
@@ -92,6 +99,13 @@ impl Mode for Allocated {
             _ => 0,
         };
         encoded(out, number, buf, |b| d.encode(&uuid, b))
+    }
+
+    #[cfg(feature = "structs")]
+    fn ours(&self, case: &[u8]) -> Option<Vec<u8>> {
+        let mut f = Fields(case);
+        let (d, uuid) = dinode(&mut f);
+        port_encoded(f.rest(), |b| mkfs_xfs::ours::structs::dinode(&d, &uuid, b))
     }
 }
 
@@ -109,6 +123,13 @@ impl Mode for Free {
         let (ino, gen, uuid, buf) = (f.u64(), f.u32(), f.array(), f.rest());
         let number = if is_inode(buf.len()) { 0 } else { BAD_LENGTH };
         encoded(out, number, buf, |b| inode::encode_free(ino, gen, &uuid, b))
+    }
+
+    #[cfg(feature = "structs")]
+    fn ours(&self, case: &[u8]) -> Option<Vec<u8>> {
+        let mut f = Fields(case);
+        let (ino, gen, uuid) = (f.u64(), f.u32(), f.array());
+        port_encoded(f.rest(), |b| mkfs_xfs::ours::structs::encode_free(ino, gen, &uuid, b))
     }
 }
 
@@ -138,6 +159,18 @@ impl Mode for Time {
         out.write_all(&numbered(told.number, &bytes))?;
         Ok(told)
     }
+
+    #[cfg(feature = "structs")]
+    fn ours(&self, case: &[u8]) -> Option<Vec<u8>> {
+        use mkfs_xfs::ours::structs as port;
+        let mut f = Fields(case);
+        let bigtime = f.u8() != 0;
+        let (t, raw) = (timestamp(&mut f), f.u64());
+        let (number, stored) = port::encode_time(t, bigtime);
+        let read = port::decode_time(raw, bigtime);
+        let bytes = [&stored.to_be_bytes()[..], &read.secs.to_be_bytes(), &read.nsecs.to_be_bytes()].concat();
+        Some(numbered(number, &bytes))
+    }
 }
 
 /// The parent's inode number (8 bytes).
@@ -152,5 +185,10 @@ impl Mode for SfDir {
     fn answer(&self, case: &[u8], out: Out) -> io::Result<Told> {
         out.write_all(&numbered(0, &inode::empty_sf_dir(Fields(case).u64())))?;
         Ok(Told::asked("", 0))
+    }
+
+    #[cfg(feature = "structs")]
+    fn ours(&self, case: &[u8]) -> Option<Vec<u8>> {
+        Some(numbered(0, &mkfs_xfs::ours::structs::empty_sf_dir(Fields(case).u64())))
     }
 }

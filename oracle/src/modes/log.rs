@@ -70,4 +70,20 @@ impl Mode for Record {
         out.write_all(&numbered(told.number, &left))?;
         Ok(told)
     }
+
+    #[cfg(feature = "structs")]
+    fn ours(&self, case: &[u8]) -> Option<Vec<u8>> {
+        use mkfs_xfs::ours::structs as port;
+        let mut f = Fields(case);
+        let op = usize::from(f.u8()) % KINDS.len();
+        let uuid = f.array();
+        let (a, b, c, d, mut buf) = (f.u32(), f.u32(), f.u64(), f.u64(), f.rest().to_vec());
+        let number = match KINDS[op] {
+            "clear_sunit" => return Some(numbered(0, &u64::from(port::clear_sunit(a, b)).to_be_bytes())),
+            "lsn" => return Some(numbered(0, &port::lsn(a, b).to_be_bytes())),
+            "record" => port::record(&uuid, a, c, d, &mut buf),
+            _ => port::first_record(&uuid, a, &mut buf),
+        };
+        Some(numbered(number, &buf))
+    }
 }

@@ -11,6 +11,7 @@ pub mod lists;
 pub mod log;
 pub mod places;
 pub mod plans;
+pub mod replayed;
 pub mod structs;
 pub mod writes;
 
@@ -87,6 +88,7 @@ pub fn named(name: &str) -> Option<Box<dyn Mode + Sync>> {
         "free_inode" => Box::new(inodes::Free),
         "time" => Box::new(inodes::Time),
         "sf_dir" => Box::new(inodes::SfDir),
+        "structs" => Box::new(replayed::Structs),
         _ => return None,
     })
 }

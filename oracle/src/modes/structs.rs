@@ -51,6 +51,37 @@ pub fn encoded(out: Out, number: u32, buf: &[u8], encode: impl FnOnce(&mut [u8])
     Ok(if number == 0 { Told::asked("", 0) } else { Told::apart("", number) })
 }
 
+/// The port's answer: `encode` changes the buffer and gives the number.
+#[cfg(any(feature = "structs", feature = "sb"))]
+pub fn port_encoded(buf: &[u8], encode: impl FnOnce(&mut [u8]) -> u32) -> Option<Vec<u8>> {
+    let mut left = buf.to_vec();
+    let number = encode(&mut left);
+    Some(numbered(number, &left))
+}
+
+fn agf(f: &mut Fields) -> Agf {
+    Agf {
+        seqno: f.u32(),
+        length: f.u32(),
+        bno_root: f.u32(),
+        bno_level: f.u32(),
+        cnt_root: f.u32(),
+        cnt_level: f.u32(),
+        rmap_root: f.u32(),
+        rmap_level: f.u32(),
+        rmap_blocks: f.u32(),
+        refcount_root: f.u32(),
+        refcount_level: f.u32(),
+        refcount_blocks: f.u32(),
+        flfirst: f.u32(),
+        fllast: f.u32(),
+        flcount: f.u32(),
+        freeblks: f.u32(),
+        longest: f.u32(),
+        btreeblks: f.u32(),
+    }
+}
+
 /// 18 fields of 4 bytes, UUID, sector.
 pub struct AgfSector;
 
@@ -62,29 +93,33 @@ impl Mode for AgfSector {
 
     fn answer(&self, case: &[u8], out: Out) -> io::Result<Told> {
         let mut f = Fields(case);
-        let agf = Agf {
-            seqno: f.u32(),
-            length: f.u32(),
-            bno_root: f.u32(),
-            bno_level: f.u32(),
-            cnt_root: f.u32(),
-            cnt_level: f.u32(),
-            rmap_root: f.u32(),
-            rmap_level: f.u32(),
-            rmap_blocks: f.u32(),
-            refcount_root: f.u32(),
-            refcount_level: f.u32(),
-            refcount_blocks: f.u32(),
-            flfirst: f.u32(),
-            fllast: f.u32(),
-            flcount: f.u32(),
-            freeblks: f.u32(),
-            longest: f.u32(),
-            btreeblks: f.u32(),
-        };
+        let agf = agf(&mut f);
         let (uuid, buf) = (f.array(), f.rest());
         let number = if is_sector(buf.len()) { 0 } else { BAD_LENGTH };
         encoded(out, number, buf, |b| agf.encode(&uuid, b))
+    }
+
+    #[cfg(feature = "structs")]
+    fn ours(&self, case: &[u8]) -> Option<Vec<u8>> {
+        let mut f = Fields(case);
+        let (a, uuid) = (agf(&mut f), f.array());
+        port_encoded(f.rest(), |b| mkfs_xfs::ours::structs::agf(&a, &uuid, b))
+    }
+}
+
+fn agi(f: &mut Fields) -> Agi {
+    Agi {
+        seqno: f.u32(),
+        length: f.u32(),
+        count: f.u32(),
+        root: f.u32(),
+        level: f.u32(),
+        freecount: f.u32(),
+        newino: f.u32(),
+        free_root: f.u32(),
+        free_level: f.u32(),
+        iblocks: f.u32(),
+        fblocks: f.u32(),
     }
 }
 
@@ -99,22 +134,17 @@ impl Mode for AgiSector {
 
     fn answer(&self, case: &[u8], out: Out) -> io::Result<Told> {
         let mut f = Fields(case);
-        let agi = Agi {
-            seqno: f.u32(),
-            length: f.u32(),
-            count: f.u32(),
-            root: f.u32(),
-            level: f.u32(),
-            freecount: f.u32(),
-            newino: f.u32(),
-            free_root: f.u32(),
-            free_level: f.u32(),
-            iblocks: f.u32(),
-            fblocks: f.u32(),
-        };
+        let agi = agi(&mut f);
         let (uuid, buf) = (f.array(), f.rest());
         let number = if is_sector(buf.len()) { 0 } else { BAD_LENGTH };
         encoded(out, number, buf, |b| agi.encode(&uuid, b))
+    }
+
+    #[cfg(feature = "structs")]
+    fn ours(&self, case: &[u8]) -> Option<Vec<u8>> {
+        let mut f = Fields(case);
+        let (a, uuid) = (agi(&mut f), f.array());
+        port_encoded(f.rest(), |b| mkfs_xfs::ours::structs::agi(&a, &uuid, b))
     }
 }
 
@@ -145,6 +175,15 @@ impl Mode for AgflSector {
             _ => 0,
         };
         encoded(out, number, buf, |b| encode_agfl(seqno, &uuid, first, &list[..count as usize], b))
+    }
+
+    #[cfg(feature = "structs")]
+    fn ours(&self, case: &[u8]) -> Option<Vec<u8>> {
+        let mut f = Fields(case);
+        let (seqno, first, uuid, count) = (f.u32(), f.u32(), f.array(), f.u64());
+        let list: [u32; MOST] = std::array::from_fn(|_| f.u32());
+        let count = count as usize;
+        port_encoded(f.rest(), |b| mkfs_xfs::ours::structs::agfl(seqno, &uuid, first, &list, count, b))
     }
 }
 
@@ -180,6 +219,16 @@ impl Mode for Leaf {
         encoded(out, number, buf, |b| {
             b.copy_from_slice(&btree::leaf_block(magic, daddr, agno, &uuid, recs, numrecs, b.len()))
         })
+    }
+
+    #[cfg(feature = "structs")]
+    fn ours(&self, case: &[u8]) -> Option<Vec<u8>> {
+        use mkfs_xfs::ours::structs::leaf_block;
+        let mut f = Fields(case);
+        let (magic, daddr, agno, uuid, numrecs) = (f.u32(), f.u64(), f.u32(), f.array(), f.u16());
+        let n = f.u32() as usize;
+        let recs = f.bytes(n);
+        port_encoded(f.rest(), |b| leaf_block(magic, daddr, agno, &uuid, recs, numrecs, b))
     }
 }
 
@@ -242,6 +291,19 @@ impl Mode for Recs {
     }
 }
 
+fn state(f: &mut Fields) -> SbState {
+    SbState {
+        uuid: f.array(),
+        rootino: f.u64(),
+        rbmino: f.u64(),
+        rsumino: f.u64(),
+        icount: f.u64(),
+        ifree: f.u64(),
+        fdblocks: f.u64(),
+        inprogress: f.u8() != 0,
+    }
+}
+
 /// The state (UUID, six numbers of 8 bytes, inprogress in 1), the input records with their length (4 bytes) before
 /// them, and the sector. Before the sector, an answer has versionnum, features2, ro_compat and incompat, 4 bytes each.
 pub struct Sb;
@@ -268,16 +330,7 @@ impl Mode for Sb {
 
     fn answer(&self, case: &[u8], out: Out) -> io::Result<Told> {
         let mut f = Fields(case);
-        let s = SbState {
-            uuid: f.array(),
-            rootino: f.u64(),
-            rbmino: f.u64(),
-            rsumino: f.u64(),
-            icount: f.u64(),
-            ifree: f.u64(),
-            fdblocks: f.u64(),
-            inprogress: f.u8() != 0,
-        };
+        let s = state(&mut f);
         let n = f.u32() as usize;
         let (records, buf) = (f.bytes(n), f.rest());
         let Some(q) = Request::parse(records) else {
@@ -293,5 +346,18 @@ impl Mode for Sb {
         }
         let number = if buf.len() == g.sectsize as usize { 0 } else { BAD_LENGTH };
         encoded(out, number, buf, |b| sb::encode(&g, &s, b))
+    }
+
+    /// The four numbers before the sector are the Rust's: the sector holds the port's.
+    #[cfg(feature = "sb")]
+    fn ours(&self, case: &[u8]) -> Option<Vec<u8>> {
+        let mut f = Fields(case);
+        let s = state(&mut f);
+        let n = f.u32() as usize;
+        let g = step(&Request::parse(f.bytes(n))?).1?;
+        let named = [u32::from(sb::versionnum(&g)), sb::features2(&g), sb::ro_compat(&g), sb::incompat(&g)];
+        let mut out: Vec<u8> = named.iter().flat_map(|v| v.to_be_bytes()).collect();
+        out.extend(port_encoded(f.rest(), |b| mkfs_xfs::ours::sb::encode(&g, &s, b))?);
+        Some(out)
     }
 }
