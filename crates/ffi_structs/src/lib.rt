@@ -16,7 +16,7 @@ ghost use Rattle.inode.specs.Directory.{EmptyDir};
 use ag::Agf;
 use ag::Agi;
 use inode::Dinode;
-use inode::Timestamp;
+use params::Timestamp;
 
 #[no_mangle]
 pub extern "C" fn zq_clear_sunit(logsunit: u32, logsectsize: u32) -> u32

@@ -4,7 +4,7 @@ use mathlib.Core.Path.{ap, _∙_}
 use mir.Syntax.{w64}
 use mir.Val.{SFits}
 use mir.ValLaws.{toZ-ofZ}
-use Rattle.inode.specs.declared.time.Timestamp.{Timestamp}
+use Rattle.params.specs.declared.Timestamp.{Timestamp}
 use borrow.Author.Needs.{needs}
 use Rattle.ffi_structs.proofs.zq_decode_secs.Statement.{statement}
 use Rattle.ffi_structs.proofs.zq_decode_secs.Tie as tie
