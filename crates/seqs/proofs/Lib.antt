@@ -1,0 +1,3 @@
+pub mod Laws
+pub mod Validity
+pub mod Weights
