@@ -23,7 +23,9 @@ use Rattle.layout.proofs.Small.{freelist-most}
 use Rattle.counts.specs.Known.{number64}
 use Rattle.counts.specs.declared.Value64.the-variants.{Refused, Of}
 use Rattle.places.specs.Answers.{unless64, groupRefusal, agBlocks}
-use Rattle.site.specs.Sites.{value64, siteOf, Sound}
+use Rattle.places.proofs.Refused.{a-group}
+use Rattle.site.specs.declared.Sited.{Sited}
+use Rattle.site.specs.Sites.{value64, siteOf, noSite, sited, Sound}
 
 -- 16 MiB are at least 1024 blocks, 64 MiB at least one
 blocks-least : (a b : ℕ) → b ≤ 2 ^ 14 → 2 ^ 24 ≤ a * b → 1024 ≤ a
@@ -157,3 +159,24 @@ its-number g k = number-at (groupRefusal g k) (groupBlocks (g .dblocks) (g .agsi
 pub its-value : (g : Geometry) (k : ℕ) → groupRefusal g k ≡ 0 → value64 (agBlocks g k) ≡ groupBlocks (g .dblocks) (g .agsize) (g .agcount) k
 unfolding agBlocks unless64
 its-value g k e = rw (eq-eqb (groupRefusal g k) 0 e)
+
+-- ---- what an answer of `site_of` says
+
+site-number-at : (g : Geometry) (k n : ℕ) (t : Bool) → eqb n 0 ≡ t
+    → cond {A = Sited} t (record { number = 0; site = siteOf g k }) (record { number = n; site = noSite }) .number ≡ n
+site-number-at g k n true e = sym (eqb-true n 0 e)
+site-number-at g k n false e = refl
+
+pub site-number : (g : Geometry) (k : ℕ) → sited g k .number ≡ groupRefusal g k
+unfolding sited
+site-number g k = site-number-at g k (groupRefusal g k) (eqb (groupRefusal g k) 0) refl
+
+pub site-is : (g : Geometry) (k : ℕ) → groupRefusal g k ≡ 0 → sited g k .site ≡ siteOf g k
+unfolding sited
+site-is g k e = rw (eq-eqb (groupRefusal g k) 0 e)
+
+-- a site that was answered is sound
+pub answered-sound : (g : Geometry) (k : ℕ) → length (g .label) ≡ 12 → sited g k .number ≡ 0 → Sound (sited g k .site)
+answered-sound g k l e =
+    let r = sym (site-number g k) ∙ e in
+    rw (site-is g k r) (site-sound g k l (a-group g k r .0))

@@ -1,0 +1,40 @@
+-- `plan::fill::fill_list` meets its contract.
+-- Assumes nothing.
+use Rattle.plan.specs.Plan.{turn}
+use Rattle.seqs.proofs.Laws.{turns-step, turns-end}
+use Rattle.seqs.specs.Lists.{turns}
+use borrow.Author.Needs.{needs}
+use native.Mathlib.Omega.{arith}
+use mathlib.Core.Path.{_≡_, sym, _∙_}
+use Rattle.plan.proofs.fill.fill_list.Statement.{statement}
+use Rattle.plan.proofs.fill.fill_list.Tie as tie
+
+abbrev Inv-loop : tie.InvT-loop
+Inv-loop need out₀ k₀ out k = turns turn need out₀ ≡ turns turn k out
+
+abbrev μ-loop : tie.MeasureT-loop
+μ-loop need out₀ k₀ out k = k
+
+loop-holds : tie.Need-loop-holds Inv-loop μ-loop
+loop-holds c = search needs
+
+one-turn-requires : tie.Need-one-turn-requires Inv-loop μ-loop
+one-turn-requires c κs = search needs
+
+sub-k : tie.Need-sub-k Inv-loop μ-loop
+sub-k c = search needs
+
+loop-less : tie.Need-loop-less Inv-loop μ-loop
+loop-less c = search needs
+
+loop-again : tie.Need-loop-again Inv-loop μ-loop
+loop-again c = let l = c .before .before .loop in rw (c .one-turn .ensures) (l .inv ∙ turns-step turn (l .k) (l .out) (search needs))
+
+returns : tie.Need-returns Inv-loop μ-loop
+returns c = let e : c .before .loop .k ≡ 0 = omega arith in sym (c .before .loop .inv ∙ turns-end turn _ _ e)
+
+pub fill-list-spec : {M : Type 1} → statement M
+fill-list-spec =
+    tie.close
+    (tie.spec
+    Inv-loop μ-loop loop-holds one-turn-requires sub-k loop-less loop-again returns)

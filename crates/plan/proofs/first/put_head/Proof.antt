@@ -1,0 +1,19 @@
+-- `plan::first::put_head` meets its contract.
+-- Assumes nothing.
+use Rattle.btree.specs.Owners.{negative}
+use Rattle.seqs.specs.Lists.{appended}
+use mathlib.Core.Path.{_∙_}
+use borrow.Author.Needs.{needs}
+use Rattle.plan.proofs.first.put_head.Statement.{statement}
+use Rattle.plan.proofs.first.put_head.Tie as tie
+
+returns : tie.Need-returns
+unfolding appended negative
+returns c = c .push4 .ensures ∙ rw (c .before .push3 .ensures, c .before .before .before .push2 .ensures, c .before .before .before .before .push .ensures)
+
+pub put-head-spec : {M : Type 1} → statement M
+put-head-spec =
+    tie.close
+    (tie.spec
+    (λ c κs. search needs) (λ c κs. search needs) (λ c. search needs) (λ c κs. search needs)
+    (λ c κs. search needs) returns)
