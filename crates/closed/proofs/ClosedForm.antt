@@ -1,17 +1,17 @@
 -- The planner's plan is the closed one, in group 0, in the log group and in every other.
 -- Assumes nothing.
-use mathlib.Core.Path.{_≡_, refl, sym, ap, _∙_}
+use mathlib.Core.Path.{_≡_, refl, ap, _∙_}
 use mathlib.Core.Bool.{Bool, true, false}
 use mathlib.Core.Logic.{⊎-elim}
 use mathlib.Core.List.{List, [], _∷_, _++_, append-nil}
 use Prim.Native.Nat.{ℕ, _+_, _-_, _≤_, _<_, _^_}
 use native.Mathlib.Omega.{arith}
-use borrow.Author.Tests.{ltb-true, ltb-false, eqb-true, eqb-false, lt-ltb, le-ltb, eq-eqb}
-use lib.Dec.{ltb, eqb}
-use Rattle.seqs.specs.Lists.{both, choose, turns, upFrom}
-use Rattle.seqs.proofs.Laws.{both-left, both-right, lt-or-le}
+use borrow.Author.Tests.{ltb-true, ltb-false, eqb-true, lt-ltb, le-ltb, eq-eqb}
+use lib.Dec.{ltb}
+use Rattle.seqs.specs.Lists.{both, choose, upFrom}
+use Rattle.seqs.proofs.Laws.{lt-or-le}
 use Rattle.params.specs.declared.OptU64.{OptU64}
-use Rattle.params.specs.declared.OptU64.the-variants.{Absent, Given}
+use Rattle.params.specs.declared.OptU64.the-variants.{Absent}
 use Rattle.btree.specs.declared.records.AllocRec.{AllocRec}
 use Rattle.btree.specs.declared.records.RmapRec.{RmapRec}
 use Rattle.site.specs.declared.Site.{Site}
@@ -19,8 +19,7 @@ use Rattle.site.specs.Sites.{Sound}
 use Rattle.free.specs.Free.{packFree, taken}
 use Rattle.rmap.specs.Rmap.{packRmap}
 use Rattle.plan.specs.declared.Work.{Work}
-use Rattle.plan.specs.declared.Planned.{Planned}
-use Rattle.plan.specs.Plan.{packAgfl, ownInodes, gap, mapRec, mapped, freeAtFirst, rmapAtFirst, atFirst, noted, turn, listed, chunked, refusedPlan, answer, planOf}
+use Rattle.plan.specs.Plan.{ownInodes, gap, mapRec, mapped, freeAtFirst, rmapAtFirst, atFirst, noted, listed, chunked, refusedPlan, answer, planOf}
 use Rattle.closed.specs.Closed.{isFirst, listAt, closedFree, closedList, closedRmap, short, closedAgPlan, closedPlan}
 use Rattle.closed.proofs.Takings.{one-taken}
 use Rattle.closed.proofs.Filling.{work, filled, emptied, starved}

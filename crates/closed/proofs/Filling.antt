@@ -1,18 +1,18 @@
 -- The free list filled from one free record: in one turn where the record has all that is wanted, else 25 in the second.
 -- Assumes nothing.
-use mathlib.Core.Path.{_≡_, refl, sym, ap, _∙_}
+use mathlib.Core.Path.{_≡_, refl, ap, _∙_}
 use mathlib.Core.Bool.{Bool, true, false}
-use mathlib.Core.List.{List, [], _∷_, _++_}
+use mathlib.Core.List.{List, [], _∷_}
 use Prim.Native.Nat.{ℕ, zero, suc, _+_, _-_, _≤_, _<_, _^_}
 use native.Mathlib.Omega.{arith}
 use borrow.Author.Tests.{eq-eqb, ne-eqb, le-leb, lt-leb, le-ltb}
-use lib.Dec.{leb, ltb, eqb}
+use lib.Dec.{eqb}
 use lib.ListN.{length}
-use Rattle.seqs.specs.Lists.{choose, packed, appended, turns, upFrom}
+use Rattle.seqs.specs.Lists.{choose, appended, turns, upFrom}
 use Rattle.seqs.proofs.Laws.{appended-packed, turns-step}
 use Rattle.btree.specs.declared.records.AllocRec.{AllocRec}
 use Rattle.btree.specs.declared.records.RmapRec.{RmapRec}
-use Rattle.free.specs.Free.{packFree, taken, picked}
+use Rattle.free.specs.Free.{packFree}
 use Rattle.rmap.specs.Rmap.{packRmap}
 use Rattle.plan.specs.declared.Work.{Work}
 use Rattle.plan.specs.Plan.{toAgfl, ofAgfl, packAgfl, ownAg, gap, mapRec, failed, mapped, noted, moved, least, turn}

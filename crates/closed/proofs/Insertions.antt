@@ -1,20 +1,19 @@
 -- A reverse mapping put behind all others: it is the last, or joined with the last.
 -- Assumes nothing.
-use mathlib.Core.Path.{_≡_, refl, sym, ap, _∙_}
+use mathlib.Core.Path.{_≡_, refl, ap, _∙_}
 use mathlib.Core.Bool.{Bool, true, false}
-use mathlib.Core.List.{List, [], _∷_, _++_, append-nil}
-use Prim.Native.Nat.{ℕ, zero, suc, _+_, _-_, _≤_, _<_, _^_}
+use mathlib.Core.List.{List, [], _∷_, _++_}
+use Prim.Native.Nat.{ℕ, suc, _+_, _-_, _≤_, _<_, _^_}
 use native.Mathlib.Omega.{arith}
 use borrow.Author.Tests.{ltb-true, leb-true, lt-ltb, le-leb, lt-leb, le-ltb}
-use lib.Dec.{leb, ltb, eqb}
-use lib.ListN.{length, take, drop, getD, replicate, length-append}
-use lib.Seq.{take-append-seam, take-length, drop-length, take-at, drop-at, getD-append-seam}
+use lib.Dec.{leb, ltb}
+use lib.ListN.{length, replicate, length-append}
+use lib.Seq.{take-append-seam, take-length, drop-length, getD-append-seam}
 use Rattle.seqs.specs.Lists.{both, choose, firstIndex, spliced}
 use Rattle.seqs.specs.Runs.{follows, valid}
 use Rattle.seqs.proofs.Laws.{both-left, both-right}
 use Rattle.btree.specs.declared.records.RmapRec.{RmapRec}
-use Rattle.rmap.specs.declared.Inserted.{Inserted}
-use Rattle.rmap.specs.Rmap.{zeroRec, rmapOf, packRmap, startOf, countOf, endOf, notBefore, placeOf, joins, glued, joinsLeft, joinsRight, kept, joinedAt, insertedAt, takes, inserted}
+use Rattle.rmap.specs.Rmap.{zeroRec, rmapOf, packRmap, startOf, countOf, endOf, placeOf, joins, glued, joinsLeft, joinsRight, kept, joinedAt, insertedAt, takes, inserted}
 
 abbrev pub validRmap : ℕ → List RmapRec → Bool
 validRmap lo xs = valid startOf countOf lo xs

@@ -1,6 +1,6 @@
 -- The reverse mappings of a group: those at first, then the free list, then the root chunk, each behind all others.
 -- Assumes nothing.
-use mathlib.Core.Path.{_≡_, refl, sym, ap, _∙_}
+use mathlib.Core.Path.{_≡_, refl, ap, _∙_}
 use mathlib.Core.Bool.{Bool, true, false, not}
 use mathlib.Core.List.{List, [], _∷_, _++_}
 use Prim.Native.Nat.{ℕ, _+_, _-_, _≤_, _<_, _^_}
@@ -13,9 +13,9 @@ use Rattle.btree.specs.Owners.{negative}
 use Rattle.btree.specs.declared.records.RmapRec.{RmapRec}
 use Rattle.site.specs.declared.Site.{Site}
 use Rattle.site.specs.Sites.{Sound}
-use Rattle.rmap.specs.Rmap.{packRmap, endOf, joins, inserted}
+use Rattle.rmap.specs.Rmap.{packRmap, joins, inserted}
 use Rattle.plan.specs.Plan.{ownFs, ownLog, ownAg, ownInobt, ownInodes, ownRefc, mapRec, headMap, mapped, rmapAtFirst}
-use Rattle.closed.specs.Closed.{listAt, headParts, isFirst}
+use Rattle.closed.specs.Closed.{listAt, headParts}
 use Rattle.closed.proofs.Insertions.{validRmap, valid-nil, valid-cons, inserted-joined, inserted-apart}
 
 bit-at : (t : Bool) → bit t ≡ choose t 1 0
@@ -95,8 +95,6 @@ module _ (s : Site) (ok : Sound s) (on : s .rmapbt ≡ true) where
         → inserted (packRmap (headMap s ++ (refcIf s t ++ logIf s u))) (mapRec (listIf s u) n ownAg) ≡ record { number = 0; list = packRmap (listedIf s n t u) }
     put-list false false r w =
         let h = head-is false r in
-        let x = mapRec (s .«rmap_at») 1 ownAg in
-        let y = mapRec (s .head) n ownAg in
         inserted-joined (mapRec (s .«rmap_at») 1 ownAg) (mapRec (s .head) n ownAg) (omega arith) some w (headParts s) (root-valid [] (valid-nil _)) (omega arith)
         (rw (eq-eqb ownAg ownAg refl, eq-eqb (s .«rmap_at» + 1) (s .head) (omega arith)))
     put-list true false r w =

@@ -1,10 +1,10 @@
 -- Every group of an answer: its plan, and which groups are refused.
 -- Assumes nothing.
-use mathlib.Core.Path.{_≡_, refl, sym, ap, _∙_}
+use mathlib.Core.Path.{_≡_, refl, ap, _∙_}
 use mathlib.Core.Bool.{Bool, true, false}
 use mathlib.Core.Logic.{_⊎_, inl, inr}
-use mathlib.Core.List.{List, [], _∷_, _++_}
-use Prim.Native.Nat.{ℕ, _+_, _-_, _≤_, _<_}
+use mathlib.Core.List.{[], _∷_, _++_}
+use Prim.Native.Nat.{ℕ, _+_, _-_, _<_}
 use native.Mathlib.Omega.{arith}
 use borrow.Author.Tests.{eq-eqb, ne-eqb}
 use lib.Dec.{ltb, eqb}
@@ -16,7 +16,6 @@ use Rattle.geometry.specs.declared.Geometry.{Geometry}
 use Rattle.answers.specs.Named.{isAnswer}
 use Rattle.layout.specs.Places.{freelistOf}
 use Rattle.layout.proofs.Bounding.{answer-bounds}
-use Rattle.places.specs.Answers.{groupRefusal}
 use Rattle.places.proofs.Refused.{group-there}
 use Rattle.site.specs.declared.Site.{Site}
 use Rattle.site.specs.Sites.{siteOf, Sound}
@@ -71,14 +70,14 @@ module _ (g : Geometry) (l : length (g .label) ≡ 12) (h : isAnswer g ≡ true)
   unfolding planned
   closed-plan k i = rw (group-there g k h i) (closed-form (siteOf g k) (site-sound g k l h))
 
-  planned-number : (k : ℕ) → k < g .agcount → planned g k .number ≡ choose (short (siteOf g k)) 25 0
+  pub planned-number : (k : ℕ) → k < g .agcount → planned g k .number ≡ choose (short (siteOf g k)) 25 0
   planned-number k i = ap (λ (p : Planned). p .number) (closed-plan k i) ∙ its-number (siteOf g k) (site-sound g k l h)
 
   -- NO NUMBER BUT 25 COMES UP INSIDE
   pub refused-or-not : (k : ℕ) → k < g .agcount → (planned g k .number ≡ 0) ⊎ (planned g k .number ≡ 25)
   refused-or-not k i = either-at (short (siteOf g k)) (planned g k .number) (planned-number k i)
 
-  elsewhere-long : (k : ℕ) → eqb k (g .logagno) ≡ false → short (siteOf g k) ≡ false
+  pub elsewhere-long : (k : ℕ) → eqb k (g .logagno) ≡ false → short (siteOf g k) ≡ false
   unfolding short siteOf
   elsewhere-long k e = rw e
 

@@ -1,18 +1,16 @@
 -- One free record: what is picked of it, and what a run taken out of it leaves.
 -- Assumes nothing.
-use mathlib.Core.Path.{_≡_, refl, ap, _∙_}
+use mathlib.Core.Path.{_≡_, refl}
 use mathlib.Core.Bool.{Bool, true, false}
-use mathlib.Core.List.{List, [], _∷_, _++_}
-use Prim.Native.Nat.{ℕ, suc, _+_, _-_, _≤_, _<_, _^_}
+use mathlib.Core.List.{[], _∷_, _++_}
+use Prim.Native.Nat.{ℕ, _+_, _-_, _≤_, _<_, _^_}
 use native.Mathlib.Omega.{arith}
 use borrow.Author.Tests.{lt-ltb, le-leb}
 use lib.Dec.{leb, ltb}
 use Rattle.seqs.specs.Lists.{both, choose, firstIndex, fold}
 use Rattle.seqs.specs.Runs.{valid}
 use Rattle.btree.specs.declared.records.AllocRec.{AllocRec}
-use Rattle.free.specs.declared.Taken.{Taken}
-use Rattle.free.specs.declared.Choice.{Choice}
-use Rattle.free.specs.Free.{packFree, startOf, countOf, endOf, holdsRun, cut, kept, takenAt, takenFrom, taken, noChoice, chosen, fitter, bigger, pickedFrom, picked}
+use Rattle.free.specs.Free.{packFree, startOf, countOf, holdsRun, cut, kept, takenAt, takenFrom, taken, noChoice, chosen, fitter, bigger, pickedFrom, picked}
 use Rattle.plan.specs.Plan.{gap}
 
 -- the one record is picked, whether it holds all that is wanted or not
