@@ -533,3 +533,62 @@ pub mod helpers {
         unsafe { zq_ag_min_blocks(blocklog) }
     }
 }
+
+/// Crate `ffi_recs`: the record lists, from 64 records and a count. Every function gives the number.
+#[cfg(feature = "recs")]
+pub mod recs {
+    use crate::structs::btree::{AllocRec, InobtRec, RmapRec};
+
+    extern "C" {
+        fn zq_alloc_recs(start: *const u32, blocks: *const u32, count: usize, out: *mut u8, len: usize) -> u32;
+        fn zq_inobt_recs(
+            startino: *const u32,
+            holemask: *const u16,
+            inodes: *const u8,
+            freecount: *const u8,
+            free: *const u64,
+            count: usize,
+            sparse: bool,
+            out: *mut u8,
+            len: usize,
+        ) -> u32;
+        fn zq_rmap_recs(
+            start: *const u32,
+            blocks: *const u32,
+            owner: *const u64,
+            count: usize,
+            out: *mut u8,
+            len: usize,
+        ) -> u32;
+    }
+
+    pub fn alloc_recs(recs: &[AllocRec; 64], count: usize, out: &mut [u8]) -> u32 {
+        let (start, blocks) = (recs.each_ref().map(|r| r.start), recs.each_ref().map(|r| r.count));
+        unsafe { zq_alloc_recs(start.as_ptr(), blocks.as_ptr(), count, out.as_mut_ptr(), out.len()) }
+    }
+
+    pub fn inobt_recs(recs: &[InobtRec; 64], count: usize, sparse: bool, out: &mut [u8]) -> u32 {
+        let (startino, holemask) = (recs.each_ref().map(|r| r.startino), recs.each_ref().map(|r| r.holemask));
+        let (inodes, freecount) = (recs.each_ref().map(|r| r.count), recs.each_ref().map(|r| r.freecount));
+        let free = recs.each_ref().map(|r| r.free);
+        unsafe {
+            zq_inobt_recs(
+                startino.as_ptr(),
+                holemask.as_ptr(),
+                inodes.as_ptr(),
+                freecount.as_ptr(),
+                free.as_ptr(),
+                count,
+                sparse,
+                out.as_mut_ptr(),
+                out.len(),
+            )
+        }
+    }
+
+    pub fn rmap_recs(recs: &[RmapRec; 64], count: usize, out: &mut [u8]) -> u32 {
+        let (start, blocks) = (recs.each_ref().map(|r| r.start), recs.each_ref().map(|r| r.count));
+        let owner = recs.each_ref().map(|r| r.owner);
+        unsafe { zq_rmap_recs(start.as_ptr(), blocks.as_ptr(), owner.as_ptr(), count, out.as_mut_ptr(), out.len()) }
+    }
+}

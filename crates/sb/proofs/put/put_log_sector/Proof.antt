@@ -1,11 +1,11 @@
--- `sb::put_log_sector` meets its contract.
+-- `sb::put::put_log_sector` meets its contract.
 -- Assumes nothing.
 use mathlib.Core.Path.{ap, _∙_}
 use Rattle.endian.specs.Bytes.{patch, beBytes}
 use Rattle.endian.proofs.Laws.{put-in}
 use borrow.Author.Needs.{needs}
-use Rattle.sb.proofs.put_log_sector.Statement.{statement}
-use Rattle.sb.proofs.put_log_sector.Tie as tie
+use Rattle.sb.proofs.put.put_log_sector.Statement.{statement}
+use Rattle.sb.proofs.put.put_log_sector.Tie as tie
 
 put8-requires : tie.Need-put8-requires
 put8-requires c κs = search needs

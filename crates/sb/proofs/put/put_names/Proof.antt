@@ -1,12 +1,12 @@
--- `sb::put_names` meets its contract.
+-- `sb::put::put_names` meets its contract.
 -- Assumes nothing.
 use mathlib.Core.Path.{_≡_, ap, _∙_}
 use lib.ListN.{length}
 use Rattle.endian.specs.Bytes.{patch}
 use Rattle.endian.proofs.Laws.{put-in}
 use borrow.Author.Needs.{needs}
-use Rattle.sb.proofs.put_names.Statement.{statement}
-use Rattle.sb.proofs.put_names.Tie as tie
+use Rattle.sb.proofs.put.put_names.Statement.{statement}
+use Rattle.sb.proofs.put.put_names.Tie as tie
 
 put-bytes-requires : tie.Need-put-bytes-requires
 put-bytes-requires c κs = search needs
