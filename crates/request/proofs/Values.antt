@@ -25,7 +25,7 @@ pub other : (a b : Bool) → a && b ≡ true → b ≡ true
 other true b e = e
 other false b e = cc
 
-never : false ≡ true → ⊥
+pub never : false ≡ true → ⊥
 never e = let z : _≡_ {A = ℕ} 0 1 = cc in omega arith
 
 -- `Q` holds of the key and the value of each record
