@@ -14,13 +14,12 @@ use Rattle.seqs.proofs.Laws.{never}
 use Rattle.btree.specs.declared.records.AllocRec.{AllocRec}
 use Rattle.free.specs.declared.FreeList.{FreeList}
 use Rattle.free.specs.declared.Choice.{Choice}
-use Rattle.free.specs.Free.{freeOf, noChoice, chosen, smaller, larger, fitter, bigger, pickedFrom, picked}
+use Rattle.free.specs.Free.{freeOf, noChoice, chosen, ahead, smaller, larger, next, fitter, bigger, pickedFrom, picked}
 use Rattle.extents.specs.Picks.{Ahead, NoLarger, NoSmaller, Fits, Largest, Picks, fits, largest, none}
 
 -- ---- a loop that keeps the better of what it has and the next that passes a test
-module _ (ok : AllocRec → Bool) (better : AllocRec → AllocRec → Bool) where
-  abbrev next : Choice → AllocRec → Choice
-  next c r = choose (both (ok r) (choose (c .found) (better r (c .rec)) true)) (chosen r) c
+abbrev better-of : (AllocRec → Bool) → (AllocRec → AllocRec → Bool) → Choice → AllocRec → Choice
+better-of ok better c r = next (ok r) (better r (c .rec)) c r
 
 -- a comparison of records, and what its answers say
 record Order (better : AllocRec → AllocRec → Bool) (Le : AllocRec → AllocRec → Type 0) : Type 0 where
@@ -63,29 +62,24 @@ module _ (ok : AllocRec → Bool) (better : AllocRec → AllocRec → Bool) (Le 
   step c r xs d true true true x y z k = replaced c r xs d x (λ e. o .yes r (c .rec) z) k
   step c r xs d true true false x y z k = skipped c r xs d (λ e. (y, o .no r (c .rec) z)) k
 
-  kept : (xs : List AllocRec) (c : Choice) → Kept ok Le c xs (fold (next ok better) c xs)
+  kept : (xs : List AllocRec) (c : Choice) → Kept ok Le c xs (fold (better-of ok better) c xs)
   unfolding fold
   kept [] c = record { stays = λ e. (e, o .same (c .rec)); from = λ e. inl (e, refl); beats = λ x m. absurd (List·Memᴰ·not-nil m) }
-  kept (r ∷ xs) c = step c r xs (fold (next ok better) (next ok better c r) xs) (ok r) (c .found) (better r (c .rec)) refl refl refl (kept xs (next ok better c r))
+  kept (r ∷ xs) c = step c r xs (fold (better-of ok better) (better-of ok better c r) xs) (ok r) (c .found) (better r (c .rec)) refl refl refl (kept xs (better-of ok better c r))
 
--- ---- the two comparisons: e says whether the sizes are equal
-ahead-yes : (p q s t : ℕ) (e : Bool) → (e ≡ true → p ≡ q) → choose e (ltb s t) (ltb p q) ≡ true → Ahead p q s t
-ahead-yes p q s t true f h =
-    let l : s < t = ltb-true _ _ h in
-    let c : p ≡ q = f refl in
-    record { size = omega arith; tie = λ x. omega arith }
-ahead-yes p q s t false f h =
-    let l : p < q = ltb-true _ _ h in
-    record { size = omega arith; tie = λ x. omega arith }
+-- ---- the two comparisons
+ahead-by : (p q s t : ℕ) (e : Bool) → eqb p q ≡ e → (choose e (ltb s t) (ltb p q) ≡ true → Ahead p q s t) × (choose e (ltb s t) (ltb p q) ≡ false → Ahead q p t s)
+ahead-by p q s t true e =
+    let c : p ≡ q = eqb-true _ _ e in
+    (λ h. let l : s < t = ltb-true _ _ h in record { size = omega arith; tie = λ x. omega arith }, λ h. let l : t ≤ s = ltb-false _ _ h in record { size = omega arith; tie = λ x. l })
+ahead-by p q s t false e =
+    (λ h. let l : p < q = ltb-true _ _ h in record { size = omega arith; tie = λ x. omega arith }, λ h. let l : q ≤ p = ltb-false _ _ h in record { size = l; tie = λ x. absurd (eqb-false _ _ e (sym x)) })
 
-ahead-no : (p q s t : ℕ) (e : Bool) → (e ≡ true → p ≡ q) → (e ≡ false → p ≡ q → ⊥) → choose e (ltb s t) (ltb p q) ≡ false → Ahead q p t s
-ahead-no p q s t true f g h =
-    let l : t ≤ s = ltb-false _ _ h in
-    let c : p ≡ q = f refl in
-    record { size = omega arith; tie = λ x. l }
-ahead-no p q s t false f g h =
-    let l : q ≤ p = ltb-false _ _ h in
-    record { size = l; tie = λ x. absurd (g refl (sym x)) }
+ahead-yes : (p q s t : ℕ) → ahead p q s t ≡ true → Ahead p q s t
+ahead-yes p q s t = ahead-by p q s t (eqb p q) refl .0
+
+ahead-no : (p q s t : ℕ) → ahead p q s t ≡ false → Ahead q p t s
+ahead-no p q s t = ahead-by p q s t (eqb p q) refl .1
 
 ahead-same : (p s : ℕ) → Ahead p p s s
 ahead-same p s = record { size = omega arith; tie = λ e. omega arith }
@@ -95,8 +89,8 @@ no-larger =
     record {
       same = λ a. ahead-same (a .count) (a .start);
       chain = λ a b c p q. record { size = omega arith; tie = λ e. let u = p .tie (omega arith) in let v = q .tie (omega arith) in omega arith };
-      yes = λ a b e. ahead-yes (a .count) (b .count) (a .start) (b .start) (eqb (a .count) (b .count)) (λ t. eqb-true _ _ t) e;
-      no = λ a b e. ahead-no (a .count) (b .count) (a .start) (b .start) (eqb (a .count) (b .count)) (λ t. eqb-true _ _ t) (λ t x. eqb-false _ _ t x) e;
+      yes = λ a b. ahead-yes (a .count) (b .count) (a .start) (b .start);
+      no = λ a b. ahead-no (a .count) (b .count) (a .start) (b .start);
     }
 
 no-smaller : Order larger NoSmaller
@@ -104,8 +98,8 @@ no-smaller =
     record {
       same = λ a. ahead-same (a .count) (a .start);
       chain = λ a b c p q. record { size = omega arith; tie = λ e. let u = p .tie (omega arith) in let v = q .tie (omega arith) in omega arith };
-      yes = λ a b e. ahead-yes (b .count) (a .count) (a .start) (b .start) (eqb (a .count) (b .count)) (λ t. sym (eqb-true _ _ t)) e;
-      no = λ a b e. ahead-no (b .count) (a .count) (a .start) (b .start) (eqb (a .count) (b .count)) (λ t. sym (eqb-true _ _ t)) (λ t x. eqb-false _ _ t (sym x)) e;
+      yes = λ a b. ahead-yes (b .count) (a .count) (a .start) (b .start);
+      no = λ a b. ahead-no (b .count) (a .count) (a .start) (b .start);
     }
 
 -- ---- the two loops of `pick`
