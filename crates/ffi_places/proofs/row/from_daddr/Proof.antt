@@ -1,8 +1,8 @@
--- `ffi_places::from_daddr` meets its contract: by the case.
+-- `ffi_places::row::from_daddr` meets its contract: by the case.
 -- Assumes nothing.
 use borrow.Author.Needs.{needs}
-use Rattle.ffi_places.proofs.from_daddr.Statement.{statement}
-use Rattle.ffi_places.proofs.from_daddr.Tie as tie
+use Rattle.ffi_places.proofs.row.from_daddr.Statement.{statement}
+use Rattle.ffi_places.proofs.row.from_daddr.Tie as tie
 
 returns : tie.Need-returns
 returns c = cc

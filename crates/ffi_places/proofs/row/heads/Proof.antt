@@ -1,11 +1,11 @@
--- `ffi_places::heads` meets its contract: each number stands at its place.
+-- `ffi_places::row::heads` meets its contract: each number stands at its place.
 -- Assumes nothing.
 use borrow.Author.Needs.{needs}
 use native.Mathlib.Omega.{arith}
 use mathlib.Core.Path.{_≡_}
 use Rattle.ffi_places.specs.Values.{headValues}
-use Rattle.ffi_places.proofs.heads.Statement.{statement}
-use Rattle.ffi_places.proofs.heads.Tie as tie
+use Rattle.ffi_places.proofs.row.heads.Statement.{statement}
+use Rattle.ffi_places.proofs.row.heads.Tie as tie
 
 returns : tie.Need-returns
 unfolding headValues

@@ -1,11 +1,11 @@
--- `ffi_places::roots` meets its contract: each number stands at its place.
+-- `ffi_places::row::roots` meets its contract: each number stands at its place.
 -- Assumes nothing.
 use borrow.Author.Needs.{needs}
 use native.Mathlib.Omega.{arith}
 use mathlib.Core.Path.{_≡_}
 use Rattle.ffi_places.specs.Values.{headValues}
-use Rattle.ffi_places.proofs.roots.Statement.{statement}
-use Rattle.ffi_places.proofs.roots.Tie as tie
+use Rattle.ffi_places.proofs.row.roots.Statement.{statement}
+use Rattle.ffi_places.proofs.row.roots.Tie as tie
 
 returns : tie.Need-returns
 unfolding headValues

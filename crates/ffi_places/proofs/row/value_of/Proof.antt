@@ -1,8 +1,8 @@
--- `ffi_places::value_of` meets its contract: by the case.
+-- `ffi_places::row::value_of` meets its contract: by the case.
 -- Assumes nothing.
 use borrow.Author.Needs.{needs}
-use Rattle.ffi_places.proofs.value_of.Statement.{statement}
-use Rattle.ffi_places.proofs.value_of.Tie as tie
+use Rattle.ffi_places.proofs.row.value_of.Statement.{statement}
+use Rattle.ffi_places.proofs.row.value_of.Tie as tie
 
 returns : tie.Need-returns
 returns c = cc

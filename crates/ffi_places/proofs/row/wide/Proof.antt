@@ -1,8 +1,8 @@
--- `ffi_places::wide` meets its contract: by the case.
+-- `ffi_places::row::wide` meets its contract: by the case.
 -- Assumes nothing.
 use borrow.Author.Needs.{needs}
-use Rattle.ffi_places.proofs.wide.Statement.{statement}
-use Rattle.ffi_places.proofs.wide.Tie as tie
+use Rattle.ffi_places.proofs.row.wide.Statement.{statement}
+use Rattle.ffi_places.proofs.row.wide.Tie as tie
 
 returns : tie.Need-returns
 returns c = cc

@@ -1,8 +1,8 @@
--- `ffi_places::from_fsb` meets its contract: by the case.
+-- `ffi_places::row::from_fsb` meets its contract: by the case.
 -- Assumes nothing.
 use borrow.Author.Needs.{needs}
-use Rattle.ffi_places.proofs.from_fsb.Statement.{statement}
-use Rattle.ffi_places.proofs.from_fsb.Tie as tie
+use Rattle.ffi_places.proofs.row.from_fsb.Statement.{statement}
+use Rattle.ffi_places.proofs.row.from_fsb.Tie as tie
 
 returns : tie.Need-returns
 returns c = cc

@@ -1,12 +1,12 @@
--- `ffi_places::stripes` meets its contract: each number stands at its place.
+-- `ffi_places::row::stripes` meets its contract: each number stands at its place.
 -- Assumes nothing.
 use borrow.Author.Needs.{needs}
 use native.Mathlib.Omega.{arith}
 use mathlib.Core.Path.{_≡_, _∙_}
 use Rattle.ffi_places.specs.Values.{inodeValues}
 use Rattle.ffi_places.proofs.Rows.{widened}
-use Rattle.ffi_places.proofs.stripes.Statement.{statement}
-use Rattle.ffi_places.proofs.stripes.Tie as tie
+use Rattle.ffi_places.proofs.row.stripes.Statement.{statement}
+use Rattle.ffi_places.proofs.row.stripes.Tie as tie
 
 returns : tie.Need-returns
 unfolding inodeValues

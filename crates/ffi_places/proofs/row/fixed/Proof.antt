@@ -1,11 +1,11 @@
--- `ffi_places::fixed` meets its contract: each number stands at its place.
+-- `ffi_places::row::fixed` meets its contract: each number stands at its place.
 -- Assumes nothing.
 use borrow.Author.Needs.{needs}
 use native.Mathlib.Omega.{arith}
 use mathlib.Core.Path.{_≡_}
 use Rattle.ffi_places.specs.Values.{fixedValues}
-use Rattle.ffi_places.proofs.fixed.Statement.{statement}
-use Rattle.ffi_places.proofs.fixed.Tie as tie
+use Rattle.ffi_places.proofs.row.fixed.Statement.{statement}
+use Rattle.ffi_places.proofs.row.fixed.Tie as tie
 
 returns : tie.Need-returns
 unfolding fixedValues

@@ -1,11 +1,11 @@
--- `ffi_places::at_place` meets its contract: each number stands at its place.
+-- `ffi_places::row::at_place` meets its contract: each number stands at its place.
 -- Assumes nothing.
 use borrow.Author.Needs.{needs}
 use native.Mathlib.Omega.{arith}
 use mathlib.Core.Path.{_≡_, _∙_}
 use Rattle.ffi_places.specs.Values.{placeValues}
-use Rattle.ffi_places.proofs.at_place.Statement.{statement}
-use Rattle.ffi_places.proofs.at_place.Tie as tie
+use Rattle.ffi_places.proofs.row.at_place.Statement.{statement}
+use Rattle.ffi_places.proofs.row.at_place.Tie as tie
 
 returns : tie.Need-returns
 unfolding placeValues

@@ -1,10 +1,10 @@
--- `ffi_places::chosen` meets its contract: each row follows the one before.
+-- `ffi_places::row::chosen` meets its contract: each row follows the one before.
 -- Assumes nothing.
 use borrow.Author.Needs.{needs}
 use mathlib.Core.Path.{sym, _∙_}
 use Rattle.ffi_places.proofs.Rows.{in-head, in-inodes, in-fixed, in-places, past-end}
-use Rattle.ffi_places.proofs.chosen.Statement.{statement}
-use Rattle.ffi_places.proofs.chosen.Tie as tie
+use Rattle.ffi_places.proofs.row.chosen.Statement.{statement}
+use Rattle.ffi_places.proofs.row.chosen.Tie as tie
 
 returns : tie.Need-returns
 returns c =

@@ -1,8 +1,8 @@
--- `ffi_places::from_byte` meets its contract: by the case.
+-- `ffi_places::row::from_byte` meets its contract: by the case.
 -- Assumes nothing.
 use borrow.Author.Needs.{needs}
-use Rattle.ffi_places.proofs.from_byte.Statement.{statement}
-use Rattle.ffi_places.proofs.from_byte.Tie as tie
+use Rattle.ffi_places.proofs.row.from_byte.Statement.{statement}
+use Rattle.ffi_places.proofs.row.from_byte.Tie as tie
 
 returns : tie.Need-returns
 returns c = cc
