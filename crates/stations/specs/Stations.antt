@@ -57,14 +57,13 @@ acceptedPlans g =
     0 ∷ freeCount g ∷ chunkAt (planIn g 0 .chunk) ∷ planIn g 0 .free .len ∷ planIn g (g .logagno) .free .len ∷ []
 
 -- of a refusal the number, and the blocks that are left in the log group
-unfoldable pub shownPlans : Geometry → List ℕ
-shownPlans g =
-    cond (eqb (plansNumber g) 0) (acceptedPlans g)
-    (plansNumber g ∷ freeBlocks (siteOf g (g .logagno)) ∷ [])
+unfoldable pub plansBy : ℕ → Geometry → List ℕ
+plansBy zero g = acceptedPlans g
+plansBy (suc n) g = suc n ∷ freeBlocks (siteOf g (g .logagno)) ∷ []
 
 -- of a refused geometry nothing
 unfoldable pub plansOf : Computed → List ℕ
-plansOf r = cond (eqb (r .number) 0) (shownPlans (r .geometry)) []
+plansOf r = cond (eqb (r .number) 0) (plansBy (plansNumber (r .geometry)) (r .geometry)) []
 
 unfoldable pub same : List ℕ → List ℕ → Bool
 same [] [] = true
@@ -72,10 +71,11 @@ same [] (y ∷ ys) = false
 same (x ∷ xs) [] = false
 same (x ∷ xs) (y ∷ ys) = eqb x y && same xs ys
 
+abbrev pub compared : Computed → Case → Bool
+compared r k = same (shown r) (k .geometry) && same (plansOf r) (k .plans)
+
 unfoldable pub passes : Case → Bool
-passes k =
-    same (shown (computeDef (k .options) (k .device) 512 512)) (k .geometry)
-    && same (plansOf (computeDef (k .options) (k .device) 512 512)) (k .plans)
+passes k = compared (computeDef (k .options) (k .device) 512 512) k
 
 unfoldable pub all : List Case → Bool
 all [] = true

@@ -83,7 +83,7 @@ module _ (g : Geometry) (l : length (g .label) ≡ 12) (h : isAnswer g ≡ true)
     plan-is k i = rw (closed-plan g l h k i, none-short k)
 
     free-of : (k : ℕ) → k < g .agcount → freeOfPlan (planned g k .plan) ≡ freeIn (siteOf g k) + siteOf g k .need
-    free-of k i = rw (plan-is k i, free-is (siteOf g k), list-is (siteOf g k))
+    free-of k i = let a = free-is (siteOf g k) in let b = list-is (siteOf g k) in rw (plan-is k i) (omega arith)
 
     -- head, log and chunk of a group
     abbrev head : ℕ

@@ -155,9 +155,9 @@ module _ (f : ℕ → ℕ → ℕ) (add : Additive f) where
         let c = none (isFirst s) in
         record {
           fs = let m = map-weighs (onlyOwner ownFs f) (only-additive ownFs) s ok on in omega arith;
-          ag = let m = map-weighs (onlyOwner ownAg f) (only-additive ownAg) s ok on in rw (list-weighs f add s ok) (omega arith);
+          ag = let m = map-weighs (onlyOwner ownAg f) (only-additive ownAg) s ok on in let n = list-weighs f add s ok in omega arith;
           inobt = let m = map-weighs (onlyOwner ownInobt f) (only-additive ownInobt) s ok on in omega arith;
           refc = let m = map-weighs (onlyOwner ownRefc f) (only-additive ownRefc) s ok on in omega arith;
           log = let m = map-weighs (onlyOwner ownLog f) (only-additive ownLog) s ok on in omega arith;
-          inodes = let m = map-weighs (onlyOwner ownInodes f) (only-additive ownInodes) s ok on in rw (chunk-weighs f add s ok) (omega arith);
+          inodes = let m = map-weighs (onlyOwner ownInodes f) (only-additive ownInodes) s ok on in let n = chunk-weighs f add s ok in omega arith;
         }
