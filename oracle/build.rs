@@ -4,7 +4,7 @@
 use std::env;
 use std::path::Path;
 
-const FEATURES: [&str; 8] = ["crc", "geometry", "places", "helpers", "records", "sb", "structs", "recs"];
+const FEATURES: [&str; 9] = ["crc", "geometry", "places", "helpers", "records", "sb", "structs", "recs", "chunk"];
 
 fn main() {
     println!("cargo:rerun-if-env-changed=ZECHURQI_STATICLIB");

@@ -451,6 +451,105 @@ pub mod sb {
     }
 }
 
+/// Crate `ffi_chunk`.
+#[cfg(feature = "chunk")]
+pub mod chunk {
+    use crate::geometry::{Geometry, Timestamp};
+
+    extern "C" {
+        fn zq_root_chunk(
+            blocksize: u32,
+            blocklog: u8,
+            sectsize: u32,
+            sectlog: u8,
+            lsectsize: u32,
+            lsectlog: u8,
+            inodesize: u32,
+            inodelog: u8,
+            inopblock: u32,
+            inopblog: u8,
+            dirblocklog: u8,
+            dblocks: u64,
+            agsize: u64,
+            agcount: u64,
+            agblklog: u8,
+            imaxpct: u8,
+            logblocks: u64,
+            logagno: u64,
+            log_agbno: u64,
+            finobt: bool,
+            rmapbt: bool,
+            reflink: bool,
+            inobtcount: bool,
+            bigtime: bool,
+            nrext64: bool,
+            sparse: bool,
+            label: *const [u8; 12],
+            agbno: u64,
+            uuid: *const [u8; 16],
+            secs: i64,
+            nsecs: u32,
+            seed: u64,
+            next: *mut u64,
+            buf: *mut u8,
+            len: usize,
+        ) -> u32;
+    }
+
+    /// The number, and the generator's state after the draws.
+    pub fn root_chunk(
+        g: &Geometry,
+        agbno: u64,
+        uuid: &[u8; 16],
+        t: Timestamp,
+        seed: u64,
+        buf: &mut [u8],
+    ) -> (u32, u64) {
+        let f = &g.features;
+        let mut next = seed;
+        let number = unsafe {
+            zq_root_chunk(
+                g.blocksize,
+                g.blocklog,
+                g.sectsize,
+                g.sectlog,
+                g.lsectsize,
+                g.lsectlog,
+                g.inodesize,
+                g.inodelog,
+                g.inopblock,
+                g.inopblog,
+                g.dirblocklog,
+                g.dblocks,
+                g.agsize,
+                g.agcount,
+                g.agblklog,
+                g.imaxpct,
+                g.logblocks,
+                g.logagno,
+                g.log_agbno,
+                f.finobt,
+                f.rmapbt,
+                f.reflink,
+                f.inobtcount,
+                f.bigtime,
+                f.nrext64,
+                f.sparse,
+                &g.label,
+                agbno,
+                uuid,
+                t.secs,
+                t.nsecs,
+                seed,
+                &mut next,
+                buf.as_mut_ptr(),
+                buf.len(),
+            )
+        };
+        (number, next)
+    }
+}
+
 /// Crate `ffi_places`.
 #[cfg(feature = "places")]
 pub mod places {

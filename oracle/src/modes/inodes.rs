@@ -21,7 +21,7 @@ fn is_inode(len: usize) -> bool {
 }
 
 /// A time: mostly accepted, often at an end of a range.
-fn time(r: &mut Random) -> [u8; 12] {
+pub fn time(r: &mut Random) -> [u8; 12] {
     let ends = [0, 1 << 31, -(1i64 << 31), 16_299_260_425, i64::MIN, i64::MAX];
     let end = r.pick(&ends) as u64;
     let secs = if r.one_in(4) { r.near(end, 1) } else { r.below(1 << 31) };
@@ -36,7 +36,7 @@ fn time(r: &mut Random) -> [u8; 12] {
     out
 }
 
-fn timestamp(f: &mut Fields) -> Timestamp {
+pub fn timestamp(f: &mut Fields) -> Timestamp {
     Timestamp { secs: f.u64() as i64, nsecs: f.u32() }
 }
 

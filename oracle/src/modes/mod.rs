@@ -4,6 +4,7 @@ use std::io::{self, Write};
 
 use crate::random::Random;
 
+pub mod chunk;
 pub mod crc;
 pub mod geometry;
 pub mod inodes;
@@ -85,6 +86,7 @@ pub fn named(name: &str) -> Option<Box<dyn Mode + Sync>> {
         "agfl" => Box::new(structs::AgflSector),
         "leaf" => Box::new(structs::Leaf),
         "recs" => Box::new(structs::Recs),
+        "chunk" => Box::new(chunk::RootChunk),
         "dinode" => Box::new(inodes::Allocated),
         "free_inode" => Box::new(inodes::Free),
         "time" => Box::new(inodes::Time),

@@ -1,0 +1,4 @@
+pub mod Pieces
+pub mod Values
+pub mod Filled
+pub mod Chunks
