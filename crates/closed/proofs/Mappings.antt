@@ -40,13 +40,13 @@ unfolding negative
 ag-inodes = refl
 
 -- the parts by the tests that decide them
-abbrev refcIf : Site → Bool → List RmapRec
+abbrev pub refcIf : Site → Bool → List RmapRec
 refcIf s t = choose t (mapRec (s .«refc_at») 1 ownRefc ∷ []) []
 
-abbrev logIf : Site → Bool → List RmapRec
+abbrev pub logIf : Site → Bool → List RmapRec
 logIf s u = choose u (mapRec (s .«log_at») (s .«log_blocks») ownLog ∷ []) []
 
-abbrev listIf : Site → Bool → ℕ
+abbrev pub listIf : Site → Bool → ℕ
 listIf s u = choose u (s .«log_at» + s .«log_blocks») (s .head)
 
 -- the reverse mappings with n blocks of the free list

@@ -73,6 +73,11 @@ module _ (g : Geometry) (l : length (g .label) ≡ 12) (h : isAnswer g ≡ true)
   pub planned-number : (k : ℕ) → k < g .agcount → planned g k .number ≡ choose (short (siteOf g k)) 25 0
   planned-number k i = ap (λ (p : Planned). p .number) (closed-plan k i) ∙ its-number (siteOf g k) (site-sound g k l h)
 
+  -- the plan of a group that isn't short
+  pub planned-plan : (k : ℕ) → k < g .agcount → short (siteOf g k) ≡ false → planned g k .plan ≡ closedAgPlan (siteOf g k)
+  unfolding closedPlan
+  planned-plan k i f = rw (closed-plan k i, f)
+
   -- NO NUMBER BUT 25 COMES UP INSIDE
   pub refused-or-not : (k : ℕ) → k < g .agcount → (planned g k .number ≡ 0) ⊎ (planned g k .number ≡ 25)
   refused-or-not k i = either-at (short (siteOf g k)) (planned g k .number) (planned-number k i)

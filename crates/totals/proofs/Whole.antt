@@ -19,8 +19,8 @@ use Rattle.site.specs.declared.Site.{Site}
 use Rattle.site.specs.Sites.{siteOf, Sound}
 use Rattle.site.proofs.Sites.{site-sound}
 use Rattle.plan.specs.Plan.{planned}
-use Rattle.closed.specs.Closed.{isFirst, listAt, short, closedAgPlan, closedPlan}
-use Rattle.closed.proofs.Planning.{closed-plan, planned-number, elsewhere-long, others-planned}
+use Rattle.closed.specs.Closed.{isFirst, listAt, short}
+use Rattle.closed.proofs.Planning.{planned-number, planned-plan, elsewhere-long, others-planned}
 use Rattle.totals.specs.Totals.{sumTo, firstTo, plansNumber, freeOfPlan, freeCount, freeCountAnswer, constNumber, constCount, rowOf, beforeChunk, afterChunk, afterList, closedRow, totalOf, closedTotal}
 use Rattle.totals.proofs.Sums.{sum-same, sum-plus, sum-alike, only, sum-only, first-only, sum-lengths}
 use Rattle.totals.proofs.Rows.{free-is, list-is, row-closed}
@@ -70,6 +70,13 @@ module _ (g : Geometry) (l : length (g .label) ≡ 12) (h : isAnswer g ≡ true)
       first-only (g .logagno) (choose (short logSite) 25 0) (λ k. planned g k .number) (g .agcount) (answer-bounds g l h .places .log-inside)
       (λ k i. one-number-at k i (eqb k (g .logagno)) refl)
 
+  some-groups : 1 < g .agcount
+  some-groups = answer-bounds g l h .groups .count-least
+
+  -- THE LENGTHS OF ALL GROUPS ARE THE DISK
+  pub lengths : sumTo (g .agcount) (groupBlocks (g .dblocks) (g .agsize) (g .agcount)) ≡ g .dblocks
+  lengths = let n = some-groups in sum-lengths (g .dblocks) (g .agsize) (g .agcount) (omega arith) (answer-bounds g l h .groups .before-last)
+
   module _ (full : short logSite ≡ false) where
     none-short-at : (k : ℕ) (t : Bool) → eqb k (g .logagno) ≡ t → short (siteOf g k) ≡ false
     none-short-at k true e = ap (λ (n : ℕ). short (siteOf g n)) (eqb-true k (g .logagno) e) ∙ full
@@ -78,12 +85,8 @@ module _ (g : Geometry) (l : length (g .label) ≡ 12) (h : isAnswer g ≡ true)
     none-short : (k : ℕ) → short (siteOf g k) ≡ false
     none-short k = none-short-at k (eqb k (g .logagno)) refl
 
-    plan-is : (k : ℕ) → k < g .agcount → planned g k .plan ≡ closedAgPlan (siteOf g k)
-    unfolding closedPlan
-    plan-is k i = rw (closed-plan g l h k i, none-short k)
-
     free-of : (k : ℕ) → k < g .agcount → freeOfPlan (planned g k .plan) ≡ freeIn (siteOf g k) + siteOf g k .need
-    free-of k i = let a = free-is (siteOf g k) in let b = list-is (siteOf g k) in rw (plan-is k i) (omega arith)
+    free-of k i = let a = free-is (siteOf g k) in let b = list-is (siteOf g k) in rw (planned-plan g l h k i (none-short k)) (omega arith)
 
     -- head, log and chunk of a group
     abbrev head : ℕ
@@ -108,9 +111,6 @@ module _ (g : Geometry) (l : length (g .label) ≡ 12) (h : isAnswer g ≡ true)
         let b = free-of k i in
         omega arith
 
-    some-groups : 1 < g .agcount
-    some-groups = answer-bounds g l h .groups .count-least
-
     all-used : sumTo (g .agcount) used ≡ chunk + (g .logblocks + g .agcount * head)
     all-used =
         let n = some-groups in
@@ -120,9 +120,6 @@ module _ (g : Geometry) (l : length (g .label) ≡ 12) (h : isAnswer g ≡ true)
         let d = sum-only (g .logagno) (g .logblocks) (g .agcount) (answer-bounds g l h .places .log-inside) in
         let e = sum-alike (g .agcount) head in
         omega arith
-
-    lengths : sumTo (g .agcount) (groupBlocks (g .dblocks) (g .agsize) (g .agcount)) ≡ g .dblocks
-    lengths = let n = some-groups in sum-lengths (g .dblocks) (g .agsize) (g .agcount) (omega arith) (answer-bounds g l h .groups .before-last)
 
     -- over all groups: free and free-list blocks, chunk, log and heads are the disk
     pub disk-adds : freeCount g + (chunk + (g .logblocks + g .agcount * head)) ≡ g .dblocks

@@ -19,8 +19,8 @@ use Rattle.site.proofs.Sites.{site-sound}
 use Rattle.rmap.specs.Rmap.{zeroRec, rmapOf, packRmap, startOf, countOf}
 use Rattle.plan.specs.declared.AgPlan.{AgPlan}
 use Rattle.plan.specs.Plan.{planned}
-use Rattle.closed.specs.Closed.{isJoined, listAt, closedRmap, short, closedAgPlan, closedPlan}
-use Rattle.closed.proofs.Planning.{closed-plan, planned-number}
+use Rattle.closed.specs.Closed.{isJoined, listAt, closedRmap, short, closedAgPlan}
+use Rattle.closed.proofs.Planning.{planned-number, planned-plan}
 use Rattle.uses.specs.Uses.{freeUse, allParts, usesOf, usedOf, blocksOf, mappedOf, ownedOf, Owners, noneJoins, startsAt}
 use Rattle.uses.proofs.Parts.{parts-weigh}
 use Rattle.uses.proofs.Owned.{used-weighs, owners-weigh}
@@ -41,9 +41,8 @@ module _ (g : Geometry) (l : length (g .label) ≡ 12) (h : isAnswer g ≡ true)
   full : short (siteOf g k) ≡ false
   full = not-short (short (siteOf g k)) (sym (planned-number g l h k i) ∙ q)
 
-  pub plan-is : planned g k .plan ≡ closedAgPlan (siteOf g k)
-  unfolding closedPlan
-  plan-is = rw (closed-plan g l h k i, full)
+  plan-is : planned g k .plan ≡ closedAgPlan (siteOf g k)
+  plan-is = planned-plan g l h k i full
 
   all-weigh : (b : ℕ) → usesOf g k b ≡ has b 0 (groupBlocks (g .dblocks) (g .agsize) (g .agcount) k)
   unfolding usesOf siteOf
@@ -81,6 +80,11 @@ module _ (g : Geometry) (l : length (g .label) ≡ 12) (h : isAnswer g ≡ true)
     pub mapped-or-free : (b : ℕ) → b < groupBlocks (g .dblocks) (g .agsize) (g .agcount) k → mappedOf g k b + freeUse (has b) (planned g k .plan) ≡ 1
     unfolding usesOf usedOf
     mapped-or-free b j = rw (rmap-agrees b) (one-use b j)
+
+    -- and no record holds a block past the group
+    pub none-mapped : (b : ℕ) → groupBlocks (g .dblocks) (g .agsize) (g .agcount) k ≤ b → mappedOf g k b ≡ 0
+    unfolding usesOf usedOf
+    none-mapped b j = let u = no-use b j in rmap-agrees b ∙ omega arith
 
     -- EACH OWNER HAS WHAT DOCUMENT 01 GIVES IT
     pub owners-agree : (b : ℕ) → Owners (has b) (siteOf g k) (planned g k .plan) (λ o. ownedOf o g k b)

@@ -15,27 +15,18 @@ use Rattle.site.specs.declared.Site.{Site}
 use Rattle.site.specs.Sites.{Sound}
 use Rattle.plan.specs.Plan.{ownFs, ownLog, ownAg, ownInobt, ownInodes, ownRefc, mapRec}
 use Rattle.closed.specs.Closed.{isFirst, listAt, headParts, closedRmap, closedAgPlan}
-use Rattle.closed.proofs.Mappings.{refc-is, head-is}
+use Rattle.closed.proofs.Mappings.{refcIf, logIf, listIf, refc-is, head-is}
 use Rattle.uses.specs.Uses.{weighOwned, anyOwner, onlyOwner, Owners, usedParts}
 use Rattle.uses.proofs.Parts.{list-weighs, chunk-weighs}
 
 -- the parts by the tests that decide them: z group 0, t reflink, u the log is here
-abbrev pub refcIf : Site → Bool → List RmapRec
-refcIf s t = choose t (mapRec (s .«refc_at») 1 ownRefc ∷ []) []
-
-abbrev pub logIf : Site → Bool → List RmapRec
-logIf s u = choose u (mapRec (s .«log_at») (s .«log_blocks») ownLog ∷ []) []
-
-abbrev pub from : Site → Bool → ℕ
-from s u = choose u (s .«log_at» + s .«log_blocks») (s .head)
-
 abbrev pub chunkIf : Site → Bool → List RmapRec
 chunkIf s z = choose z (mapRec (s .«chunk_at») (s .«chunk_blocks») ownInodes ∷ []) []
 
 abbrev pub restIf : Site → Bool → Bool → Bool → List RmapRec
 restIf s z t u =
     choose (both (not t) (not u)) (mapRec (s .«rmap_at») (1 + s .need) ownAg ∷ [])
-    (mapRec (s .«rmap_at») 1 ownAg ∷ (refcIf s t ++ (logIf s u ++ mapRec (from s u) (s .need) ownAg ∷ [])))
+    (mapRec (s .«rmap_at») 1 ownAg ∷ (refcIf s t ++ (logIf s u ++ mapRec (listIf s u) (s .need) ownAg ∷ [])))
     ++ chunkIf s z
 
 abbrev pub mapIf : Site → Bool → Bool → Bool → List RmapRec
@@ -63,7 +54,7 @@ module _ (h : ℕ → ℕ → ℕ → ℕ) (add : (o : ℕ) → Additive (h o)) 
   log u = choose u (h ownLog (s .«log_at») (s .«log_at» + s .«log_blocks»)) 0
 
   abbrev list : Bool → ℕ
-  list u = h ownAg (from s u) (from s u + s .need)
+  list u = h ownAg (listIf s u) (listIf s u + s .need)
 
   abbrev inodes : Bool → ℕ
   inodes z = choose z (h ownInodes (s .«chunk_at») (s .«chunk_at» + s .«chunk_blocks»)) 0

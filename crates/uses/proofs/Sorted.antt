@@ -15,9 +15,9 @@ use Rattle.site.specs.Sites.{Sound}
 use Rattle.plan.specs.Plan.{ownFs, ownLog, ownAg, ownInobt, ownInodes, ownRefc, mapRec}
 use Rattle.closed.specs.Closed.{isFirst, isJoined, listAt, headParts, closedRmap}
 use Rattle.closed.proofs.Insertions.{validRmap, valid-nil, valid-cons}
-use Rattle.closed.proofs.Mappings.{parts-valid, refc-is, head-is}
+use Rattle.closed.proofs.Mappings.{listIf, parts-valid, refc-is, head-is}
 use Rattle.uses.specs.Uses.{noneJoins, startsAt}
-use Rattle.uses.proofs.Owned.{from, chunkIf, restIf, mapIf, by-cases}
+use Rattle.uses.proofs.Owned.{chunkIf, restIf, mapIf, by-cases}
 
 -- ---- joined where they can be
 
@@ -122,7 +122,7 @@ module _ (s : Site) (ok : Sound s) (on : s .rmapbt ≡ true) where
       ∙ other b (s .bno) 2 ownAg _ (λ e. omega arith)
       ∙ other b (s .ibt) (s .«rmap_at» - s .ibt) ownInobt rs (λ e. omega arith)
 
-  starts-at : (z t u : Bool) → isFirst s ≡ z → s .reflink ≡ t → s .«has_log» ≡ u → startsAt (from s u) (restIf s z t u) ≡ choose (both (not t) (not u)) 0 1
+  starts-at : (z t u : Bool) → isFirst s ≡ z → s .reflink ≡ t → s .«has_log» ≡ u → startsAt (listIf s u) (restIf s z t u) ≡ choose (both (not t) (not u)) 0 1
   starts-at z false false i r e =
       let h = head-is s ok on false r in
       let n = ok .need-least in
@@ -141,22 +141,22 @@ module _ (s : Site) (ok : Sound s) (on : s .rmapbt ≡ true) where
       let h = head-is s ok on false r in
       let a = ok .log-after in
       let b = ok .log-least in
-      other (from s true) (s .«rmap_at») 1 ownAg _ (λ q. omega arith)
-      ∙ other (from s true) (s .«log_at») (s .«log_blocks») ownLog _ (λ q. omega arith)
-      ∙ there (from s true) (from s true) (s .need) ownAg (chunkIf s z) refl
-      ∙ ap (λ (m : ℕ). 1 + m) (chunk-elsewhere z (from s true) (λ q p. never-both z i e q))
+      other (listIf s true) (s .«rmap_at») 1 ownAg _ (λ q. omega arith)
+      ∙ other (listIf s true) (s .«log_at») (s .«log_blocks») ownLog _ (λ q. omega arith)
+      ∙ there (listIf s true) (listIf s true) (s .need) ownAg (chunkIf s z) refl
+      ∙ ap (λ (m : ℕ). 1 + m) (chunk-elsewhere z (listIf s true) (λ q p. never-both z i e q))
   starts-at z true true i r e =
       let h = head-is s ok on true r in
       let k = refc-is s ok on in
       let a = ok .log-after in
       let b = ok .log-least in
-      other (from s true) (s .«rmap_at») 1 ownAg _ (λ q. omega arith)
-      ∙ other (from s true) (s .«refc_at») 1 ownRefc _ (λ q. omega arith)
-      ∙ other (from s true) (s .«log_at») (s .«log_blocks») ownLog _ (λ q. omega arith)
-      ∙ there (from s true) (from s true) (s .need) ownAg (chunkIf s z) refl
-      ∙ ap (λ (m : ℕ). 1 + m) (chunk-elsewhere z (from s true) (λ q p. never-both z i e q))
+      other (listIf s true) (s .«rmap_at») 1 ownAg _ (λ q. omega arith)
+      ∙ other (listIf s true) (s .«refc_at») 1 ownRefc _ (λ q. omega arith)
+      ∙ other (listIf s true) (s .«log_at») (s .«log_blocks») ownLog _ (λ q. omega arith)
+      ∙ there (listIf s true) (listIf s true) (s .need) ownAg (chunkIf s z) refl
+      ∙ ap (λ (m : ℕ). 1 + m) (chunk-elsewhere z (listIf s true) (λ q p. never-both z i e q))
 
-  after-root : (u : Bool) → s .«rmap_at» < from s u
+  after-root : (u : Bool) → s .«rmap_at» < listIf s u
   after-root true = let n = ok .head-next on in let a = ok .log-after in omega arith
   after-root false = let n = ok .head-next on in omega arith
 
@@ -164,6 +164,6 @@ module _ (s : Site) (ok : Sound s) (on : s .rmapbt ≡ true) where
   pub list-starts : startsAt (listAt s) (closedRmap s) ≡ choose (isJoined s) 0 1
   unfolding listAt
   list-starts =
-      by-cases (λ (rs : List RmapRec). startsAt (from s (s .«has_log»)) rs ≡ choose (isJoined s) 0 1) s on
-      (parts-elsewhere (from s (s .«has_log»)) (restIf s (isFirst s) (s .reflink) (s .«has_log»)) (after-root (s .«has_log»))
+      by-cases (λ (rs : List RmapRec). startsAt (listIf s (s .«has_log»)) rs ≡ choose (isJoined s) 0 1) s on
+      (parts-elsewhere (listIf s (s .«has_log»)) (restIf s (isFirst s) (s .reflink) (s .«has_log»)) (after-root (s .«has_log»))
       ∙ starts-at (isFirst s) (s .reflink) (s .«has_log») refl refl refl)
