@@ -57,7 +57,8 @@ fn rmap_from(starts: [u32; 64], counts: [u32; 64], owners: [u64; 64], n: usize) 
     RmapList { recs, len: n }
 }
 
-fn free_at(list: FreeList, k: usize) -> AllocRec
+// Record k, or zeros.
+pub fn free_at(list: FreeList, k: usize) -> AllocRec
     ensures { λ r. ⌜ r ≡ freeAt list k ⌝ }
 {
     if k < 64 {
@@ -66,7 +67,8 @@ fn free_at(list: FreeList, k: usize) -> AllocRec
     AllocRec { start: 0, count: 0 }
 }
 
-fn rmap_at(list: RmapList, k: usize) -> RmapRec
+// Record k, or zeros.
+pub fn rmap_at(list: RmapList, k: usize) -> RmapRec
     ensures { λ r. ⌜ r ≡ rmapAt list k ⌝ }
 {
     if k < 64 {

@@ -104,7 +104,7 @@ fn site_with(g: Geometry, agno: u64, length: u64) -> Site
 }
 
 // The number of a refusal, or 0.
-fn number_of(v: Value64) -> u8
+pub fn number_of(v: Value64) -> u8
     ensures { λ r. ⌜ r ≡ number64 v ⌝ }
 {
     match v {
@@ -114,7 +114,7 @@ fn number_of(v: Value64) -> u8
 }
 
 // The value, or 0.
-fn value_of(v: Value64) -> u64
+pub fn value_of(v: Value64) -> u64
     ensures { λ r. ⌜ r ≡ value64 v ⌝ }
 {
     match v {

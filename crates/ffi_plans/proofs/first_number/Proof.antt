@@ -1,0 +1,15 @@
+-- `ffi_plans::first_number` meets its contract.
+-- Assumes nothing.
+use borrow.Author.Tests.{eq-eqb, ne-eqb}
+use Rattle.ffi_plans.proofs.first_number.Statement.{statement}
+use Rattle.ffi_plans.proofs.first_number.Tie as tie
+
+returns : tie.Need-returns
+returns c = rw (ne-eqb _ 0 (c .if1 .taken))
+
+returns-2 : tie.Need-returns-2
+returns-2 c = rw (eq-eqb _ 0 (c .if1 .left))
+
+pub first-number-spec : {M : Type 1} → statement M
+first-number-spec = tie.close (tie.spec
+    returns returns-2)

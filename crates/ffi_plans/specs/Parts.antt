@@ -1,0 +1,59 @@
+-- The numbers of a plan, in a row, and of its records.
+-- Assumes nothing.
+use mathlib.Core.List.{List, [], _∷_}
+use Prim.Native.Nat.{ℕ}
+use lib.Dec.{eqb}
+use lib.ListN.{getD}
+use Rattle.seqs.specs.Lists.{choose}
+use Rattle.params.specs.declared.OptU64.{OptU64}
+use Rattle.params.specs.declared.OptU64.the-variants.{Absent, Given}
+use Rattle.params.specs.Options.{or64}
+use Rattle.geometry.specs.declared.Geometry.{Geometry}
+use Rattle.site.specs.Sites.{value64}
+use Rattle.plan.specs.declared.AgPlan.{AgPlan}
+use Rattle.plan.specs.declared.Planned.{Planned}
+use Rattle.plan.specs.Plan.{planned}
+use Rattle.totals.specs.Totals.{freeblksOf, longestOf, ofFew}
+use Rattle.request.specs.declared.Request.{Request}
+use Rattle.request.specs.Parse.{parseDef}
+use Rattle.run.specs.Runs.{orNext, stepOf}
+use Rattle.ffi_records.specs.Parts.{freeAt, rmapAt}
+
+-- the numbers of a step: 28 or the geometry step's, then the groups and the log's group
+unfoldable pub stepNumbers : Request → List ℕ
+stepNumbers r = orNext (r .number) (stepOf r .number) ∷ stepOf r .geometry .agcount ∷ stepOf r .geometry .logagno ∷ []
+
+-- the plan of a group of the geometry that the records ask for; 31 where it is refused
+unfoldable pub planFrom : List ℕ → ℕ → Planned
+planFrom xs agno = planned (stepOf (parseDef xs) .geometry) agno
+
+-- 1 where it is given
+abbrev pub presence : OptU64 → ℕ
+presence Absent = 0
+presence (Given n) = 1
+
+-- the plan's numbers outside its lists
+unfoldable pub planNumbers : Planned → List ℕ
+planNumbers p =
+    p .number
+    ∷ p .plan .agno
+    ∷ p .plan .length
+    ∷ p .plan .free .len
+    ∷ p .plan .agfl .len
+    ∷ p .plan .rmap .len
+    ∷ presence (p .plan .chunk)
+    ∷ or64 (p .plan .chunk) 0
+    ∷ value64 (ofFew (p .plan .free) (freeblksOf (p .plan .free)))
+    ∷ value64 (ofFew (p .plan .free) (longestOf (p .plan .free)))
+    ∷ []
+
+-- the numbers at index k of its lists: free record, free-list block, reverse mapping
+unfoldable pub recordNumbers : AgPlan → ℕ → List ℕ
+recordNumbers p k =
+    freeAt (p .free) k .start
+    ∷ freeAt (p .free) k .count
+    ∷ getD (p .agfl .blocks) k 0
+    ∷ rmapAt (p .rmap) k .start
+    ∷ rmapAt (p .rmap) k .count
+    ∷ rmapAt (p .rmap) k .owner
+    ∷ []
