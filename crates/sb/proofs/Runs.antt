@@ -56,6 +56,14 @@ width-one w t a b c = one (eqb w 1) refl t where
   one false e s = absurd (rw (ne-eqb w 2 c, ne-eqb w 4 b, ne-eqb w 8 a) at s)
 
 -- ---- a run
+-- where the loop begins all of it is left
+pub run-start : (o w n from len : ℕ) (v b : List ℕ) → o + w * n ≤ len
+    → (o + w * (n - 0) ≤ len) × (write (table (evenly o w (n - 0)) (drop (from + 0) v)) b ≡ write (table (evenly o w n) (drop from v)) b)
+run-start o w n from len v b h =
+    let e : n - 0 ≡ n = omega arith in
+    let f : from + 0 ≡ from = omega arith in
+    (rw e h, rw (e, f) refl)
+
 -- a turn of the loop: what is left of it
 pub run-next : (o w n i from : ℕ) (v b b' z : List ℕ) → i < n → from + i < length v
     → write (table (evenly o w (n - i)) (drop (from + i) v)) b ≡ z → b' ≡ patch o (beBytes w (getD v (from + i) 0)) b
@@ -66,6 +74,20 @@ run-next o w n i from v b b' z lt l e p =
     ap (write (table (evenly (o + w) w (n - (i + 1))) (drop (from + (i + 1)) v))) p
     ∙ sym (ap₂ (λ (m : ℕ) (r : List ℕ). write (table (evenly o w m) r) b) k (drop-cons v (from + i) 0 l ∙ ap (λ (m : ℕ). getD v (from + i) 0 ∷ drop m v) j))
     ∙ e
+
+-- a run is written when nothing is left of it
+pub run-done : (o w n i : ℕ) (us b z : List ℕ) → n ≤ i → write (table (evenly o w (n - i)) us) b ≡ z → b ≡ z
+run-done o w n i us b z h e =
+    let k : n - i ≡ 0 = omega arith in
+    rw k at e
+
+-- its room
+pub room-next : (o w n i len : ℕ) → i < n → o + w * (n - i) ≤ len → (o + w ≤ len) × (o + w + w * (n - (i + 1)) ≤ len)
+room-next o w n i len lt h =
+    let k : n - i ≡ suc (n - (i + 1)) = omega arith in
+    let e : w * (n - i) ≡ w * (n - (i + 1)) + w = ap (λ (m : ℕ). w * m) k ∙ mul-suc w (n - (i + 1)) in
+    let g : o + (w * (n - (i + 1)) + w) ≤ len = rw e at h in
+    (omega (arith, g), omega (arith, g))
 
 -- a run and what follows it
 run-split : (o w n : ℕ) (os v xs : List ℕ) → n ≤ length v
@@ -90,25 +112,3 @@ pub four-runs : (a b c d : Run) (from : ℕ) (v xs p q r s : List ℕ) → p ≡
     → r ≡ inRun c (from + a .many + b .many) v q → s ≡ inRun d (from + a .many + b .many + c .many) v r → s ≡ inRuns (a ∷ b ∷ c ∷ d ∷ []) from v xs
 four-runs a b c d from v xs p q r s e f g h =
     h ∙ ap (inRun d (from + a .many + b .many + c .many) v) (g ∙ ap (inRun c (from + a .many + b .many) v) (f ∙ ap (inRun b (from + a .many) v) e))
-
--- ---- the room of a run
-pub room-next : (o w n i len : ℕ) → i < n → o + w * (n - i) ≤ len → (o + w ≤ len) × (o + w + w * (n - (i + 1)) ≤ len)
-room-next o w n i len lt h =
-    let k : n - i ≡ suc (n - (i + 1)) = omega arith in
-    let e : w * (n - i) ≡ w * (n - (i + 1)) + w = ap (λ (m : ℕ). w * m) k ∙ mul-suc w (n - (i + 1)) in
-    let g : o + (w * (n - (i + 1)) + w) ≤ len = rw e at h in
-    (omega (arith, g), omega (arith, g))
-
--- a run is written when nothing is left of it
-pub run-done : (o w n i : ℕ) (us b z : List ℕ) → n ≤ i → write (table (evenly o w (n - i)) us) b ≡ z → b ≡ z
-run-done o w n i us b z h e =
-    let k : n - i ≡ 0 = omega arith in
-    rw k at e
-
--- where the loop begins all of it is left
-pub run-start : (o w n from len : ℕ) (v b : List ℕ) → o + w * n ≤ len
-    → (o + w * (n - 0) ≤ len) × (write (table (evenly o w (n - 0)) (drop (from + 0) v)) b ≡ write (table (evenly o w n) (drop from v)) b)
-run-start o w n from len v b h =
-    let e : n - 0 ≡ n = omega arith in
-    let f : from + 0 ≡ from = omega arith in
-    (rw e h, rw (e, f) refl)

@@ -9,6 +9,7 @@ ghost use Rattle.endian.specs.Fields.{write, table, run};
 ghost use Rattle.sb.specs.Superblock.{logSector};
 ghost use Rattle.sb.specs.Numbers.{places, evenly, isWidth, inRuns, sizesRuns, countsRuns, flagsRuns};
 
+// The low 4, 2 or 1 bytes of a number.
 fn low32(x: u64) -> u32
     ensures { λ r. ⌜ r ≡ x % 256 ^ 4 ⌝ }
 {
@@ -61,7 +62,7 @@ fn put_run(sector: &mut [u8], off: usize, width: usize, v: &[u64], from: usize, 
     }
 }
 
-// From sb_magicnum to sb_logblocks.
+// sb_magicnum, sb_blocksize; sb_dblocks to sb_rextents; sb_logstart to sb_rsumino; sb_rextsize to sb_logblocks.
 fn put_sizes(sector: &mut [u8], v: &[u64])
     requires { ⌜ (264 ≤ length (now sector)) × (length (now v) ≡ 46) ⌝ }
     ensures { λ _. ⌜ now (sector .exit) ≡ inRuns sizesRuns 0 (now (v .entry)) (now (sector .entry)) ⌝ }
@@ -72,7 +73,7 @@ fn put_sizes(sector: &mut [u8], v: &[u64])
     put_run(sector, 80, 4, v, 9, 5);
 }
 
-// From sb_versionnum to sb_width.
+// sb_versionnum to sb_inopblock; sb_blocklog to sb_imax_pct; sb_icount to sb_gquotino; sb_inoalignmt to sb_width.
 fn put_counts(sector: &mut [u8], v: &[u64])
     requires { ⌜ (264 ≤ length (now sector)) × (length (now v) ≡ 46) ⌝ }
     ensures { λ _. ⌜ now (sector .exit) ≡ inRuns countsRuns 14 (now (v .entry)) (now (sector .entry)) ⌝ }
@@ -83,7 +84,7 @@ fn put_counts(sector: &mut [u8], v: &[u64])
     put_run(sector, 180, 4, v, 32, 3);
 }
 
-// From sb_dirblklog to sb_lsn.
+// sb_dirblklog; sb_logsunit to sb_features_log_incompat; sb_spino_align; sb_pquotino and sb_lsn.
 fn put_flags(sector: &mut [u8], v: &[u64])
     requires { ⌜ (264 ≤ length (now sector)) × (length (now v) ≡ 46) ⌝ }
     ensures { λ _. ⌜ now (sector .exit) ≡ inRuns flagsRuns 35 (now (v .entry)) (now (sector .entry)) ⌝ }
