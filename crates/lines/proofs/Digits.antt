@@ -50,6 +50,27 @@ length-small n h = rw (decimal-small n h) refl
 pub length-more : (n : ℕ) → 10 ≤ n → length (decimal n) ≡ length (decimal (n / 10)) + 1
 length-more n h = rw (decimal-more n h) (length-append (decimal (n / 10)) (digit (n % 10) ∷ []))
 
+-- two, three and four digits
+pub length-two : (n : ℕ) → 10 ≤ n → n < 100 → length (decimal n) ≡ 2
+length-two n h l = let e = length-more n h in let d = length-small (n / 10) (omega arith) in omega arith
+
+pub length-three : (n : ℕ) → 100 ≤ n → n < 1000 → length (decimal n) ≡ 3
+length-three n h l = let e = length-more n (omega arith) in let d = length-two (n / 10) (omega arith) (omega arith) in omega arith
+
+pub length-four : (n : ℕ) → 1000 ≤ n → n < 10000 → length (decimal n) ≡ 4
+length-four n h l = let e = length-more n (omega arith) in let d = length-three (n / 10) (omega arith) (omega arith) in omega arith
+
+-- four more
+pub length-four-more : (n : ℕ) → 10000 ≤ n → length (decimal n) ≡ length (decimal (n / 10000)) + 4
+length-four-more n h =
+    let a = length-more n (omega arith) in
+    let b = length-more (n / 10) (omega arith) in
+    let c = length-more (n / 10 / 10) (omega arith) in
+    let d = length-more (n / 10 / 10 / 10) (omega arith) in
+    let q : n / 10 / 10 / 10 / 10 ≡ n / 10000 = omega arith in
+    let e = ap (λ (k : ℕ). length (decimal k)) q in
+    omega arith
+
 -- a number of `k` + 1 digits
 pub length-most : (k n : ℕ) → n < 10 ^ suc k → length (decimal n) ≤ suc k
 length-most zero n h = let e = length-small n (let g : n < 10 = h in g) in omega arith

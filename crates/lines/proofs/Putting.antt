@@ -3,10 +3,12 @@
 use mathlib.Core.Path.{_≡_, refl, sym, ap, _∙_}
 use mathlib.Core.Bool.{Bool, true, false}
 use mathlib.Core.List.{List, _++_}
-use Prim.Native.Nat.{ℕ, _+_}
+use Prim.Native.Nat.{ℕ, _+_, _≤_}
 use native.Mathlib.Omega.{arith}
 use lib.Dec.{leb}
 use lib.ListN.{length, length-append}
+use borrow.Author.Tests.{leb-true}
+use Rattle.endian.specs.Answer.{valued}
 use Rattle.endian.specs.Bytes.{patch}
 use Rattle.endian.proofs.Laws.{patch-append}
 use Rattle.lines.specs.Lines.{PutLine}
@@ -35,3 +37,14 @@ word-line at s word bytes old e y l =
 
 pub word-length : (word bytes : List ℕ) (n : ℕ) → n ≡ length bytes → length word + n ≡ length (word ++ bytes)
 word-length word bytes n e = ap (λ (k : ℕ). length word + k) e ∙ sym (length-append word bytes)
+
+-- a line ends inside the buffer
+pub line-inside : {at : ℕ} {bytes old : List ℕ} {number end : ℕ} {left : List ℕ} → PutLine at bytes old number end left → end ≤ length old
+line-inside {at} {bytes} {old} p = rw (p .end-is) (valued-most (at + length bytes) (length old))
+  where
+    valued-most : (m n : ℕ) → valued (leb m n) m ≤ n
+    valued-most m n = by (leb m n) refl
+      where
+        by : (t : Bool) → leb m n ≡ t → valued t m ≤ n
+        by true e = leb-true m n e
+        by false e = omega arith

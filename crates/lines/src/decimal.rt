@@ -1,22 +1,39 @@
 // Numbers in decimal.
 ghost use mathlib.Core.Path.{_≡_};
 ghost use mathlib.Core.List.{[], _∷_, _++_};
-ghost use Prim.Native.Nat.{_+_, _≤_};
+ghost use Prim.Native.Nat.{_+_, _≤_, _<_};
 ghost use lib.ListN.{length};
 ghost use Rattle.endian.specs.Bytes.{patch};
 ghost use Rattle.lines.specs.Decimal.{decimal};
 
-// How many digits the number has.
+// How many digits a number below 10,000 has.
+fn short_length(n: u64) -> usize
+    requires { ⌜ n < 10000 ⌝ }
+    ensures { λ r. ⌜ r ≡ length (decimal n) ⌝ }
+{
+    if n < 10 {
+        return 1;
+    }
+    if n < 100 {
+        return 2;
+    }
+    if n < 1000 {
+        return 3;
+    }
+    4
+}
+
+// How many digits the number has; four are taken at a time.
 pub(crate) fn decimal_length(n: u64) -> usize
     ensures { λ r. ⌜ (r ≡ length (decimal n)) × (r ≤ 20) ⌝ }
 {
-    let mut k = 1;
+    let mut k = 0;
     let mut x = n;
-    while 10 <= x {
-        x = x / 10;
-        k += 1;
+    while 10000 <= x {
+        x = x / 10000;
+        k += 4;
     }
-    k
+    k + short_length(x)
 }
 
 // The digits that end at `end`, from the last to the first; says where they begin.
