@@ -11,7 +11,7 @@ use lib.Dec.{leb, ltb}
 use lib.ListN.{length, take, drop, getD, length-take, length-drop, take-append-drop}
 use Rattle.seqs.specs.Lists.{choose, firstIndex, spliced}
 use Rattle.seqs.specs.Runs.{notValid, valid}
-use Rattle.seqs.proofs.Laws.{never, both-left, both-right, index-le, length-put}
+use Rattle.seqs.proofs.Laws.{total-put, never, both-left, both-right, index-le, length-put}
 use Rattle.seqs.proofs.Parts.{Follows, ended, valid-uncons, valid-cons, valid-join, valid-unjoin}
 use Rattle.seqs.proofs.Members.{getD-mem, before-fail, valid-mem, valid-before, ended-le, valid-from}
 use Rattle.btree.specs.declared.records.RmapRec.{RmapRec}
@@ -19,17 +19,27 @@ use Rattle.btree.specs.Records.{tooMany}
 use Rattle.rmap.specs.declared.RmapList.{RmapList}
 use Rattle.rmap.specs.declared.Inserted.{Inserted}
 use Rattle.rmap.specs.Rmap.{zeroRec, rmapOf, startOf, countOf, endOf, notBefore, placeOf, joins, glued, joinsLeft, joinsRight, refusal, joinedAt, insertedAt, takes, inserted}
-use Rattle.extents.specs.Inserts.{Gains, Accepts, Alone, Answers, long, unfit, full, done}
-use Rattle.extents.proofs.Join.{rmap-packed, joins-facts, put-left, put-right, withRec, left-facts, right-facts, left-gains}
+use Rattle.extents.specs.Inserts.{holdsBlock, ownsBlock, Gains, Accepts, Alone, Answers, long, unfit, full, done}
+use Rattle.extents.proofs.Join.{nil-of, rmap-packed, joins-facts, put-left, put-right, withRec, left-facts, right-facts, joined-valid, joined-total, holds-adds, owns-adds, joined-by}
+use Rattle.extents.proofs.Unjoined.{unjoined-by}
+
+-- ---- what is left with the record put in
+module _ (xs : List RmapRec) (p : ℕ) (r : RmapRec) where
+  left-gains : p ≤ length xs → valid startOf countOf 0 (spliced xs p p (r ∷ [])) ≡ true → length (withRec xs p r) ≤ 64 → Gains xs r (withRec xs p r)
+  left-gains h v k =
+      let j = joined-by xs p r h (joinsLeft xs p r) (joinsRight xs p r) refl refl in
+      record {
+        few = k;
+        sorted = joined-valid 0 (spliced xs p p (r ∷ [])) (withRec xs p r) j v;
+        covers = λ b. sym (joined-total (holdsBlock b) (holds-adds b) (spliced xs p p (r ∷ [])) (withRec xs p r) j) ∙ total-put (holdsBlock b) xs p r;
+        owners = λ o b. sym (joined-total (ownsBlock o b) (owns-adds o b) (spliced xs p p (r ∷ [])) (withRec xs p r) j) ∙ total-put (ownsBlock o b) xs p r;
+        unjoined = λ u. unjoined-by xs p r h u (joinsLeft xs p r) (joinsRight xs p r) refl refl;
+      }
 
 -- ---- which records can be put in
 fails : (t : Bool) → (t ≡ true → ⊥) → t ≡ false
 fails true f = absurd (f refl)
 fails false f = refl
-
-nil-of : (xs : List RmapRec) → length xs ≡ 0 → xs ≡ []
-nil-of [] e = refl
-nil-of (x ∷ xs) e = absurd (omega arith)
 
 from-at : (s : ℕ) (y : RmapRec) (ys : List RmapRec) → valid startOf countOf (endOf y) ys ≡ true → (t : Bool) → leb s (y .start) ≡ t → (x : RmapRec) → (List·Memᴰ x (drop (placeOf s ys) ys) → s ≤ x .start)
     → List·Memᴰ x (drop (choose t 0 (suc (placeOf s ys))) (y ∷ ys)) → s ≤ x .start

@@ -12,15 +12,24 @@ use lib.ListN.{length, take, drop, getD, replicate}
 use lib.Seq.{take-suc, drop-cons, append-snoc, take-append-seam}
 use Rattle.seqs.specs.Lists.{both, choose, spliced, total}
 use Rattle.seqs.specs.Runs.{valid, has}
-use Rattle.seqs.proofs.Laws.{never, both-left, both-right, total-append, total-cons, total-put}
+use Rattle.seqs.proofs.Laws.{never, both-left, both-right, total-append, total-cons}
 use Rattle.seqs.proofs.Parts.{Follows, ended, valid-uncons, valid-cons, valid-join, valid-unjoin}
 use Rattle.seqs.proofs.Weights.{Additive, additive-has}
 use Rattle.btree.specs.declared.records.RmapRec.{RmapRec}
 use Rattle.rmap.specs.Rmap.{zeroRec, rmapOf, packRmap, startOf, countOf, endOf, joins, glued, joinsLeft, joinsRight, joinedAt}
-use Rattle.extents.specs.Inserts.{Joined, same, join, holdsBlock, ownsBlock, Gains}
+use Rattle.extents.specs.Inserts.{holdsBlock, ownsBlock}
+
+pub nil-of : (xs : List RmapRec) → length xs ≡ 0 → xs ≡ []
+nil-of [] e = refl
+nil-of (x ∷ xs) e = absurd (omega arith)
 
 pub rmap-packed : (xs : List RmapRec) → rmapOf (packRmap xs) ≡ xs
 rmap-packed xs = take-append-seam xs (replicate (64 - length xs) zeroRec)
+
+-- ys is xs with neighbours that join, of one owner and without a gap, put together
+pub data Joined : List RmapRec → List RmapRec → Type 0 where
+  same : {xs ys : List RmapRec} → xs ≡ ys → Joined xs ys
+  join : {xs ys : List RmapRec} (us : List RmapRec) (a b : RmapRec) (vs : List RmapRec) → xs ≡ us ++ a ∷ b ∷ vs → joins a b ≡ true → Joined (us ++ glued a b ∷ vs) ys → Joined xs ys
 
 -- ---- two records that join
 pub record Joins (a b : RmapRec) : Type 0 where
@@ -42,7 +51,7 @@ glued-follows lo a b j f g =
     let h = g .high in
     record { low = f .low; some = omega arith; high = omega arith }
 
-joined-valid : (lo : ℕ) (xs ys : List RmapRec) → Joined xs ys → valid startOf countOf lo xs ≡ true → valid startOf countOf lo ys ≡ true
+pub joined-valid : (lo : ℕ) (xs ys : List RmapRec) → Joined xs ys → valid startOf countOf lo xs ≡ true → valid startOf countOf lo ys ≡ true
 joined-valid lo xs ys (same e) v = rw (← e) v
 joined-valid lo xs ys (join us a b vs e j k) v =
     let w = valid-unjoin startOf countOf lo us (a ∷ b ∷ vs) (rw e at v) in
@@ -56,7 +65,7 @@ joined-valid lo xs ys (join us a b vs e j k) v =
 
 -- a number of each record that adds up where two join adds up to the same
 module _ (g : RmapRec → ℕ) (adds : (a b : RmapRec) → joins a b ≡ true → g (glued a b) ≡ g a + g b) where
-  joined-total : (xs ys : List RmapRec) → Joined xs ys → total g xs ≡ total g ys
+  pub joined-total : (xs ys : List RmapRec) → Joined xs ys → total g xs ≡ total g ys
   joined-total xs ys (same e) = ap (total g) e
   joined-total xs ys (join us a b vs e j k) =
       let i = joined-total (us ++ glued a b ∷ vs) ys k in
@@ -80,10 +89,10 @@ choose-adds true false x y z h e = never (sym h)
 choose-adds false true x y z h e = never h
 choose-adds false false x y z h e = refl
 
-holds-adds : (k : ℕ) (a b : RmapRec) → joins a b ≡ true → holdsBlock k (glued a b) ≡ holdsBlock k a + holdsBlock k b
+pub holds-adds : (k : ℕ) (a b : RmapRec) → joins a b ≡ true → holdsBlock k (glued a b) ≡ holdsBlock k a + holdsBlock k b
 holds-adds k a b j = meet-split (has k) (additive-has k) (a .start) (a .count) (b .start) (b .count) (joins-facts a b j .meet)
 
-owns-adds : (o k : ℕ) (a b : RmapRec) → joins a b ≡ true → ownsBlock o k (glued a b) ≡ ownsBlock o k a + ownsBlock o k b
+pub owns-adds : (o k : ℕ) (a b : RmapRec) → joins a b ≡ true → ownsBlock o k (glued a b) ≡ ownsBlock o k a + ownsBlock o k b
 owns-adds o k a b j =
     choose-adds (eqb (a .owner) o) (eqb (b .owner) o) (holdsBlock k a) (holdsBlock k b) (holdsBlock k (glued a b)) (ap (λ (w : ℕ). eqb w o) (joins-facts a b j .owner)) (holds-adds k a b j)
 
@@ -134,7 +143,7 @@ module _ (xs : List RmapRec) (p : ℕ) (r : RmapRec) where
         joined = both-right (ltb p (length xs)) (joins r (getD xs p zeroRec)) e;
       }
 
-  joined-by : p ≤ length xs → (x y : Bool) → joinsLeft xs p r ≡ x → joinsRight xs p r ≡ y → Joined (spliced xs p p (r ∷ [])) (joinedAt x y xs p r)
+  pub joined-by : p ≤ length xs → (x y : Bool) → joinsLeft xs p r ≡ x → joinsRight xs p r ≡ y → Joined (spliced xs p p (r ∷ [])) (joinedAt x y xs p r)
   joined-by h true true e f =
       let a = left-facts e in
       let b = right-facts f in
@@ -149,13 +158,3 @@ module _ (xs : List RmapRec) (p : ℕ) (r : RmapRec) where
       let b = right-facts f in
       join (take p xs) r (getD xs p zeroRec) (drop (p + 1) xs) (ap (λ (ys : List RmapRec). take p xs ++ r ∷ ys) (put-right xs p (b .some))) (b .joined) (same refl)
   joined-by h false false e f = same refl
-
-  pub left-gains : p ≤ length xs → valid startOf countOf 0 (spliced xs p p (r ∷ [])) ≡ true → length (withRec xs p r) ≤ 64 → Gains xs r (withRec xs p r)
-  left-gains h v k =
-      let j = joined-by h (joinsLeft xs p r) (joinsRight xs p r) refl refl in
-      record {
-        few = k;
-        sorted = joined-valid 0 (spliced xs p p (r ∷ [])) (withRec xs p r) j v;
-        covers = λ b. sym (joined-total (holdsBlock b) (holds-adds b) (spliced xs p p (r ∷ [])) (withRec xs p r) j) ∙ total-put (holdsBlock b) xs p r;
-        owners = λ o b. sym (joined-total (ownsBlock o b) (owns-adds o b) (spliced xs p p (r ∷ [])) (withRec xs p r) j) ∙ total-put (ownsBlock o b) xs p r;
-      }

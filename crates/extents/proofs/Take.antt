@@ -9,7 +9,7 @@ use native.Mathlib.Omega.{arith}
 use borrow.Author.Tests.{leb-true, leb-false, ltb-true, ltb-false, le-leb, lt-ltb, le-ltb}
 use lib.Dec.{leb, ltb}
 use lib.ListN.{length, take, drop, getD, length-take}
-use Rattle.seqs.specs.Lists.{choose, firstIndex, spliced}
+use Rattle.seqs.specs.Lists.{choose, spliced}
 use Rattle.seqs.specs.Runs.{notValid, valid, has}
 use Rattle.seqs.proofs.Laws.{never, both-left, both-right, index-passes, lt-or-le, length-put}
 use Rattle.seqs.proofs.Parts.{Follows, ended, valid-cons, valid-lower, valid-join, valid-parts}
@@ -20,7 +20,8 @@ use Rattle.btree.specs.Records.{tooMany}
 use Rattle.free.specs.declared.FreeList.{FreeList}
 use Rattle.free.specs.declared.Taken.{Taken}
 use Rattle.free.specs.Free.{notFree, zeroRec, freeOf, startOf, countOf, endOf, holdsRun, before, after, cut, refusal, takenAt, takenFrom, taken}
-use Rattle.free.proofs.Uses.{free-packed, piece, taken-ok, taken-weighs, taken-valid}
+use Rattle.free.proofs.Laws.{holder, held, leftOf, taken-ok, taken-valid}
+use Rattle.free.proofs.Uses.{free-packed, piece, taken-weighs}
 use Rattle.extents.specs.Takes.{Holds, Leaves, Splits, NoneHolds, Answers, long, unsorted, unheld, split, done}
 
 -- ---- what is left is valid
@@ -54,12 +55,11 @@ left-valid xs i s e v h k l m =
 pub take-leaves : (l : FreeList) (s n : ℕ) → taken l s n .number ≡ 0 → Leaves (freeOf l) s n (freeOf (taken l s n .list))
 take-leaves l s n q =
     let o = taken-ok l s n q in
-    let i = firstIndex (holdsRun s (s + n)) (freeOf l) in
-    let e : freeOf (taken l s n .list) ≡ spliced (freeOf l) (firstIndex (holdsRun s (s + n)) (freeOf l)) (firstIndex (holdsRun s (s + n)) (freeOf l) + 1) (cut s (s + n) (getD (freeOf l) (firstIndex (holdsRun s (s + n)) (freeOf l)) zeroRec)) =
-    ap freeOf (o .same) ∙ free-packed (spliced (freeOf l) (firstIndex (holdsRun s (s + n)) (freeOf l)) (firstIndex (holdsRun s (s + n)) (freeOf l) + 1) (cut s (s + n) (getD (freeOf l) (firstIndex (holdsRun s (s + n)) (freeOf l)) zeroRec))) in
+    let e : freeOf (taken l s n .list) ≡ leftOf (freeOf l) s (s + n) =
+    ap freeOf (o .same) ∙ free-packed (leftOf (freeOf l) s (s + n)) in
     record {
       few = rw e (o .small);
-      sorted = ap (valid startOf countOf 0) e ∙ left-valid (freeOf l) (firstIndex (holdsRun s (s + n)) (freeOf l)) s (s + n) (taken-valid l s n q) (o .below) (o .low) (omega arith) (o .high);
+      sorted = ap (valid startOf countOf 0) e ∙ left-valid (freeOf l) (holder (freeOf l) s (s + n)) s (s + n) (taken-valid l s n q) (o .below) (o .low) (omega arith) (o .high);
       covers = λ b. taken-weighs (has b) (additive-has b) l s n q;
     }
 
@@ -103,7 +103,6 @@ module _ (l : FreeList) (s n : ℕ) (few : l .len ≤ 64) (v : valid startOf cou
       → Answers l s n (takenAt (freeOf l) i s (s + n))
   unfolding takenAt
   at-answers i h q true e =
-      let r = getD (freeOf l) i zeroRec in
       let m = getD-mem (freeOf l) i zeroRec h in
       let k : length (spliced (freeOf l) i (i + 1) (cut s (s + n) (getD (freeOf l) i zeroRec))) ≤ 64 = leb-true _ _ e in
       let g = length-put (freeOf l) i (i + 1) (cut s (s + n) (getD (freeOf l) i zeroRec)) (omega arith) in
@@ -130,12 +129,12 @@ module _ (l : FreeList) (s n : ℕ) (few : l .len ≤ 64) (v : valid startOf cou
         high = leb-true _ _ (both-right (leb (r .start) s) (leb (s + n) (endOf r)) e);
       }
 
-  from-answers : (t : Bool) → ltb (firstIndex (holdsRun s (s + n)) (freeOf l)) (length (freeOf l)) ≡ t → Answers l s n (takenFrom (freeOf l) s (s + n))
+  from-answers : (t : Bool) → ltb (holder (freeOf l) s (s + n)) (length (freeOf l)) ≡ t → Answers l s n (takenFrom (freeOf l) s (s + n))
   unfolding takenFrom
   from-answers true e =
-      let h : firstIndex (holdsRun s (s + n)) (freeOf l) < length (freeOf l) = ltb-true _ _ e in
-      let q = holds-facts (getD (freeOf l) (firstIndex (holdsRun s (s + n)) (freeOf l)) zeroRec) (index-passes (holdsRun s (s + n)) (freeOf l) zeroRec h) in
-      rw e (at-answers (firstIndex (holdsRun s (s + n)) (freeOf l)) h q _ refl)
+      let h : holder (freeOf l) s (s + n) < length (freeOf l) = ltb-true _ _ e in
+      let q = holds-facts (held (freeOf l) s (s + n)) (index-passes (holdsRun s (s + n)) (freeOf l) zeroRec h) in
+      rw e (at-answers (holder (freeOf l) s (s + n)) h q _ refl)
   from-answers false e =
       unheld few v
       (λ r m h. let f = all-fail (holdsRun s (s + n)) (freeOf l) (ltb-false _ _ e) r m in

@@ -2,7 +2,7 @@
 -- Assumes nothing.
 use mathlib.Core.Path.{_≡_}
 use mathlib.Core.Bool.{true, false}
-use mathlib.Core.List.{List, _∷_, _++_, List·Memᴰ}
+use mathlib.Core.List.{List, [], _∷_, List·Memᴰ}
 use mathlib.Core.Logic.{_⊎_}
 use Prim.Native.Nat.{ℕ, _+_, _≤_, _<_, _^_}
 use lib.Dec.{eqb}
@@ -13,12 +13,13 @@ use Rattle.btree.specs.declared.records.RmapRec.{RmapRec}
 use Rattle.btree.specs.Records.{tooMany}
 use Rattle.rmap.specs.declared.RmapList.{RmapList}
 use Rattle.rmap.specs.declared.Inserted.{Inserted}
-use Rattle.rmap.specs.Rmap.{rmapOf, startOf, countOf, endOf, joins, glued, refusal}
+use Rattle.rmap.specs.Rmap.{rmapOf, startOf, countOf, endOf, joins, refusal}
 
--- ys is xs with neighbours that join, of one owner and without a gap, put together
-pub data Joined : List RmapRec → List RmapRec → Type 0 where
-  same : {xs ys : List RmapRec} → xs ≡ ys → Joined xs ys
-  join : {xs ys : List RmapRec} (us : List RmapRec) (a b : RmapRec) (vs : List RmapRec) → xs ≡ us ++ a ∷ b ∷ vs → joins a b ≡ true → Joined (us ++ glued a b ∷ vs) ys → Joined xs ys
+-- no two neighbours join
+abbrev pub Unjoined : List RmapRec → Type 0
+Unjoined [] = Unit {0}
+Unjoined (x ∷ []) = Unit {0}
+Unjoined (x ∷ y ∷ xs) = (joins x y ≡ false) × Unjoined (y ∷ xs)
 
 -- 1 if the record has block b, else 0; the same for the records of owner o alone
 abbrev pub holdsBlock : ℕ → RmapRec → ℕ
@@ -27,12 +28,14 @@ holdsBlock b r = has b (r .start) (endOf r)
 abbrev pub ownsBlock : ℕ → ℕ → RmapRec → ℕ
 ownsBlock o b r = choose (eqb (r .owner) o) (holdsBlock b r) 0
 
--- ys is xs with the record put in: valid, at most 64, and each block in as many records as before and in the record, for each owner too
+-- ys is xs with the record put in: valid, at most 64, each block in as many records as before and in the record, for each owner too, and
+-- without neighbours that join if there were none
 pub record Gains (xs : List RmapRec) (r : RmapRec) (ys : List RmapRec) : Type 0 where
   pub few : length ys ≤ 64
   pub sorted : valid startOf countOf 0 ys ≡ true
   pub covers : (b : ℕ) → total (holdsBlock b) ys ≡ total (holdsBlock b) xs + holdsBlock b r
   pub owners : (o b : ℕ) → total (ownsBlock o b) ys ≡ total (ownsBlock o b) xs + ownsBlock o b r
+  pub unjoined : Unjoined xs → Unjoined ys
 
 -- the record can be put in: the list is valid, the record isn't empty, ends at 2^32 − 1 or before, and has no block of another
 pub record Accepts (xs : List RmapRec) (r : RmapRec) : Type 0 where

@@ -10,13 +10,14 @@ use lib.Dec.{leb, ltb}
 use lib.ListN.{length, take, getD}
 use lib.Seq.{slice, length-take-le, getD-take}
 use Rattle.seqs.specs.Lists.{choose, firstIndex, spliced, packed, appended}
-use Rattle.seqs.specs.Runs.{valid}
+use Rattle.seqs.specs.Runs.{notValid, valid}
 use Rattle.seqs.proofs.Validity.{valid-at}
-use Rattle.seqs.proofs.Laws.{both-right, index-passes, appended-append, length-spliced, splice-packed}
+use Rattle.seqs.proofs.Laws.{both-left, both-right, index-passes, appended-append, length-spliced, splice-packed}
 use Rattle.btree.specs.declared.records.AllocRec.{AllocRec}
+use Rattle.btree.specs.Records.{tooMany}
 use Rattle.free.specs.declared.FreeList.{FreeList}
 use Rattle.free.specs.declared.Taken.{Taken}
-use Rattle.free.specs.Free.{zeroRec, freeOf, startOf, countOf, toFree, endOf, holdsRun, before, after, cut, refusal, takenAt, takenFrom, taken}
+use Rattle.free.specs.Free.{notFree, packFree, zeroRec, freeOf, startOf, countOf, toFree, endOf, holdsRun, before, after, cut, refusal, takenAt, takenFrom, taken}
 
 -- ---- the record that the search finds in a struct's list
 module _ (xs : List AllocRec) (n i : ℕ) (k : n ≤ length xs) (h : i < n) where
@@ -27,7 +28,7 @@ module _ (xs : List AllocRec) (n i : ℕ) (k : n ≤ length xs) (h : i < n) wher
       leb-true _ _ (both-right (leb (getD xs i zeroRec .start) s) _ (rw (getD-take n xs i zeroRec h) at p))
 
 module _ (xs : List AllocRec) (n i s e : ℕ) (k : n ≤ length xs) (h : i < n) where
-  pub taken-at-full : 64 < n - 1 + length (cut s e (getD xs i zeroRec)) → takenAt (take n xs) i s e ≡ refusal 34
+  pub taken-at-full : 64 < n - 1 + length (cut s e (getD xs i zeroRec)) → takenAt (take n xs) i s e ≡ refusal tooMany
   unfolding takenAt
   taken-at-full m =
       let l = length-spliced zeroRec xs n i (i + 1) (cut s e (getD xs i zeroRec)) k (omega arith) in
@@ -44,31 +45,65 @@ module _ (xs : List AllocRec) (n i s e : ℕ) (k : n ≤ length xs) (h : i < n) 
       let p = splice-packed zeroRec xs n i (i + 1) (cut s e (getD xs i zeroRec)) k (omega arith) t in
       rw (getD-take n xs i zeroRec h, le-leb _ _ t, appended-append zeroRec (appended (packed zeroRec []) (slice 0 i xs)) (before s (getD xs i zeroRec)) (after e (getD xs i zeroRec)), p)
 
--- ---- a run that was taken ends below 2^32
-pub number-first : (b : Bool) (x y : Taken) → (x .number ≡ 0 → ⊥) → choose b x y .number ≡ 0 → (b ≡ false) × (y .number ≡ 0)
+-- ---- the index of the record that holds the run, the record, and what is left of the list
+abbrev pub holder : List AllocRec → ℕ → ℕ → ℕ
+holder xs s e = firstIndex (holdsRun s e) xs
+
+abbrev pub held : List AllocRec → ℕ → ℕ → AllocRec
+held xs s e = getD xs (holder xs s e) zeroRec
+
+abbrev pub leftOf : List AllocRec → ℕ → ℕ → List AllocRec
+leftOf xs s e = spliced xs (holder xs s e) (holder xs s e + 1) (cut s e (held xs s e))
+
+-- ---- where the number is 0, every test was passed
+number-first : (b : Bool) (x y : Taken) → (x .number ≡ 0 → ⊥) → choose b x y .number ≡ 0 → (b ≡ false) × (y .number ≡ 0)
 number-first true x y h e = absurd (h e)
 number-first false x y h e = (refl, e)
 
-pub number-then : (b : Bool) (x y : Taken) → (y .number ≡ 0 → ⊥) → choose b x y .number ≡ 0 → (b ≡ true) × (x .number ≡ 0)
+number-then : (b : Bool) (x y : Taken) → (y .number ≡ 0 → ⊥) → choose b x y .number ≡ 0 → (b ≡ true) × (x .number ≡ 0)
 number-then true x y h e = (refl, e)
 number-then false x y h e = absurd (h e)
 
-taken-from-ends : (xs : List AllocRec) (s e : ℕ) → valid startOf countOf 0 xs ≡ true → takenFrom xs s e .number ≡ 0 → e < 2 ^ 32
-unfolding takenFrom
-taken-from-ends xs s e v q =
-    let i = firstIndex (holdsRun s e) xs in
-    let t = number-then (ltb (firstIndex (holdsRun s e) xs) (length xs)) (takenAt xs (firstIndex (holdsRun s e) xs) s e) (refusal 33) (λ n. omega arith) q in
-    let h : firstIndex (holdsRun s e) xs < length xs = ltb-true _ _ (t .0) in
-    let p = index-passes (holdsRun s e) xs zeroRec h in
-    let r = getD xs (firstIndex (holdsRun s e) xs) zeroRec in
-    let a : e ≤ endOf (getD xs (firstIndex (holdsRun s e) xs) zeroRec) = leb-true _ _ (both-right (leb (getD xs (firstIndex (holdsRun s e) xs) zeroRec .start) s) _ p) in
-    let b = valid-at startOf countOf zeroRec 0 xs (firstIndex (holdsRun s e) xs) v h in
-    omega arith
+-- what an accepted `take` found and answers: a record that holds the run, and the records left
+pub record TakenOk (xs : List AllocRec) (s e : ℕ) (t : Taken) : Type 0 where
+  pub sorted : valid startOf countOf 0 xs ≡ true
+  pub below : holder xs s e < length xs
+  pub low : held xs s e .start ≤ s
+  pub high : e ≤ endOf (held xs s e)
+  pub small : length (leftOf xs s e) ≤ 64
+  pub same : t .list ≡ packFree (leftOf xs s e)
 
-pub taken-ends : (l : FreeList) (s n : ℕ) → taken l s n .number ≡ 0 → s + n < 2 ^ 32
+from-ok : (xs : List AllocRec) (s e : ℕ) → valid startOf countOf 0 xs ≡ true → takenFrom xs s e .number ≡ 0 → TakenOk xs s e (takenFrom xs s e)
+unfolding takenFrom takenAt
+from-ok xs s e v q =
+    let t = number-then (ltb (holder xs s e) (length xs)) (takenAt xs (holder xs s e) s e) (refusal notFree) (λ n. omega arith) q in
+    let k = number-then (leb (length (leftOf xs s e)) 64) (record { number = 0; list = packFree (leftOf xs s e) }) (refusal tooMany) (λ n. omega arith) (t .1) in
+    let h : holder xs s e < length xs = ltb-true _ _ (t .0) in
+    let p = index-passes (holdsRun s e) xs zeroRec h in
+    record {
+      sorted = v;
+      below = h;
+      low = leb-true _ _ (both-left (leb (held xs s e .start) s) (leb e (endOf (held xs s e))) p);
+      high = leb-true _ _ (both-right (leb (held xs s e .start) s) (leb e (endOf (held xs s e))) p);
+      small = leb-true _ _ (k .0);
+      same = rw (t .0, k .0);
+    }
+
+pub taken-ok : (l : FreeList) (s n : ℕ) → taken l s n .number ≡ 0 → TakenOk (freeOf l) s (s + n) (taken l s n)
 unfolding taken
-taken-ends l s n e =
-    let a = number-first (ltb 64 (l .len)) (refusal 34) (choose (valid startOf countOf 0 (freeOf l)) (choose (ltb (s + n) (2 ^ 64)) (takenFrom (freeOf l) s (s + n)) (refusal 33)) (refusal 32)) (λ q. omega arith) e in
-    let b = number-then (valid startOf countOf 0 (freeOf l)) (choose (ltb (s + n) (2 ^ 64)) (takenFrom (freeOf l) s (s + n)) (refusal 33)) (refusal 32) (λ q. omega arith) (a .1) in
-    let c = number-then (ltb (s + n) (2 ^ 64)) (takenFrom (freeOf l) s (s + n)) (refusal 33) (λ q. omega arith) (b .1) in
-    taken-from-ends (freeOf l) s (s + n) (b .0) (c .1)
+taken-ok l s n q =
+    let a = number-first (ltb 64 (l .len)) (refusal tooMany) (choose (valid startOf countOf 0 (freeOf l)) (choose (ltb (s + n) (2 ^ 64)) (takenFrom (freeOf l) s (s + n)) (refusal notFree)) (refusal notValid)) (λ n. omega arith) q in
+    let b = number-then (valid startOf countOf 0 (freeOf l)) (choose (ltb (s + n) (2 ^ 64)) (takenFrom (freeOf l) s (s + n)) (refusal notFree)) (refusal notValid) (λ n. omega arith) (a .1) in
+    let c = number-then (ltb (s + n) (2 ^ 64)) (takenFrom (freeOf l) s (s + n)) (refusal notFree) (λ n. omega arith) (b .1) in
+    rw (a .0, b .0, c .0) (from-ok (freeOf l) s (s + n) (b .0) (c .1))
+
+pub taken-valid : (l : FreeList) (s n : ℕ) → taken l s n .number ≡ 0 → valid startOf countOf 0 (freeOf l) ≡ true
+taken-valid l s n q = taken-ok l s n q .sorted
+
+-- a run that was taken ends below 2^32
+pub taken-ends : (l : FreeList) (s n : ℕ) → taken l s n .number ≡ 0 → s + n < 2 ^ 32
+taken-ends l s n q =
+    let o = taken-ok l s n q in
+    let h = o .high in
+    let b = valid-at startOf countOf zeroRec 0 (freeOf l) (holder (freeOf l) s (s + n)) (o .sorted) (o .below) in
+    omega arith

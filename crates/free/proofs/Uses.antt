@@ -7,20 +7,19 @@ use mathlib.Core.List.{List, [], _∷_}
 use Prim.Native.Nat.{ℕ, _+_, _-_, _≤_, _<_, _^_}
 use native.Mathlib.Nat.{add-zero}
 use native.Mathlib.Omega.{arith}
-use borrow.Author.Tests.{leb-true, ltb-true, lt-ltb, le-ltb}
+use borrow.Author.Tests.{ltb-true, lt-ltb, le-ltb}
 use lib.Dec.{leb, ltb}
-use lib.ListN.{length, getD, replicate}
+use lib.ListN.{length, replicate}
 use lib.Seq.{take-append-seam}
-use Rattle.seqs.specs.Lists.{both, choose, firstIndex, spliced, fold}
+use Rattle.seqs.specs.Lists.{both, choose, fold}
 use Rattle.seqs.specs.Runs.{follows, valid, weigh}
-use Rattle.seqs.proofs.Laws.{never, both-left, both-right, index-passes, lt-or-le, choose-elim}
+use Rattle.seqs.proofs.Laws.{never, both-left, both-right, lt-or-le, choose-elim}
 use Rattle.seqs.proofs.Weights.{Additive, weigh-append, weigh-spliced}
 use Rattle.btree.specs.declared.records.AllocRec.{AllocRec}
 use Rattle.free.specs.declared.FreeList.{FreeList}
-use Rattle.free.specs.declared.Taken.{Taken}
 use Rattle.free.specs.declared.Choice.{Choice}
-use Rattle.free.specs.Free.{zeroRec, freeOf, packFree, startOf, countOf, endOf, holdsRun, before, after, cut, refusal, kept, takenAt, takenFrom, taken, noChoice, chosen, smaller, larger, fitter, bigger, pickedFrom, picked}
-use Rattle.free.proofs.Laws.{number-first, number-then}
+use Rattle.free.specs.Free.{zeroRec, freeOf, packFree, startOf, countOf, endOf, before, after, cut, taken, noChoice, chosen, smaller, larger, fitter, bigger, pickedFrom, picked}
+use Rattle.free.proofs.Laws.{holder, held, leftOf, taken-ok}
 
 abbrev pub weighFree : (ℕ → ℕ → ℕ) → List AllocRec → ℕ
 weighFree f xs = weigh startOf countOf f xs
@@ -52,58 +51,16 @@ module _ (f : ℕ → ℕ → ℕ) (add : Additive f) where
       let y = add .split s e (endOf r) k l in
       omega arith
 
--- ---- what an accepted `take` answers
-pub record TakenOk (xs : List AllocRec) (s e : ℕ) (t : Taken) : Type 0 where
-  pub below : firstIndex (holdsRun s e) xs < length xs
-  pub low : getD xs (firstIndex (holdsRun s e) xs) zeroRec .start ≤ s
-  pub high : e ≤ endOf (getD xs (firstIndex (holdsRun s e) xs) zeroRec)
-  pub small : length (spliced xs (firstIndex (holdsRun s e) xs) (firstIndex (holdsRun s e) xs + 1) (cut s e (getD xs (firstIndex (holdsRun s e) xs) zeroRec))) ≤ 64
-  pub same : t .list ≡ packFree (spliced xs (firstIndex (holdsRun s e) xs) (firstIndex (holdsRun s e) xs + 1) (cut s e (getD xs (firstIndex (holdsRun s e) xs) zeroRec)))
-
-kept-ok : (ys : List AllocRec) → kept ys .number ≡ 0 → (length ys ≤ 64) × (kept ys .list ≡ packFree ys)
-kept-ok ys q =
-    let t = number-then (leb (length ys) 64) (record { number = 0; list = packFree ys }) (refusal 34) (λ n. omega arith) q in
-    (leb-true _ _ (t .0), rw (t .0))
-
-from-ok : (xs : List AllocRec) (s e : ℕ) → takenFrom xs s e .number ≡ 0 → TakenOk xs s e (takenFrom xs s e)
-unfolding takenFrom takenAt
-from-ok xs s e q =
-    let t = number-then (ltb (firstIndex (holdsRun s e) xs) (length xs)) (takenAt xs (firstIndex (holdsRun s e) xs) s e) (refusal 33) (λ n. omega arith) q in
-    let h : firstIndex (holdsRun s e) xs < length xs = ltb-true _ _ (t .0) in
-    let p = index-passes (holdsRun s e) xs zeroRec h in
-    let o = kept-ok (spliced xs (firstIndex (holdsRun s e) xs) (firstIndex (holdsRun s e) xs + 1) (cut s e (getD xs (firstIndex (holdsRun s e) xs) zeroRec))) (t .1) in
-    record {
-      below = h;
-      low = leb-true _ _ (both-left (leb (getD xs (firstIndex (holdsRun s e) xs) zeroRec .start) s) (leb e (endOf (getD xs (firstIndex (holdsRun s e) xs) zeroRec))) p);
-      high = leb-true _ _ (both-right (leb (getD xs (firstIndex (holdsRun s e) xs) zeroRec .start) s) (leb e (endOf (getD xs (firstIndex (holdsRun s e) xs) zeroRec))) p);
-      small = o .0;
-      same = rw (t .0) (o .1);
-    }
-
-pub taken-ok : (l : FreeList) (s n : ℕ) → taken l s n .number ≡ 0 → TakenOk (freeOf l) s (s + n) (taken l s n)
-unfolding taken
-taken-ok l s n q =
-    let a = number-first (ltb 64 (l .len)) (refusal 34) (choose (valid startOf countOf 0 (freeOf l)) (choose (ltb (s + n) (2 ^ 64)) (takenFrom (freeOf l) s (s + n)) (refusal 33)) (refusal 32)) (λ n. omega arith) q in
-    let b = number-then (valid startOf countOf 0 (freeOf l)) (choose (ltb (s + n) (2 ^ 64)) (takenFrom (freeOf l) s (s + n)) (refusal 33)) (refusal 32) (λ n. omega arith) (a .1) in
-    let c = number-then (ltb (s + n) (2 ^ 64)) (takenFrom (freeOf l) s (s + n)) (refusal 33) (λ n. omega arith) (b .1) in
-    rw (a .0, b .0, c .0) (from-ok (freeOf l) s (s + n) (c .1))
-
--- what is free before weighs as much as what is free after and the run
+-- ---- what is free before weighs as much as what is free after and the run
 pub taken-weighs : (f : ℕ → ℕ → ℕ) → Additive f → (l : FreeList) (s n : ℕ) → taken l s n .number ≡ 0
     → weighFree f (freeOf l) ≡ weighFree f (freeOf (taken l s n .list)) + f s (s + n)
 taken-weighs f add l s n q =
     let o = taken-ok l s n q in
-    let u = weigh-spliced startOf countOf f zeroRec (freeOf l) (firstIndex (holdsRun s (s + n)) (freeOf l)) (cut s (s + n) (getD (freeOf l) (firstIndex (holdsRun s (s + n)) (freeOf l)) zeroRec)) (o .below) in
-    let c = cut-weighs f add s (s + n) (getD (freeOf l) (firstIndex (holdsRun s (s + n)) (freeOf l)) zeroRec) (o .low) (omega arith) (o .high) in
-    rw (o .same, free-packed (spliced (freeOf l) (firstIndex (holdsRun s (s + n)) (freeOf l)) (firstIndex (holdsRun s (s + n)) (freeOf l) + 1) (cut s (s + n) (getD (freeOf l) (firstIndex (holdsRun s (s + n)) (freeOf l)) zeroRec)))) (omega arith)
+    let u = weigh-spliced startOf countOf f zeroRec (freeOf l) (holder (freeOf l) s (s + n)) (cut s (s + n) (held (freeOf l) s (s + n))) (o .below) in
+    let c = cut-weighs f add s (s + n) (held (freeOf l) s (s + n)) (o .low) (omega arith) (o .high) in
+    rw (o .same, free-packed (leftOf (freeOf l) s (s + n))) (omega arith)
 
 -- ---- a record that is picked from a valid list has blocks
-pub taken-valid : (l : FreeList) (s n : ℕ) → taken l s n .number ≡ 0 → valid startOf countOf 0 (freeOf l) ≡ true
-unfolding taken
-taken-valid l s n q =
-    let a = number-first (ltb 64 (l .len)) (refusal 34) (choose (valid startOf countOf 0 (freeOf l)) (choose (ltb (s + n) (2 ^ 64)) (takenFrom (freeOf l) s (s + n)) (refusal 33)) (refusal 32)) (λ n. omega arith) q in
-    number-then (valid startOf countOf 0 (freeOf l)) (choose (ltb (s + n) (2 ^ 64)) (takenFrom (freeOf l) s (s + n)) (refusal 33)) (refusal 32) (λ n. omega arith) (a .1) .0
-
 abbrev Some : Choice → Type 0
 Some c = c .found ≡ true → 0 < c .rec .count
 

@@ -17,6 +17,7 @@ use Rattle.free.specs.declared.Choice.{Choice}
 abbrev pub notFree : ℕ
 notFree = 33
 
+-- what stands in a slot past the count
 abbrev pub zeroRec : AllocRec
 zeroRec = record { start = 0; count = 0 }
 
@@ -35,6 +36,7 @@ freeOf l = live (ofFree l)
 abbrev pub packFree : List AllocRec → FreeList
 packFree xs = toFree (packed zeroRec xs)
 
+-- the first block of a record, and how many there are
 abbrev pub startOf : AllocRec → ℕ
 startOf r = r .start
 
@@ -56,6 +58,7 @@ before s r = choose (ltb (r .start) s) (record { start = r .start; count = s - r
 abbrev pub after : ℕ → AllocRec → List AllocRec
 after e r = choose (ltb e (endOf r)) (record { start = e; count = endOf r - e } ∷ []) []
 
+-- both
 unfoldable pub cut : ℕ → ℕ → AllocRec → List AllocRec
 cut s e r = before s r ++ after e r
 
@@ -84,7 +87,7 @@ taken l start len =
     (choose (ltb (start + len) (2 ^ 64)) (takenFrom (freeOf l) start (start + len)) (refusal notFree))
     (refusal notValid))
 
--- ---- the record that the free list is taken from
+-- ---- the record that the free list is taken from: none, or one
 abbrev pub noChoice : Choice
 noChoice = record { found = false; rec = zeroRec }
 
@@ -95,7 +98,7 @@ chosen r = record { found = true; rec = r }
 abbrev pub ahead : ℕ → ℕ → ℕ → ℕ → Bool
 ahead p q s t = choose (eqb p q) (ltb s t) (ltb p q)
 
--- a record with less blocks, or more, and the lower start where they have as many
+-- a record with fewer blocks, or more, and the lower start where they have as many
 abbrev pub smaller : AllocRec → AllocRec → Bool
 smaller a b = ahead (a .count) (b .count) (a .start) (b .start)
 
@@ -110,7 +113,7 @@ next passes wins c r = choose (both passes (choose (c .found) wins true)) (chose
 unfoldable pub fitter : ℕ → Choice → AllocRec → Choice
 fitter want c r = next (leb want (r .count)) (smaller r (c .rec)) c r
 
--- the larger
+-- the larger record
 unfoldable pub bigger : Choice → AllocRec → Choice
 bigger c r = next true (larger r (c .rec)) c r
 
@@ -118,5 +121,6 @@ bigger c r = next true (larger r (c .rec)) c r
 unfoldable pub pickedFrom : ℕ → List AllocRec → Choice
 pickedFrom want xs = choose (fold (fitter want) noChoice xs .found) (fold (fitter want) noChoice xs) (fold bigger noChoice xs)
 
+-- `pick`: nothing of a list of more than 64
 unfoldable pub picked : FreeList → ℕ → Choice
 picked l want = choose (ltb 64 (l .len)) noChoice (pickedFrom want (freeOf l))

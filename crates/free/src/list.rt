@@ -9,6 +9,7 @@ ghost use Rattle.free.specs.Free.{ofFree, toFree, freeOf, packFree, star
 use crate::FreeList;
 use btree::AllocRec;
 
+// No record.
 pub fn empty() -> FreeList
     ensures { λ r. ⌜ r ≡ packFree [] ⌝ }
 {

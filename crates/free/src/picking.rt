@@ -7,6 +7,7 @@ use crate::Choice;
 use crate::FreeList;
 use btree::AllocRec;
 
+// No record is chosen.
 fn nothing() -> Choice
     ensures { λ x. ⌜ x ≡ noChoice ⌝ }
 {

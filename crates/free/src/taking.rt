@@ -18,6 +18,7 @@ pub const NOT_FREE: u32 = 33;
 // 2^64 − 1.
 const MAX: u64 = 0xffff_ffff_ffff_ffff;
 
+// The answer of a refusal.
 fn refused(number: u32) -> Taken
     ensures { λ r. ⌜ r ≡ refusal number ⌝ }
 {

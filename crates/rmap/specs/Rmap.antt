@@ -12,6 +12,7 @@ use Rattle.btree.specs.Records.{tooMany}
 use Rattle.rmap.specs.declared.RmapList.{RmapList}
 use Rattle.rmap.specs.declared.Inserted.{Inserted}
 
+-- what stands in a slot past the count
 abbrev pub zeroRec : RmapRec
 zeroRec = record { start = 0; count = 0; owner = 0 }
 
@@ -30,6 +31,7 @@ rmapOf l = live (ofRmap l)
 abbrev pub packRmap : List RmapRec → RmapList
 packRmap xs = toRmap (packed zeroRec xs)
 
+-- the first block of a record, and how many there are
 abbrev pub startOf : RmapRec → ℕ
 startOf r = r .start
 

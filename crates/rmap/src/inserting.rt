@@ -15,6 +15,7 @@ use crate::list::is_valid;
 use crate::list::push;
 use btree::RmapRec;
 
+// The answer of a refusal.
 fn refused(number: u32) -> Inserted
     ensures { λ r. ⌜ r ≡ refusal number ⌝ }
 {

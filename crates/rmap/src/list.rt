@@ -9,6 +9,7 @@ ghost use Rattle.rmap.specs.Rmap.{ofRmap, toRmap, rmapOf, packRmap, star
 use crate::RmapList;
 use btree::RmapRec;
 
+// No record.
 pub fn empty() -> RmapList
     ensures { λ r. ⌜ r ≡ packRmap [] ⌝ }
 {

@@ -85,7 +85,6 @@ module _ {A : Type 0} (start count : A → ℕ) (f : ℕ → ℕ → ℕ) where
   pub weigh-spliced : (z : A) (xs : List A) (i : ℕ) (ys : List A) → i < length xs
       → weigh start count f xs + weigh start count f ys ≡ weigh start count f (spliced xs i (i + 1) ys) + f (start (getD xs i z)) (start (getD xs i z) + count (getD xs i z))
   weigh-spliced z xs i ys h =
-      let r = getD xs i z in
       let e : weigh start count f xs ≡ weigh start count f (take i xs ++ getD xs i z ∷ drop (i + 1) xs) = rw add-one (ap (weigh start count f) (split-at xs i z h)) in
       let m = weigh-append (take i xs) (getD xs i z ∷ drop (i + 1) xs) in
       let g = weigh-cons (getD xs i z) (drop (i + 1) xs) in

@@ -6,10 +6,12 @@ use Prim.Native.Nat.{ℕ, zero, suc, _+_, _-_}
 use lib.Dec.{ltb}
 use lib.ListN.{length, take, drop, set, replicate}
 
+-- both tests hold
 abbrev pub both : Bool → Bool → Bool
 both true b = b
 both false b = false
 
+-- a where the test holds, else b
 abbrev pub choose : {A : Type 0} → Bool → A → A → A
 choose true a b = a
 choose false a b = b
