@@ -31,6 +31,7 @@ bitmapDraw seed = drawn (chunkDraw seed .state)
 abbrev pub summaryDraw : ℕ → Drawn
 summaryDraw seed = drawn (bitmapDraw seed .state)
 
+-- the three generations, and the state after them
 pub record DrawnAs (seed chunk bitmap summary state : ℕ) : Type 0 where
   pub chunk-is : chunk ≡ chunkDraw seed .value
   pub bitmap-is : bitmap ≡ bitmapDraw seed .value
