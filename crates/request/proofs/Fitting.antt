@@ -7,13 +7,12 @@ use native.Mathlib.Omega.{arith}
 use native.Mathlib.Nat.{div-eq-of-lt, div-add-mod', mod-lt}
 use lib.Dec.{ltb, eqb}
 use lib.Pow.{pow-mono}
-use lib.ListN.{getD, List·getD-eq-default}
+use lib.ListN.{length, getD, List·getD-eq-default}
 use borrow.Author.Tests.{lt-ltb, le-ltb, eq-eqb, ltb-true, ltb-false, ne-eqb}
 use Rattle.request.specs.Records.{optionBits, fits, known}
 
 -- a code past the table is no option's
-pub no-code : (code : ℕ) → 12 ≤ code → 0 ≡ getD optionBits code 0
-unfolding optionBits
+pub no-code : (code : ℕ) → length optionBits ≤ code → 0 ≡ getD optionBits code 0
 no-code code h = sym (List·getD-eq-default optionBits 0 h)
 
 module _ (code n b : ℕ) (is : b ≡ getD optionBits code 0) where
