@@ -160,6 +160,14 @@ planned-group g k =
     (λ t e. site-group (siteOf g k) e)
     (λ t e. refused-group (groupRefusal g k) k t e)
 
+-- which is there
+pub planned-there : (g : Geometry) (k : ℕ) → planned g k .number ≡ 0 → groupRefusal g k ≡ 0
+unfolding planned
+planned-there g k =
+    choose-elim (λ (x : Planned). x .number ≡ 0 → groupRefusal g k ≡ 0) (eqb (groupRefusal g k) 0) _ _
+    (λ t e. eqb-true (groupRefusal g k) 0 t)
+    (λ t e. e)
+
 -- and passes the test
 pub planned-is-plan : (g : Geometry) (k : ℕ) → planned g k .number ≡ 0 → isPlan g (planned g k .plan) ≡ true
 unfolding isPlan
