@@ -4,7 +4,7 @@
 use std::env;
 use std::path::Path;
 
-const FEATURES: [&str; 6] = ["crc", "geometry", "places", "helpers", "sb", "structs"];
+const FEATURES: [&str; 8] = ["crc", "geometry", "places", "helpers", "records", "sb", "structs", "recs"];
 
 fn main() {
     println!("cargo:rerun-if-env-changed=ZECHURQI_STATICLIB");

@@ -533,3 +533,132 @@ pub mod helpers {
         unsafe { zq_ag_min_blocks(blocklog) }
     }
 }
+
+/// Crate `ffi_recs`: the record lists, from 64 records and a count. Every function gives the number.
+#[cfg(feature = "recs")]
+pub mod recs {
+    use crate::structs::btree::{AllocRec, InobtRec, RmapRec};
+
+    extern "C" {
+        fn zq_alloc_recs(start: *const u32, blocks: *const u32, count: usize, out: *mut u8, len: usize) -> u32;
+        fn zq_inobt_recs(
+            startino: *const u32,
+            holemask: *const u16,
+            inodes: *const u8,
+            freecount: *const u8,
+            free: *const u64,
+            count: usize,
+            sparse: bool,
+            out: *mut u8,
+            len: usize,
+        ) -> u32;
+        fn zq_rmap_recs(
+            start: *const u32,
+            blocks: *const u32,
+            owner: *const u64,
+            count: usize,
+            out: *mut u8,
+            len: usize,
+        ) -> u32;
+    }
+
+    pub fn alloc_recs(recs: &[AllocRec; 64], count: usize, out: &mut [u8]) -> u32 {
+        let (start, blocks) = (recs.each_ref().map(|r| r.start), recs.each_ref().map(|r| r.count));
+        unsafe { zq_alloc_recs(start.as_ptr(), blocks.as_ptr(), count, out.as_mut_ptr(), out.len()) }
+    }
+
+    pub fn inobt_recs(recs: &[InobtRec; 64], count: usize, sparse: bool, out: &mut [u8]) -> u32 {
+        let (startino, holemask) = (recs.each_ref().map(|r| r.startino), recs.each_ref().map(|r| r.holemask));
+        let (inodes, freecount) = (recs.each_ref().map(|r| r.count), recs.each_ref().map(|r| r.freecount));
+        let free = recs.each_ref().map(|r| r.free);
+        unsafe {
+            zq_inobt_recs(
+                startino.as_ptr(),
+                holemask.as_ptr(),
+                inodes.as_ptr(),
+                freecount.as_ptr(),
+                free.as_ptr(),
+                count,
+                sparse,
+                out.as_mut_ptr(),
+                out.len(),
+            )
+        }
+    }
+
+    pub fn rmap_recs(recs: &[RmapRec; 64], count: usize, out: &mut [u8]) -> u32 {
+        let (start, blocks) = (recs.each_ref().map(|r| r.start), recs.each_ref().map(|r| r.count));
+        let owner = recs.each_ref().map(|r| r.owner);
+        unsafe { zq_rmap_recs(start.as_ptr(), blocks.as_ptr(), owner.as_ptr(), count, out.as_mut_ptr(), out.len()) }
+    }
+}
+
+/// Crate `ffi_records`. A list of records goes as an array of 64 for each field, and how many there are.
+#[cfg(feature = "records")]
+pub mod records {
+    use crate::structs::btree::{AllocRec, RmapRec};
+
+    type Column<T> = [T; 64];
+
+    extern "C" {
+        fn zq_take(
+            part: u32,
+            k: usize,
+            starts: *const Column<u32>,
+            counts: *const Column<u32>,
+            n: usize,
+            start: u64,
+            len: u64,
+        ) -> u64;
+        fn zq_rmap_insert(
+            part: u32,
+            k: usize,
+            starts: *const Column<u32>,
+            counts: *const Column<u32>,
+            owners: *const Column<u64>,
+            n: usize,
+            start: u32,
+            count: u32,
+            owner: u64,
+        ) -> u64;
+    }
+
+    /// The parts of an answer.
+    const NUMBER: u32 = 0;
+    const LEN: u32 = 1;
+    const START: u32 = 2;
+    const COUNT: u32 = 3;
+    const OWNER: u32 = 4;
+
+    /// One number of each of the first 64 records, zeros behind them.
+    fn column<R, T: Copy + Default>(list: &[R], field: impl Fn(&R) -> T) -> Column<T> {
+        let mut out = [T::default(); 64];
+        for (slot, r) in out.iter_mut().zip(list) {
+            *slot = field(r);
+        }
+        out
+    }
+
+    /// The number, and the records left.
+    pub fn take(list: &[AllocRec], start: u64, len: u64) -> (u32, Vec<AllocRec>) {
+        let (starts, counts) = (column(list, |r| r.start), column(list, |r| r.count));
+        let part = |part, k| unsafe { zq_take(part, k, &starts, &counts, list.len(), start, len) };
+        let rec = |k| AllocRec { start: part(START, k) as u32, count: part(COUNT, k) as u32 };
+        (part(NUMBER, 0) as u32, (0..part(LEN, 0) as usize).map(rec).collect())
+    }
+
+    /// The number, and the records left.
+    pub fn rmap_insert(list: &[RmapRec], r: RmapRec) -> (u32, Vec<RmapRec>) {
+        let (starts, counts) = (column(list, |r| r.start), column(list, |r| r.count));
+        let owners = column(list, |r| r.owner);
+        let part = |part, k| unsafe {
+            zq_rmap_insert(part, k, &starts, &counts, &owners, list.len(), r.start, r.count, r.owner)
+        };
+        let rec = |k| RmapRec {
+            start: part(START, k) as u32,
+            count: part(COUNT, k) as u32,
+            owner: part(OWNER, k),
+        };
+        (part(NUMBER, 0) as u32, (0..part(LEN, 0) as usize).map(rec).collect())
+    }
+}

@@ -65,14 +65,14 @@ withChunk s n = choose (s .rmapbt) (listedIf s n (s .reflink) (s .«has_log») +
 
 module _ (s : Site) (ok : Sound s) (on : s .rmapbt ≡ true) where
   -- what Sound says where rmapbt is on
-  refc-is : s .«refc_at» ≡ s .«rmap_at» + 1
+  pub refc-is : s .«refc_at» ≡ s .«rmap_at» + 1
   refc-is = ok .refc-next on
 
-  head-is : (t : Bool) → s .reflink ≡ t → s .head ≡ s .«rmap_at» + 1 + choose t 1 0
+  pub head-is : (t : Bool) → s .reflink ≡ t → s .head ≡ s .«rmap_at» + 1 + choose t 1 0
   head-is t e = ok .head-next on ∙ ap (λ (b : Bool). s .«rmap_at» + 1 + bit b) e ∙ ap (λ (n : ℕ). s .«rmap_at» + 1 + n) (bit-at t)
 
   -- the head's parts are valid before what is valid after the rmap root
-  parts-valid : (rest : List RmapRec) → validRmap (s .«rmap_at») rest ≡ true → validRmap 0 (headParts s ++ rest) ≡ true
+  pub parts-valid : (rest : List RmapRec) → validRmap (s .«rmap_at») rest ≡ true → validRmap 0 (headParts s ++ rest) ≡ true
   parts-valid rest v =
       let n = ok .ibt-next in
       let a = ok .rmap-after in

@@ -1,19 +1,19 @@
 -- `take` takes exactly the run out of the free extents, and what is picked has blocks.
 -- Assumes nothing.
-use mathlib.Core.Path.{_≡_, refl, sym, ap, _∙_}
-use mathlib.Core.Bool.{Bool, true, false}
+use mathlib.Core.Path.{_≡_, sym}
+use mathlib.Core.Bool.{true}
 use mathlib.Core.Logic.{⊎-elim}
-use mathlib.Core.List.{List, [], _∷_, _++_}
-use Prim.Native.Nat.{ℕ, zero, suc, _+_, _-_, _≤_, _<_, _^_}
+use mathlib.Core.List.{List, [], _∷_}
+use Prim.Native.Nat.{ℕ, _+_, _-_, _≤_, _<_, _^_}
 use native.Mathlib.Nat.{add-zero}
 use native.Mathlib.Omega.{arith}
 use borrow.Author.Tests.{leb-true, ltb-true, lt-ltb, le-ltb}
 use lib.Dec.{leb, ltb}
-use lib.ListN.{length, take, getD, replicate}
+use lib.ListN.{length, getD, replicate}
 use lib.Seq.{take-append-seam}
 use Rattle.seqs.specs.Lists.{both, choose, firstIndex, spliced, fold}
 use Rattle.seqs.specs.Runs.{follows, valid, weigh}
-use Rattle.seqs.proofs.Laws.{both-left, both-right, index-passes, lt-or-le, choose-elim}
+use Rattle.seqs.proofs.Laws.{never, both-left, both-right, index-passes, lt-or-le, choose-elim}
 use Rattle.seqs.proofs.Weights.{Additive, weigh-append, weigh-spliced}
 use Rattle.btree.specs.declared.records.AllocRec.{AllocRec}
 use Rattle.free.specs.declared.FreeList.{FreeList}
@@ -125,9 +125,6 @@ fitter-some want c r h g = choose-elim Some (both (leb want (r .count)) (choose 
 bigger-some : (c : Choice) (r : AllocRec) → 0 < r .count → Some c → Some (bigger c r)
 unfolding bigger
 bigger-some c r h g = choose-elim Some (choose (c .found) (larger r (c .rec)) true) (chosen r) c (λ t e. h) (λ t. g)
-
-never : {X : Type 0} → false ≡ true → X
-never e = let z : _≡_ {A = ℕ} 0 1 = cc in absurd (omega arith)
 
 pub picked-some : (l : FreeList) (want : ℕ) → valid startOf countOf 0 (freeOf l) ≡ true → picked l want .found ≡ true → 0 < picked l want .rec .count
 unfolding picked pickedFrom

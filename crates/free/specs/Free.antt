@@ -91,19 +91,28 @@ noChoice = record { found = false; rec = zeroRec }
 abbrev pub chosen : AllocRec → Choice
 chosen r = record { found = true; rec = r }
 
--- of two records: less blocks, or more, and the lower start where they have as many
+-- size p is less than size q, or they are equal and start s is lower than start t
+abbrev pub ahead : ℕ → ℕ → ℕ → ℕ → Bool
+ahead p q s t = choose (eqb p q) (ltb s t) (ltb p q)
+
+-- a record with less blocks, or more, and the lower start where they have as many
 abbrev pub smaller : AllocRec → AllocRec → Bool
-smaller a b = choose (eqb (a .count) (b .count)) (ltb (a .start) (b .start)) (ltb (a .count) (b .count))
+smaller a b = ahead (a .count) (b .count) (a .start) (b .start)
 
 abbrev pub larger : AllocRec → AllocRec → Bool
-larger a b = choose (eqb (a .count) (b .count)) (ltb (a .start) (b .start)) (ltb (b .count) (a .count))
+larger a b = ahead (b .count) (a .count) (a .start) (b .start)
 
--- a record that holds all still wanted is better than a larger one; and a record is better than a smaller one
+-- r in the place of c where it passes a test, and wins over c or nothing is there
+abbrev pub next : Bool → Bool → Choice → AllocRec → Choice
+next passes wins c r = choose (both passes (choose (c .found) wins true)) (chosen r) c
+
+-- the better fit: a record that holds all still wanted, and is smaller
 unfoldable pub fitter : ℕ → Choice → AllocRec → Choice
-fitter want c r = choose (both (leb want (r .count)) (choose (c .found) (smaller r (c .rec)) true)) (chosen r) c
+fitter want c r = next (leb want (r .count)) (smaller r (c .rec)) c r
 
+-- the larger
 unfoldable pub bigger : Choice → AllocRec → Choice
-bigger c r = choose (choose (c .found) (larger r (c .rec)) true) (chosen r) c
+bigger c r = next true (larger r (c .rec)) c r
 
 -- the smallest record that holds all still wanted, else the largest; the lowest start on a tie
 unfoldable pub pickedFrom : ℕ → List AllocRec → Choice

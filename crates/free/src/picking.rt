@@ -2,7 +2,7 @@
 ghost use mathlib.Core.Path.{_≡_};
 ghost use Prim.Native.Nat.{_≤_};
 ghost use Rattle.seqs.specs.Lists.{fold};
-ghost use Rattle.free.specs.Free.{freeOf, noChoice, smaller, larger, fitter, bigger, picked};
+ghost use Rattle.free.specs.Free.{freeOf, noChoice, ahead, next, fitter, bigger, picked};
 use crate::Choice;
 use crate::FreeList;
 use btree::AllocRec;
@@ -14,30 +14,23 @@ fn nothing() -> Choice
     Choice { found: false, rec }
 }
 
-fn is_smaller(a: AllocRec, b: AllocRec) -> bool
-    ensures { λ x. ⌜ x ≡ smaller a b ⌝ }
+// Size p is less than size q, or they are equal and start s is lower than start t.
+fn is_ahead(p: u32, q: u32, s: u32, t: u32) -> bool
+    ensures { λ x. ⌜ x ≡ ahead p q s t ⌝ }
 {
-    if a.count == b.count {
-        return a.start < b.start;
+    if p == q {
+        return s < t;
     }
-    a.count < b.count
+    p < q
 }
 
-fn is_larger(a: AllocRec, b: AllocRec) -> bool
-    ensures { λ x. ⌜ x ≡ larger a b ⌝ }
+// r in the place of c where it passes a test, and wins over c or nothing is there.
+fn keep(passes: bool, wins: bool, c: Choice, r: AllocRec) -> Choice
+    ensures { λ x. ⌜ x ≡ next passes wins c r ⌝ }
 {
-    if a.count == b.count {
-        return a.start < b.start;
-    }
-    b.count < a.count
-}
-
-fn better_fit(want: u64, c: Choice, r: AllocRec) -> Choice
-    ensures { λ x. ⌜ x ≡ fitter want c r ⌝ }
-{
-    if want <= (r.count as u64) {
+    if passes {
         if c.found {
-            if is_smaller(r, c.rec) {
+            if wins {
                 return Choice {
                     found: true,
                     rec: r,
@@ -53,22 +46,22 @@ fn better_fit(want: u64, c: Choice, r: AllocRec) -> Choice
     c
 }
 
+// Of c and r, the better fit; r alone is tested.
+fn better_fit(want: u64, c: Choice, r: AllocRec) -> Choice
+    ensures { λ x. ⌜ x ≡ fitter want c r ⌝ }
+{
+    let a = c.rec;
+    let wins = is_ahead(r.count, a.count, r.start, a.start);
+    keep(want <= (r.count as u64), wins, c, r)
+}
+
+// Of c and r, the larger.
 fn better_size(c: Choice, r: AllocRec) -> Choice
     ensures { λ x. ⌜ x ≡ bigger c r ⌝ }
 {
-    if c.found {
-        if is_larger(r, c.rec) {
-            return Choice {
-                found: true,
-                rec: r,
-            };
-        }
-        return c;
-    }
-    Choice {
-        found: true,
-        rec: r,
-    }
+    let a = c.rec;
+    let wins = is_ahead(a.count, r.count, r.start, a.start);
+    keep(true, wins, c, r)
 }
 
 // The smallest record that has `want` blocks, the lowest start on a tie.

@@ -1,3 +1,4 @@
 pub mod Laws
 pub mod Order
 pub mod Read
+pub mod Runs

@@ -10,11 +10,14 @@ use native.Mathlib.Omega.{arith}
 use native.Mathlib.Numerals.{add-one}
 use borrow.Author.Tests.{ltb-true, ltb-false, lt-ltb}
 use lib.Dec.{ltb}
-use lib.ListN.{length, take, getD, set, replicate, length-append}
-use lib.Seq.{slice, slice-cons, slice-empty, set-append-seam, append-snoc, take-take, length-take-le, length-slice}
-use Rattle.seqs.specs.Lists.{both, choose, firstIndex, spliced, Store, packed, pushed, appended, fold, turns, upFrom}
+use lib.ListN.{length, take, drop, getD, set, replicate, length-append, length-drop, take-append-drop}
+use lib.Seq.{slice, slice-cons, slice-empty, set-append-seam, append-snoc, take-take, length-take-le}
+use Rattle.seqs.specs.Lists.{both, choose, firstIndex, spliced, Store, packed, pushed, appended, fold, turns, total, upFrom}
 
 -- ---- tests
+pub never : {X : Type 0} → false ≡ true → X
+never e = let z : _≡_ {A = ℕ} 0 1 = cc in absurd (omega arith)
+
 pub both-left : (a b : Bool) → both a b ≡ true → a ≡ true
 both-left true b e = refl
 both-left false b e = e
@@ -110,12 +113,15 @@ module _ {A : Type 0} (z : A) where
       rw (pushed-packed xs y (omega arith)) (appended-packed (xs ++ y ∷ []) ys (omega arith) ∙ ap (packed z) (append-snoc xs y ys))
 
 -- ---- a part of a list replaced
+pub length-put : {A : Type 0} (xs : List A) (i j : ℕ) (ys : List A) → i ≤ length xs → length (spliced xs i j ys) ≡ i + length ys + (length xs - j)
+length-put xs i j ys h =
+    let a : length (take i xs) ≡ i = length-take-le i xs h in
+    let b : length (drop j xs) ≡ length xs - j = length-drop j xs in
+    simp length-append (omega arith)
+
 module _ {A : Type 0} (z : A) (xs : List A) (n i j : ℕ) (ys : List A) (k : n ≤ length xs) (h : i ≤ n) where
   pub length-spliced : length (spliced (take n xs) i j ys) ≡ i + length ys + (n - j)
-  length-spliced =
-      let a : length (take i (take n xs)) ≡ i = rw (take-take i n xs h) (length-take-le i xs (omega arith)) in
-      let b : length (slice j n xs) ≡ n - j = length-slice j n xs k in
-      simp length-append (omega arith)
+  length-spliced = let a : length (take n xs) ≡ n = length-take-le n xs k in length-put (take n xs) i j ys (omega arith) ∙ ap (λ (m : ℕ). i + length ys + (m - j)) a
 
   pub splice-packed : length (spliced (take n xs) i j ys) ≤ 64
       → appended (appended (appended (packed z []) (slice 0 i xs)) ys) (slice j n xs) ≡ packed z (spliced (take n xs) i j ys)
@@ -147,3 +153,23 @@ pub upFrom-step : (a n : ℕ) → 0 < n → upFrom a n ≡ a ∷ upFrom (a + 1) 
 unfolding upFrom
 upFrom-step a zero h = absurd (not-suc-le-zero h)
 upFrom-step a (suc n) h = let e : suc n - 1 ≡ n = omega arith in rw e
+
+-- ---- sums
+module _ {A : Type 0} (g : A → ℕ) where
+  pub total-cons : (x : A) (xs : List A) → total g (x ∷ xs) ≡ g x + total g xs
+  unfolding total
+  total-cons x xs = refl
+
+  pub total-append : (xs ys : List A) → total g (xs ++ ys) ≡ total g xs + total g ys
+  unfolding total
+  total-append [] ys = omega arith
+  total-append (x ∷ xs) ys = let h = total-append xs ys in omega arith
+
+  -- one element put in
+  pub total-put : (xs : List A) (p : ℕ) (x : A) → total g (spliced xs p p (x ∷ [])) ≡ total g xs + g x
+  total-put xs p x =
+      let a = total-append (take p xs) (x ∷ drop p xs) in
+      let b = total-cons x (drop p xs) in
+      let c = total-append (take p xs) (drop p xs) in
+      let d : total g (take p xs ++ drop p xs) ≡ total g xs = ap (total g) (take-append-drop p xs) in
+      omega arith

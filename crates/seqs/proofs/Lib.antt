@@ -1,3 +1,5 @@
 pub mod Laws
 pub mod Validity
 pub mod Weights
+pub mod Parts
+pub mod Members

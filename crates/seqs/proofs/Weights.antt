@@ -12,8 +12,9 @@ use borrow.Author.Tests.{lt-ltb, le-ltb}
 use lib.Dec.{ltb}
 use lib.ListN.{length, take, drop, getD}
 use lib.Seq.{split-at}
-use Rattle.seqs.specs.Lists.{choose, spliced}
-use Rattle.seqs.specs.Runs.{inside, weigh, blocks, has}
+use Rattle.seqs.specs.Lists.{choose, spliced, total}
+use Rattle.seqs.specs.Runs.{valid, inside, weigh, blocks, has}
+use Rattle.seqs.proofs.Parts.{Follows, valid-uncons}
 use Rattle.seqs.proofs.Laws.{lt-or-le}
 
 none-at : (t : Bool) → choose {A = ℕ} t 0 0 ≡ 0
@@ -75,6 +76,11 @@ module _ {A : Type 0} (start count : A → ℕ) (f : ℕ → ℕ → ℕ) where
   unfolding weigh
   weigh-cons r rs = refl
 
+  pub total-weighs : (xs : List A) → total (λ r. f (start r) (start r + count r)) xs ≡ weigh start count f xs
+  unfolding weigh total
+  total-weighs [] = refl
+  total-weighs (x ∷ xs) = ap (λ (n : ℕ). f (start x) (start x + count x) + n) (total-weighs xs)
+
   -- one element taken out, and others put in its place
   pub weigh-spliced : (z : A) (xs : List A) (i : ℕ) (ys : List A) → i < length xs
       → weigh start count f xs + weigh start count f ys ≡ weigh start count f (spliced xs i (i + 1) ys) + f (start (getD xs i z)) (start (getD xs i z) + count (getD xs i z))
@@ -86,3 +92,25 @@ module _ {A : Type 0} (start count : A → ℕ) (f : ℕ → ℕ → ℕ) where
       let k = weigh-append (take i xs) (ys ++ drop (i + 1) xs) in
       let l = weigh-append ys (drop (i + 1) xs) in
       omega arith
+
+-- ---- a valid list has no block twice
+pub record AtMostOnce (lo b n : ℕ) : Type 0 where
+  pub once : n ≤ 1
+  pub below : b < lo → n ≡ 0
+
+once-at : (lo s c b n : ℕ) → Follows lo s c → AtMostOnce (s + c) b n → AtMostOnce lo b (has b s (s + c) + n)
+once-at lo s c b n f r =
+    ⊎-elim
+    (λ l. let z = inside-below s (s + c) b l in let k = r .below (omega arith) in record { once = omega arith; below = λ h. omega arith })
+    (λ g. ⊎-elim
+    (λ l. let z = inside-in s (s + c) b g l in let k = r .below l in record { once = omega arith; below = λ h. absurd (omega arith) })
+    (λ i. let z = inside-above s (s + c) b i in let k = r .once in record { once = omega arith; below = λ h. absurd (omega arith) })
+    (lt-or-le b (s + c)))
+    (lt-or-le b s)
+
+pub valid-once : {A : Type 0} (start count : A → ℕ) (lo : ℕ) (xs : List A) (b : ℕ) → valid start count lo xs ≡ true → AtMostOnce lo b (weigh start count (has b) xs)
+unfolding weigh
+valid-once start count lo [] b v = record { once = omega arith; below = λ h. refl }
+valid-once start count lo (x ∷ xs) b v =
+    let u = valid-uncons start count lo x xs v in
+    once-at lo (start x) (count x) b (weigh start count (has b) xs) (u .0) (valid-once start count (start x + count x) xs b (u .1))

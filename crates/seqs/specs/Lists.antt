@@ -54,6 +54,11 @@ unfoldable pub turns : {S : Type 0} → (S → S) → ℕ → S → S
 turns f zero s = s
 turns f (suc k) s = turns f k (f s)
 
+-- the sum of g over the elements
+unfoldable pub total : {A : Type 0} → (A → ℕ) → List A → ℕ
+total g [] = 0
+total g (x ∷ xs) = g x + total g xs
+
 -- the numbers from a, n of them
 unfoldable pub upFrom : ℕ → ℕ → List ℕ
 upFrom a zero = []

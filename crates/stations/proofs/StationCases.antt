@@ -1,5 +1,6 @@
--- The definition gives the station cases' answers.
+-- The definitions give the station cases' answers, and planlist's example.
 -- Assumes nothing.
+use mathlib.Core.Bool.{_&&_}
 use lib.Dec.{T}
 use Rattle.arith.specs.Choice.{when, bit}
 use Rattle.arith.specs.Numbers.{ceilDiv}
@@ -7,10 +8,22 @@ use Rattle.arith.specs.Powers.{powerIn, powerLog, leastFrom, log2Up}
 use Rattle.sizes.specs.Sizes.{defaultSector, sizesOf, sizesRefusals}
 use Rattle.geometry.specs.Groups.{askedBlocks, defaultSize, initialGroups, isShort, trim, optionsRefusals, groupsRefusals}
 use Rattle.geometry.specs.Log.{headerOf, preallocOf, logBlocks, defaultImaxpct, lastRefusals}
-use Rattle.geometry.specs.Compute.{withGroups, withSizes, chosenOf, refusals, refusalOf, labelOf, geometryOf, zeroGeometry, answer, computeDef}
-use Rattle.layout.specs.Places.{freelistOf, chunkOf, clusterOf, alignOf, roundUp, aligned, rootChunkOf, fsbOf, inoOf}
-use Rattle.stations.specs.Stations.{rootInode, shownGeometry, shown, same, passes, all, stations}
+use Rattle.geometry.specs.Compute.{withGroups, withSizes, chosenOf, refusals, refusalOf, labelOf, geometryOf, zeroGeometry, computeDef}
+use Rattle.geometry.specs.Compute as compute
+use Rattle.answers.specs.Same.{sameFeatures, numbersOf, sameFrom, sameGeometry}
+use Rattle.answers.specs.Named.{namedOptions, namedOn, namedFits, namedAnswer, namesOf, isAnswer}
+use Rattle.layout.specs.Places.{ibtBlock, rmapBlock, refcBlock, freelistOf, chunkOf, clusterOf, alignOf, roundUp, aligned, rootChunkOf, groupBlocks, fsbOf, inoOf}
+use Rattle.places.specs.Answers.{groupRefusal}
+use Rattle.site.specs.Sites.{siteOf}
+use Rattle.seqs.specs.Lists.{firstIndex, pushed, appended, fold, turns, upFrom}
+use Rattle.seqs.specs.Runs.{valid, weigh, blocks}
+use Rattle.btree.specs.Owners.{negative}
+use Rattle.free.specs.Free.{cut, takenAt, takenFrom, taken, fitter, bigger, pickedFrom, picked}
+use Rattle.rmap.specs.Rmap.{joinsLeft, joinsRight, insertedAt, takes, inserted}
+use Rattle.plan.specs.Plan.{freeAtFirst, rmapAtFirst, atFirst, failed, noted, moved, turn, listed, chunked, answer, planOf, planned}
+use Rattle.totals.specs.Totals.{freeblksOf, longestOf, sumTo, firstTo, plansNumber, freeCount, rowOf, totalOf}
+use Rattle.stations.specs.Stations.{rootInode, shownGeometry, shown, acceptedPlans, shownPlans, plansOf, same, passes, all, stations, rows, exampleRows, example}
 
-pub hold : T (all stations)
-unfolding when bit ceilDiv powerIn powerLog leastFrom log2Up defaultSector sizesOf sizesRefusals askedBlocks defaultSize initialGroups isShort trim optionsRefusals groupsRefusals headerOf preallocOf logBlocks defaultImaxpct lastRefusals withGroups withSizes chosenOf refusals refusalOf labelOf geometryOf zeroGeometry answer computeDef freelistOf chunkOf clusterOf alignOf roundUp aligned rootChunkOf fsbOf inoOf rootInode shownGeometry shown same passes all stations
+pub hold : T (all stations && same exampleRows example)
+unfolding when bit ceilDiv powerIn powerLog leastFrom log2Up defaultSector sizesOf sizesRefusals askedBlocks defaultSize initialGroups isShort trim optionsRefusals groupsRefusals headerOf preallocOf logBlocks defaultImaxpct lastRefusals withGroups withSizes chosenOf refusals refusalOf labelOf geometryOf zeroGeometry compute.answer computeDef sameFeatures numbersOf sameFrom sameGeometry namedOptions namedOn namedFits namedAnswer namesOf isAnswer ibtBlock rmapBlock refcBlock freelistOf chunkOf clusterOf alignOf roundUp aligned rootChunkOf groupBlocks fsbOf inoOf groupRefusal siteOf firstIndex pushed appended fold turns upFrom valid weigh blocks negative cut takenAt takenFrom taken fitter bigger pickedFrom picked joinsLeft joinsRight insertedAt takes inserted freeAtFirst rmapAtFirst atFirst failed noted moved turn listed chunked answer planOf planned freeblksOf longestOf sumTo firstTo plansNumber freeCount rowOf totalOf rootInode shownGeometry shown acceptedPlans shownPlans plansOf same passes all stations rows exampleRows example
 hold = tt

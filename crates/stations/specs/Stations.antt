@@ -1,11 +1,12 @@
--- The station cases that the geometry step answers, as one table: options, device size, and the answer's
--- number, block count, group size, group count, log blocks, head blocks and root inode.
+-- The station cases as one table: options, device size, what the geometry step answers, and what planning every group answers.
 -- Assumes nothing.
 use mathlib.Core.Bool.{Bool, true, false, _&&_, cond}
-use mathlib.Core.List.{List, [], _∷_}
-use Prim.Native.Nat.{ℕ, _*_}
+use mathlib.Core.List.{List, [], _∷_, _++_}
+use Prim.Native.Nat.{ℕ, zero, suc, _+_, _*_}
 use lib.Dec.{eqb}
 use Rattle.params.specs.declared.Features.{Features}
+use Rattle.params.specs.declared.OptU64.{OptU64}
+use Rattle.params.specs.declared.OptU64.the-variants.{Absent, Given}
 use Rattle.params.specs.declared.Params.{Params}
 use Rattle.params.specs.Params.{noOptions, withSectorSize, withAgcount, withAgsize, withFeatures}
 use Rattle.geometry.specs.declared.Geometry.{Geometry}
@@ -13,17 +14,27 @@ use Rattle.geometry.specs.declared.Computed.{Computed}
 use Rattle.geometry.specs.Limits.{mib}
 use Rattle.geometry.specs.Compute.{computeDef}
 use Rattle.layout.specs.Places.{inoOf, rootChunkOf}
+use Rattle.site.specs.Sites.{siteOf}
+use Rattle.plan.specs.declared.AgPlan.{AgPlan}
+use Rattle.plan.specs.Plan.{planned}
+use Rattle.closed.specs.Closed.{freeBlocks}
+use Rattle.totals.specs.declared.Row.{Row}
+use Rattle.totals.specs.declared.Total.{Total}
+use Rattle.totals.specs.Totals.{plansNumber, freeCount, rowOf, totalOf}
 
 pub record Case : Type 0 where
   pub options : Params
   pub device : ℕ
-  pub expected : List ℕ
+  pub geometry : List ℕ
+  pub plans : List ℕ
+
+-- ---- what is compared
 
 -- the root directory's inode: the first of the root chunk in group 0
 unfoldable pub rootInode : Geometry → ℕ
 rootInode g = inoOf (g .agblklog) (g .inopblog) 0 (rootChunkOf (g .features) (g .sectsize) (g .inodesize) (g .blocksize)) 0
 
--- what is compared of a geometry; the log starts after the head
+-- of a geometry: block count, group size, group count, log blocks, head blocks (the log starts after the head), root inode
 unfoldable pub shownGeometry : Geometry → List ℕ
 shownGeometry g =
     0 ∷ g .dblocks ∷ g .agsize ∷ g .agcount ∷ g .logblocks ∷ g .«log_agbno» ∷ rootInode g ∷ []
@@ -32,6 +43,29 @@ shownGeometry g =
 unfoldable pub shown : Computed → List ℕ
 shown r = cond (eqb (r .number) 0) (shownGeometry (r .geometry)) (r .number ∷ [])
 
+-- where the chunk is, 0 for none
+abbrev pub chunkAt : OptU64 → ℕ
+chunkAt Absent = 0
+chunkAt (Given at) = at
+
+abbrev pub planIn : Geometry → ℕ → AgPlan
+planIn g k = planned g k .plan
+
+-- of the plans: free count, first block of the chunk, free records of group 0 and of the log group
+unfoldable pub acceptedPlans : Geometry → List ℕ
+acceptedPlans g =
+    0 ∷ freeCount g ∷ chunkAt (planIn g 0 .chunk) ∷ planIn g 0 .free .len ∷ planIn g (g .logagno) .free .len ∷ []
+
+-- of a refusal the number, and the blocks that are left in the log group
+unfoldable pub shownPlans : Geometry → List ℕ
+shownPlans g =
+    cond (eqb (plansNumber g) 0) (acceptedPlans g)
+    (plansNumber g ∷ freeBlocks (siteOf g (g .logagno)) ∷ [])
+
+-- of a refused geometry nothing
+unfoldable pub plansOf : Computed → List ℕ
+plansOf r = cond (eqb (r .number) 0) (shownPlans (r .geometry)) []
+
 unfoldable pub same : List ℕ → List ℕ → Bool
 same [] [] = true
 same [] (y ∷ ys) = false
@@ -39,17 +73,26 @@ same (x ∷ xs) [] = false
 same (x ∷ xs) (y ∷ ys) = eqb x y && same xs ys
 
 unfoldable pub passes : Case → Bool
-passes k = same (shown (computeDef (k .options) (k .device) 512 512)) (k .expected)
+passes k =
+    same (shown (computeDef (k .options) (k .device) 512 512)) (k .geometry)
+    && same (plansOf (computeDef (k .options) (k .device) 512 512)) (k .plans)
 
 unfoldable pub all : List Case → Bool
 all [] = true
 all (k ∷ ks) = passes k && all ks
 
-abbrev pub case : Params → ℕ → List ℕ → Case
-case options device expected = record { options = options; device = device; expected = expected }
+-- ---- the table
 
-abbrev pub refused : ℕ → List ℕ
-refused n = n ∷ []
+abbrev pub case : Params → ℕ → List ℕ → List ℕ → Case
+case options device geometry plans = record { options = options; device = device; geometry = geometry; plans = plans }
+
+-- a refusal of the geometry step has no plans
+abbrev pub refused : Params → ℕ → ℕ → Case
+refused options device n = case options device (n ∷ []) []
+
+-- planning answers 25, with so many blocks left
+abbrev pub short : ℕ → List ℕ
+short left = 25 ∷ left ∷ []
 
 -- bytes of a block in every case
 abbrev pub block : ℕ
@@ -63,22 +106,48 @@ noRmapbt =
 unfoldable pub stations : List Case
 stations =
     -- K1
-    case noOptions (1024 * mib) (0 ∷ 262144 ∷ 65536 ∷ 4 ∷ 16384 ∷ 7 ∷ 128 ∷ [])
+    case noOptions (1024 * mib) (0 ∷ 262144 ∷ 65536 ∷ 4 ∷ 16384 ∷ 7 ∷ 128 ∷ []) (0 ∷ 245724 ∷ 16 ∷ 2 ∷ 1 ∷ [])
     -- K2
-    ∷ case noOptions (299 * mib) (refused 21)
-    ∷ case noOptions (300 * mib) (0 ∷ 76800 ∷ 19200 ∷ 4 ∷ 16384 ∷ 7 ∷ 128 ∷ [])
+    ∷ refused noOptions (299 * mib) 21
+    ∷ case noOptions (300 * mib) (0 ∷ 76800 ∷ 19200 ∷ 4 ∷ 16384 ∷ 7 ∷ 128 ∷ []) (0 ∷ 60380 ∷ 16 ∷ 2 ∷ 1 ∷ [])
     -- K3, K4, K5
-    ∷ case (withAgcount noOptions 5) (5 * 16395 * block) (refused 22)
-    ∷ case (withAgcount noOptions 5) (5 * 16396 * block) (0 ∷ 81980 ∷ 16396 ∷ 5 ∷ 16384 ∷ 7 ∷ 128 ∷ [])
-    ∷ case (withAgcount noOptions 5) (5 * 16397 * block) (0 ∷ 81985 ∷ 16397 ∷ 5 ∷ 16384 ∷ 7 ∷ 128 ∷ [])
+    ∷ refused (withAgcount noOptions 5) (5 * 16395 * block) 22
+    ∷ case (withAgcount noOptions 5) (5 * 16396 * block) (0 ∷ 81980 ∷ 16396 ∷ 5 ∷ 16384 ∷ 7 ∷ 128 ∷ []) (short 5)
+    ∷ case (withAgcount noOptions 5) (5 * 16397 * block) (0 ∷ 81985 ∷ 16397 ∷ 5 ∷ 16384 ∷ 7 ∷ 128 ∷ []) (0 ∷ 65558 ∷ 16 ∷ 2 ∷ 0 ∷ [])
     -- K6, K7
-    ∷ case (withAgsize noOptions (76800 * block)) (80896 * block) (0 ∷ 80896 ∷ 76800 ∷ 2 ∷ 16384 ∷ 7 ∷ 128 ∷ [])
-    ∷ case (withAgsize noOptions (76800 * block)) (80895 * block) (refused 23)
+    ∷ case (withAgsize noOptions (76800 * block)) (80896 * block) (0 ∷ 80896 ∷ 76800 ∷ 2 ∷ 16384 ∷ 7 ∷ 128 ∷ []) (short 0)
+    ∷ refused (withAgsize noOptions (76800 * block)) (80895 * block) 23
     -- K8
-    ∷ case (withAgsize noOptions (87000 * block)) (1024 * mib) (0 ∷ 261000 ∷ 87000 ∷ 3 ∷ 16384 ∷ 7 ∷ 128 ∷ [])
-    ∷ case (withAgcount (withAgsize noOptions (87000 * block)) 3) (1024 * mib) (refused 14)
+    ∷ case (withAgsize noOptions (87000 * block)) (1024 * mib) (0 ∷ 261000 ∷ 87000 ∷ 3 ∷ 16384 ∷ 7 ∷ 128 ∷ []) (0 ∷ 244587 ∷ 16 ∷ 2 ∷ 1 ∷ [])
+    ∷ refused (withAgcount (withAgsize noOptions (87000 * block)) 3) (1024 * mib) 14
     -- K9
-    ∷ case (withFeatures (withAgcount noOptions 20001) noRmapbt) (400000000 * block) (refused 24)
+    ∷ refused (withFeatures (withAgcount noOptions 20001) noRmapbt) (400000000 * block) 24
     -- K10
-    ∷ case (withSectorSize noOptions 4096) (1024 * mib) (0 ∷ 262144 ∷ 65536 ∷ 4 ∷ 16384 ∷ 10 ∷ 128 ∷ [])
+    ∷ case (withSectorSize noOptions 4096) (1024 * mib) (0 ∷ 262144 ∷ 65536 ∷ 4 ∷ 16384 ∷ 10 ∷ 128 ∷ []) (0 ∷ 245712 ∷ 16 ∷ 1 ∷ 1 ∷ [])
+    ∷ []
+
+-- ---- planlist's example
+
+-- a row's fields in the order of the table, without its number
+abbrev pub fields : Row → List ℕ
+fields r = r .group ∷ r .length ∷ r .log ∷ r .list ∷ r .chunk ∷ r .free ∷ r .longest ∷ []
+
+abbrev pub sums : Total → List ℕ
+sums t = t .length ∷ t .log ∷ t .list ∷ t .chunk ∷ t .free ∷ []
+
+-- the rows of groups k to k + n, one after the other, then the last line
+unfoldable pub rows : Geometry → ℕ → ℕ → List ℕ
+rows g k zero = sums (totalOf g)
+rows g k (suc n) = fields (rowOf g k) ++ rows g (k + 1) n
+
+unfoldable pub exampleRows : List ℕ
+exampleRows = rows (computeDef noOptions 1073741824 512 512 .geometry) 0 4
+
+unfoldable pub example : List ℕ
+example =
+    0 ∷ 65536 ∷ 0 ∷ 6 ∷ 8 ∷ 65515 ∷ 65512
+    ∷ 1 ∷ 65536 ∷ 0 ∷ 6 ∷ 0 ∷ 65523 ∷ 65523
+    ∷ 2 ∷ 65536 ∷ 16384 ∷ 6 ∷ 0 ∷ 49139 ∷ 49139
+    ∷ 3 ∷ 65536 ∷ 0 ∷ 6 ∷ 0 ∷ 65523 ∷ 65523
+    ∷ 262144 ∷ 16384 ∷ 24 ∷ 8 ∷ 245700
     ∷ []

@@ -90,15 +90,35 @@ impl Mode for Take {
     }
 
     fn answer(&self, case: &[u8], out: Out) -> io::Result<Told> {
-        let mut f = Fields(case);
-        let (start, len) = (f.u64(), f.u64());
-        let mut free = Vec::new();
-        while !f.0.is_empty() {
-            free.push(AllocRec { start: f.u32(), count: f.u32() });
-        }
+        let (free, start, len) = run_and_list(case);
         let (told, left) = taken(free, start, len);
         out.write_all(&numbered(told.number, &alloc_recs(&left)))?;
         Ok(told)
+    }
+
+    #[cfg(feature = "records")]
+    fn ours(&self, case: &[u8]) -> Option<Vec<u8>> {
+        let (free, start, len) = run_and_list(case);
+        let (number, left) = mkfs_xfs::ours::records::take(&free, start, len);
+        Some(numbered(number, &alloc_recs(&unless_refused(number, left, free))))
+    }
+}
+
+/// The free records, the start and the length of a case.
+fn run_and_list(case: &[u8]) -> (Vec<AllocRec>, u64, u64) {
+    let mut f = Fields(case);
+    let (start, len) = (f.u64(), f.u64());
+    let free = (0..f.0.len() / 8).map(|_| AllocRec { start: f.u32(), count: f.u32() }).collect();
+    (free, start, len)
+}
+
+/// The records left. Where the port refuses, it answers with none, and the list that it was given stays.
+#[cfg(feature = "records")]
+fn unless_refused<R>(number: u32, left: Vec<R>, before: Vec<R>) -> Vec<R> {
+    if number != 0 && left.is_empty() {
+        before
+    } else {
+        left
     }
 }
 
@@ -145,14 +165,26 @@ impl Mode for RmapInsert {
     }
 
     fn answer(&self, case: &[u8], out: Out) -> io::Result<Told> {
-        let mut f = Fields(case);
-        let mut next = || RmapRec { start: f.u32(), count: f.u32(), owner: f.u64() };
-        let rec = next();
-        let list: Vec<RmapRec> = (1..case.len() / 16).map(|_| next()).collect();
+        let (list, rec) = record_and_list(case);
         let (told, left) = inserted(list, rec);
         out.write_all(&numbered(told.number, &rmap_bytes(&left)))?;
         Ok(told)
     }
+
+    #[cfg(feature = "records")]
+    fn ours(&self, case: &[u8]) -> Option<Vec<u8>> {
+        let (list, rec) = record_and_list(case);
+        let (number, left) = mkfs_xfs::ours::records::rmap_insert(&list, rec);
+        Some(numbered(number, &rmap_bytes(&unless_refused(number, left, list))))
+    }
+}
+
+/// The list and the record to insert of a case.
+fn record_and_list(case: &[u8]) -> (Vec<RmapRec>, RmapRec) {
+    let mut f = Fields(case);
+    let mut next = || RmapRec { start: f.u32(), count: f.u32(), owner: f.u64() };
+    let rec = next();
+    ((1..case.len() / 16).map(|_| next()).collect(), rec)
 }
 
 /// A gap between two records of the list, filled whole or in part.

@@ -11,6 +11,7 @@ pub mod lists;
 pub mod log;
 pub mod places;
 pub mod plans;
+pub mod records;
 pub mod replayed;
 pub mod structs;
 pub mod writes;
@@ -89,6 +90,7 @@ pub fn named(name: &str) -> Option<Box<dyn Mode + Sync>> {
         "time" => Box::new(inodes::Time),
         "sf_dir" => Box::new(inodes::SfDir),
         "structs" => Box::new(replayed::Structs),
+        "records" => Box::new(records::Records),
         _ => return None,
     })
 }

@@ -52,7 +52,7 @@ pub fn encoded(out: Out, number: u32, buf: &[u8], encode: impl FnOnce(&mut [u8])
 }
 
 /// The port's answer: `encode` changes the buffer and gives the number.
-#[cfg(any(feature = "structs", feature = "sb"))]
+#[cfg(any(feature = "structs", feature = "sb", feature = "recs"))]
 pub fn port_encoded(buf: &[u8], encode: impl FnOnce(&mut [u8]) -> u32) -> Option<Vec<u8>> {
     let mut left = buf.to_vec();
     let number = encode(&mut left);
@@ -239,24 +239,34 @@ pub struct Recs;
 const REC_KINDS: [&str; 4] = ["alloc_recs", "inobt_recs", "inobt_recs sparse", "rmap_recs"];
 const REC_SIZES: [usize; 4] = [btree::ALLOC_REC, btree::INOBT_REC, btree::INOBT_REC, btree::RMAP_REC];
 
-fn rec_bytes(kind: usize, recs: &[Fields]) -> Vec<u8> {
-    let alloc = |f: &Fields| {
-        let mut f = Fields(f.0);
-        AllocRec { start: f.u32(), count: f.u32() }
-    };
-    let inobt = |f: &Fields| {
-        let mut f = Fields(f.0);
-        InobtRec { startino: f.u32(), holemask: f.u16(), count: f.u8(), freecount: f.u8(), free: f.u64() }
-    };
-    let rmap = |f: &Fields| {
-        let mut f = Fields(f.0);
-        RmapRec { start: f.u32(), count: f.u32(), owner: f.u64() }
-    };
+fn alloc(case: &[u8]) -> AllocRec {
+    let mut f = Fields(case);
+    AllocRec { start: f.u32(), count: f.u32() }
+}
+
+fn inobt(case: &[u8]) -> InobtRec {
+    let mut f = Fields(case);
+    InobtRec { startino: f.u32(), holemask: f.u16(), count: f.u8(), freecount: f.u8(), free: f.u64() }
+}
+
+fn rmap(case: &[u8]) -> RmapRec {
+    let mut f = Fields(case);
+    RmapRec { start: f.u32(), count: f.u32(), owner: f.u64() }
+}
+
+fn rec_bytes(kind: usize, recs: &[&[u8]]) -> Vec<u8> {
     match kind {
-        0 => btree::alloc_recs(&recs.iter().map(alloc).collect::<Vec<_>>()),
-        3 => btree::rmap_recs(&recs.iter().map(rmap).collect::<Vec<_>>()),
-        _ => btree::inobt_recs(&recs.iter().map(inobt).collect::<Vec<_>>(), kind == 2),
+        0 => btree::alloc_recs(&recs.iter().map(|r| alloc(r)).collect::<Vec<_>>()),
+        3 => btree::rmap_recs(&recs.iter().map(|r| rmap(r)).collect::<Vec<_>>()),
+        _ => btree::inobt_recs(&recs.iter().map(|r| inobt(r)).collect::<Vec<_>>(), kind == 2),
     }
+}
+
+/// The kind, the count, the records and the lent buffer of a case.
+fn recs_of(case: &[u8]) -> (usize, u64, [&[u8]; MOST], &[u8]) {
+    let mut f = Fields(case);
+    let (kind, count) = (usize::from(f.u8()) % 4, f.u64());
+    (kind, count, std::array::from_fn(|_| f.bytes(16)), f.rest())
 }
 
 impl Mode for Recs {
@@ -276,11 +286,7 @@ impl Mode for Recs {
     }
 
     fn answer(&self, case: &[u8], out: Out) -> io::Result<Told> {
-        let mut f = Fields(case);
-        let kind = usize::from(f.u8()) % 4;
-        let count = f.u64();
-        let recs: Vec<Fields> = (0..MOST).map(|_| Fields(f.bytes(16))).collect();
-        let buf = f.rest();
+        let (kind, count, recs, buf) = recs_of(case);
         let number = match () {
             _ if u128::from(count) * REC_SIZES[kind] as u128 != buf.len() as u128 => BAD_LENGTH,
             _ if count > MOST as u64 => TOO_MANY,
@@ -288,6 +294,18 @@ impl Mode for Recs {
         };
         let told = encoded(out, number, buf, |b| b.copy_from_slice(&rec_bytes(kind, &recs[..count as usize])))?;
         Ok(Told { kind: REC_KINDS[kind], ..told })
+    }
+
+    #[cfg(feature = "recs")]
+    fn ours(&self, case: &[u8]) -> Option<Vec<u8>> {
+        use mkfs_xfs::ours::recs::{alloc_recs, inobt_recs, rmap_recs};
+        let (kind, count, recs, buf) = recs_of(case);
+        let count = count as usize;
+        port_encoded(buf, |b| match kind {
+            0 => alloc_recs(&recs.map(alloc), count, b),
+            3 => rmap_recs(&recs.map(rmap), count, b),
+            _ => inobt_recs(&recs.map(inobt), count, kind == 2, b),
+        })
     }
 }
 

@@ -5,20 +5,15 @@ use Rattle.free.specs.Free.{bigger}
 use Rattle.free.proofs.picking.better_size.Statement.{statement}
 use Rattle.free.proofs.picking.better_size.Tie as tie
 
-is-larger-requires : tie.Need-is-larger-requires
-is-larger-requires c κs = search needs
+is-ahead-requires : tie.Need-is-ahead-requires
+is-ahead-requires c κs = search needs
+
+keep-requires : tie.Need-keep-requires
+keep-requires c κs = search needs
 
 returns : tie.Need-returns
 unfolding bigger
-returns c = rw (c .before .before .if1 .taken, ← c .before .is-larger .ensures, c .if2 .taken)
-
-returns-2 : tie.Need-returns-2
-unfolding bigger
-returns-2 c = rw (c .before .before .if1 .taken, ← c .before .is-larger .ensures, c .if2 .left)
-
-returns-3 : tie.Need-returns-3
-unfolding bigger
-returns-3 c = rw (c .if1 .left)
+returns c = rw (c .keep .ensures, c .before .is-ahead .ensures)
 
 pub better-size-spec : {M : Type 1} → statement M
-better-size-spec = tie.close (tie.spec is-larger-requires returns returns-2 returns-3)
+better-size-spec = tie.close (tie.spec is-ahead-requires keep-requires returns)

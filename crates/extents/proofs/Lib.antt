@@ -1,0 +1,4 @@
+pub mod Pick
+pub mod Take
+pub mod Join
+pub mod Insert

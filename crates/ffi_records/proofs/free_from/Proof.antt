@@ -1,0 +1,76 @@
+-- `ffi_records::free_from` meets its contract.
+-- Assumes nothing.
+use mathlib.Core.Path.{_≡_, refl, sym, ap, _∙_}
+use Prim.Native.Nat.{_-_, _≤_}
+use borrow.Author.Needs.{needs}
+use native.Mathlib.Omega.{arith}
+use Rattle.free.specs.Free.{zeroRec, toFree, packFree}
+use Rattle.ffi_records.specs.Parts.{rows, freeRow, freeFrom}
+use Rattle.ffi_records.proofs.Laws.{rows-push, rows-full}
+use Rattle.ffi_records.proofs.free_from.Statement.{statement}
+use Rattle.ffi_records.proofs.free_from.Tie as tie
+
+abbrev Inv-loop : tie.InvT-loop
+Inv-loop n starts counts list₀ i₀ list i = (i ≤ 64) × (list ≡ packFree (rows (freeRow starts counts) i))
+
+abbrev μ-loop : tie.MeasureT-loop
+μ-loop n starts counts list₀ i₀ list i = 64 - i
+
+empty-requires : tie.Need-empty-requires Inv-loop μ-loop
+empty-requires c κs = search needs
+
+loop-holds : tie.Need-loop-holds Inv-loop μ-loop
+unfolding rows
+loop-holds c = (omega arith, c .empty .ensures)
+
+mul-t11 : tie.Need-mul-t11 Inv-loop μ-loop
+mul-t11 c = search needs
+
+array-read-t14 : tie.Need-array-read-t14 Inv-loop μ-loop
+array-read-t14 c = search needs
+
+mul-t15 : tie.Need-mul-t15 Inv-loop μ-loop
+mul-t15 c = search needs
+
+array-read-t18 : tie.Need-array-read-t18 Inv-loop μ-loop
+array-read-t18 c = search needs
+
+push-requires : tie.Need-push-requires Inv-loop μ-loop
+push-requires c κs = search needs
+
+add-i : tie.Need-add-i Inv-loop μ-loop
+add-i c = search needs
+
+loop-less : tie.Need-loop-less Inv-loop μ-loop
+loop-less c = search needs
+
+loop-again : tie.Need-loop-again Inv-loop μ-loop
+loop-again c =
+    let s = c .before .before .before .before in
+    let l = c .before .before .loop in
+    (search needs, rw (c .push .ensures, l .inv .1) (ap toFree (rows-push (freeRow (s .args .t1) (s .args .t2)) zeroRec (l .i) (search needs))))
+
+returns : tie.Need-returns Inv-loop μ-loop
+unfolding freeFrom
+returns c =
+    let s = c .before .before .before .before in
+    let e : c .before .before .loop .i ≡ 64 = omega arith in
+    rw (c .before .before .loop .inv .1, e, rows-full (freeRow (s .args .t1) (s .args .t2)) zeroRec)
+
+pub free-from-spec : {M : Type 1} → statement M
+free-from-spec =
+    tie.close
+    (tie.spec
+    Inv-loop
+    μ-loop
+    empty-requires
+    loop-holds
+    mul-t11
+    array-read-t14
+    mul-t15
+    array-read-t18
+    push-requires
+    add-i
+    loop-less
+    loop-again
+    returns)

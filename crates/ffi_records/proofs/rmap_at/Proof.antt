@@ -1,0 +1,27 @@
+-- `ffi_records::rmap_at` meets its contract.
+-- Assumes nothing.
+use mathlib.Core.Path.{_≡_, sym}
+use borrow.Author.Needs.{needs}
+use native.Mathlib.Omega.{arith}
+use lib.ListN.{length, length-map, List·getD-eq-default}
+use Rattle.rmap.specs.Rmap.{zeroRec}
+use Rattle.ffi_records.proofs.rmap_at.Statement.{statement}
+use Rattle.ffi_records.proofs.rmap_at.Tie as tie
+
+mul-result : tie.Need-mul-result
+mul-result c = search needs
+
+element-copy-out-result : tie.Need-element-copy-out-result
+element-copy-out-result c = search needs
+
+returns : tie.Need-returns
+returns c = search needs
+
+returns-2 : tie.Need-returns-2
+returns-2 c =
+    let s = c .before in
+    let n : length (s .args .t1 .recs) ≡ 64 = simp length-map at (s .good .0 .1 .1 .0 .1 .0 .1) in
+    sym (List·getD-eq-default (s .args .t1 .recs) zeroRec (omega arith))
+
+pub rmap-at-spec : {M : Type 1} → statement M
+rmap-at-spec = tie.close (tie.spec mul-result element-copy-out-result returns returns-2)

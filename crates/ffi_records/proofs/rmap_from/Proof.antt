@@ -1,0 +1,84 @@
+-- `ffi_records::rmap_from` meets its contract.
+-- Assumes nothing.
+use mathlib.Core.Path.{_≡_, refl, sym, ap, _∙_}
+use Prim.Native.Nat.{_-_, _≤_}
+use borrow.Author.Needs.{needs}
+use native.Mathlib.Omega.{arith}
+use Rattle.rmap.specs.Rmap.{zeroRec, toRmap, packRmap}
+use Rattle.ffi_records.specs.Parts.{rows, rmapRow, rmapFrom}
+use Rattle.ffi_records.proofs.Laws.{rows-push, rows-full}
+use Rattle.ffi_records.proofs.rmap_from.Statement.{statement}
+use Rattle.ffi_records.proofs.rmap_from.Tie as tie
+
+abbrev Inv-loop : tie.InvT-loop
+Inv-loop n starts counts owners list₀ i₀ list i = (i ≤ 64) × (list ≡ packRmap (rows (rmapRow starts counts owners) i))
+
+abbrev μ-loop : tie.MeasureT-loop
+μ-loop n starts counts owners list₀ i₀ list i = 64 - i
+
+empty-requires : tie.Need-empty-requires Inv-loop μ-loop
+empty-requires c κs = search needs
+
+loop-holds : tie.Need-loop-holds Inv-loop μ-loop
+unfolding rows
+loop-holds c = (omega arith, c .empty .ensures)
+
+mul-t13 : tie.Need-mul-t13 Inv-loop μ-loop
+mul-t13 c = search needs
+
+array-read-t16 : tie.Need-array-read-t16 Inv-loop μ-loop
+array-read-t16 c = search needs
+
+mul-t17 : tie.Need-mul-t17 Inv-loop μ-loop
+mul-t17 c = search needs
+
+array-read-t20 : tie.Need-array-read-t20 Inv-loop μ-loop
+array-read-t20 c = search needs
+
+mul-t21 : tie.Need-mul-t21 Inv-loop μ-loop
+mul-t21 c = search needs
+
+array-read-t24 : tie.Need-array-read-t24 Inv-loop μ-loop
+array-read-t24 c = search needs
+
+push-requires : tie.Need-push-requires Inv-loop μ-loop
+push-requires c κs = search needs
+
+add-i : tie.Need-add-i Inv-loop μ-loop
+add-i c = search needs
+
+loop-less : tie.Need-loop-less Inv-loop μ-loop
+loop-less c = search needs
+
+loop-again : tie.Need-loop-again Inv-loop μ-loop
+loop-again c =
+    let s = c .before .before .before .before in
+    let l = c .before .before .loop in
+    (search needs, rw (c .push .ensures, l .inv .1) (ap toRmap (rows-push (rmapRow (s .args .t1) (s .args .t2) (s .args .t3)) zeroRec (l .i) (search needs))))
+
+returns : tie.Need-returns Inv-loop μ-loop
+unfolding rmapFrom
+returns c =
+    let s = c .before .before .before .before in
+    let e : c .before .before .loop .i ≡ 64 = omega arith in
+    rw (c .before .before .loop .inv .1, e, rows-full (rmapRow (s .args .t1) (s .args .t2) (s .args .t3)) zeroRec)
+
+pub rmap-from-spec : {M : Type 1} → statement M
+rmap-from-spec =
+    tie.close
+    (tie.spec
+    Inv-loop
+    μ-loop
+    empty-requires
+    loop-holds
+    mul-t13
+    array-read-t16
+    mul-t17
+    array-read-t20
+    mul-t21
+    array-read-t24
+    push-requires
+    add-i
+    loop-less
+    loop-again
+    returns)

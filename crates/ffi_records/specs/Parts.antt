@@ -1,0 +1,57 @@
+-- Lists from an array for each field, and the parts of an answer.
+-- Assumes nothing.
+use mathlib.Core.List.{List, [], _∷_, _++_}
+use Prim.Native.Nat.{ℕ, zero, suc}
+use lib.Dec.{eqb}
+use lib.ListN.{getD}
+use Rattle.seqs.specs.Lists.{choose}
+use Rattle.btree.specs.declared.records.AllocRec.{AllocRec}
+use Rattle.btree.specs.declared.records.RmapRec.{RmapRec}
+use Rattle.free.specs.declared.FreeList.{FreeList}
+use Rattle.free.specs.declared.Taken.{Taken}
+use Rattle.free.specs.Free.{zeroRec}
+use Rattle.rmap.specs.declared.RmapList.{RmapList}
+use Rattle.rmap.specs.declared.Inserted.{Inserted}
+use Rattle.rmap.specs.Rmap.{zeroRec as zeroRmap}
+
+-- f of each number below n
+unfoldable pub rows : {A : Type 0} → (ℕ → A) → ℕ → List A
+rows f zero = []
+rows f (suc n) = rows f n ++ (f n ∷ [])
+
+-- record i of arrays
+abbrev pub freeRow : List ℕ → List ℕ → ℕ → AllocRec
+freeRow starts counts i = record { start = getD starts i 0; count = getD counts i 0 }
+
+abbrev pub rmapRow : List ℕ → List ℕ → List ℕ → ℕ → RmapRec
+rmapRow starts counts owners i = record { start = getD starts i 0; count = getD counts i 0; owner = getD owners i 0 }
+
+-- the list of the first n records; n may be above 64
+unfoldable pub freeFrom : List ℕ → List ℕ → ℕ → FreeList
+freeFrom starts counts n = record { recs = rows (freeRow starts counts) 64; len = n }
+
+unfoldable pub rmapFrom : List ℕ → List ℕ → List ℕ → ℕ → RmapList
+rmapFrom starts counts owners n = record { recs = rows (rmapRow starts counts owners) 64; len = n }
+
+-- the record in slot k, zeros where there is none
+abbrev pub freeAt : FreeList → ℕ → AllocRec
+freeAt l k = getD (l .recs) k zeroRec
+
+abbrev pub rmapAt : RmapList → ℕ → RmapRec
+rmapAt l k = getD (l .recs) k zeroRmap
+
+-- part 0 is the number, 1 how many records there are, 2 to 4 are start, count and owner of a record
+unfoldable pub partOf : ℕ → ℕ → ℕ → ℕ → ℕ → ℕ → ℕ
+partOf part number len start count owner =
+    choose (eqb part 0) number
+    (choose (eqb part 1) len
+    (choose (eqb part 2) start
+    (choose (eqb part 3) count
+    (choose (eqb part 4) owner 0))))
+
+-- of an answer, and its record in slot k
+abbrev pub takenPart : ℕ → ℕ → Taken → ℕ
+takenPart part k t = partOf part (t .number) (t .list .len) (freeAt (t .list) k .start) (freeAt (t .list) k .count) 0
+
+abbrev pub insertedPart : ℕ → ℕ → Inserted → ℕ
+insertedPart part k t = partOf part (t .number) (t .list .len) (rmapAt (t .list) k .start) (rmapAt (t .list) k .count) (rmapAt (t .list) k .owner)

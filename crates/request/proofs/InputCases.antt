@@ -1,0 +1,30 @@
+-- The definition gives the table's numbers, and document 01's example its device; the longest input has 415 bytes.
+-- Assumes nothing.
+use mathlib.Core.Path.{_≡_, refl}
+use lib.Dec.{T}
+use lib.IntN.{pos}
+use lib.ListN.{length, replicate}
+use Rattle.endian.specs.Bytes.{beBytes, beAt}
+use Rattle.params.specs.Params.{noOptions}
+use Rattle.request.specs.Records.{optionBits, fits, recordAt, split, records, lookup, sound, startsWithDevice, wellFormed}
+use Rattle.request.specs.Options.{signed, featuresIn, labelAt, paramsOf}
+use Rattle.request.specs.Parse.{request, parseDef}
+use Rattle.request.specs.Defaults.{uuidOf, timeOf, seedOf}
+use Rattle.request.specs.Cases.{dv, op, lb, id, disk, full, all, cases}
+
+pub cases-hold : T (all cases)
+unfolding beBytes beAt optionBits fits recordAt split records lookup sound startsWithDevice wellFormed parseDef dv op lb id disk full cases
+cases-hold = tt
+
+pub example : parseDef disk ≡ request 0 noOptions 1_073_741_824 512 512
+unfolding beBytes beAt optionBits fits recordAt split records lookup sound startsWithDevice wellFormed signed featuresIn labelAt paramsOf parseDef dv disk
+example = refl
+
+pub full-length : length full ≡ 415
+unfolding beBytes dv op lb id disk full
+full-length = refl
+
+-- without options: zeros, 1970 and 0
+pub absent : (uuidOf noOptions ≡ replicate 16 0) × (timeOf noOptions ≡ record { secs = pos 0; nsecs = 0 }) × (seedOf noOptions ≡ 0)
+unfolding uuidOf timeOf seedOf
+absent = (refl, refl, refl)

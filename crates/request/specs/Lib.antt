@@ -1,0 +1,5 @@
+pub mod Records
+pub mod Options
+pub mod Parse
+pub mod Defaults
+pub mod Cases

@@ -1,0 +1,33 @@
+-- What the input asks for: options and device of a well-formed input, or 28.
+-- Assumes nothing.
+use mathlib.Core.List.{List}
+use mathlib.Core.Bool.{Bool, true, false}
+use Prim.Native.Nat.{ℕ}
+use Rattle.endian.specs.Bytes.{beAt}
+use Rattle.params.specs.Params.{noOptions}
+use Rattle.params.specs.declared.Params.{Params}
+use Rattle.request.specs.declared.Request.{Request}
+use Rattle.request.specs.Records.{wellFormed}
+use Rattle.request.specs.Options.{paramsOf}
+
+-- the refusal of malformed input records
+abbrev pub malformed : ℕ
+malformed = 28
+
+abbrev pub request : ℕ → Params → ℕ → ℕ → ℕ → Request
+request number params device logical physical = record { number = number; params = params; device = device; logical = logical; physical = physical }
+
+-- no option, and a device of zeros
+abbrev pub refusal : Request
+refusal = request malformed noOptions 0 0 0
+
+-- `DV` stands first: the device's size in 8 bytes, the logical and the physical sector in 4 each
+abbrev pub accepted : List ℕ → Request
+accepted xs = request 0 (paramsOf xs) (beAt 8 2 xs) (beAt 4 10 xs) (beAt 4 14 xs)
+
+abbrev pub answer : Bool → List ℕ → Request
+answer true xs = accepted xs
+answer false xs = refusal
+
+unfoldable pub parseDef : List ℕ → Request
+parseDef xs = answer (wellFormed xs) xs

@@ -1,0 +1,52 @@
+// The input records: which disk, and with which options.
+pub mod records; // the input as records, each with a key that may stand once
+pub mod options; // the options that the records give
+
+ghost use mathlib.Core.Path.{_≡_};
+ghost use Rattle.request.specs.Parse.{parseDef, refusal};
+use params::Params;
+
+// The refusal of malformed input records.
+pub const MALFORMED: u8 = 28;
+
+// The options and the device; `number` is 0, or 28 beside no options and zeros.
+pub struct Request {
+    pub number: u8,
+    pub params: Params,
+    pub device: u64, // bytes
+    pub logical: u32, // bytes of the logical sector
+    pub physical: u32,
+}
+
+fn malformed() -> Request
+    ensures { λ r. ⌜ r ≡ refusal ⌝ }
+{
+    let params = Params::new();
+    Request {
+        number: MALFORMED,
+        params,
+        device: 0,
+        logical: 0,
+        physical: 0,
+    }
+}
+
+// Reads the records of any input.
+pub fn parse(input: &[u8]) -> Request
+    ensures { λ r. ⌜ r ≡ parseDef (now (input .entry)) ⌝ }
+{
+    if !records::well_formed(input) {
+        return malformed();
+    }
+    let params = options::params_of(input);
+    let device = endian::be64(input, 2);
+    let logical = endian::be32(input, 10);
+    let physical = endian::be32(input, 14);
+    Request {
+        number: 0,
+        params,
+        device: device.value,
+        logical: logical.value,
+        physical: physical.value,
+    }
+}

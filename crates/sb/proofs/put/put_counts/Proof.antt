@@ -1,0 +1,34 @@
+-- `sb::put::put_counts` meets its contract.
+-- Assumes nothing.
+use borrow.Author.Needs.{needs}
+use Rattle.sb.specs.Numbers.{runOf}
+use Rattle.sb.proofs.Runs.{four-runs}
+use Rattle.sb.proofs.put.put_counts.Statement.{statement}
+use Rattle.sb.proofs.put.put_counts.Tie as tie
+
+put-run-requires : tie.Need-put-run-requires
+put-run-requires c κs = search needs
+
+put-run-requires-2 : tie.Need-put-run-requires-2
+put-run-requires-2 c κs = search needs
+
+put-run-requires-3 : tie.Need-put-run-requires-3
+put-run-requires-3 c κs = search needs
+
+put-run-requires-4 : tie.Need-put-run-requires-4
+put-run-requires-4 c κs = search needs
+
+same-length : tie.Need-same-length
+same-length c = search needs
+
+returns : tie.Need-returns
+returns c =
+    let a = c .before .before .before .before .before .before .before .before .before .before .before .before .before .before .before .before .before .before .args in
+    four-runs (runOf 100 2 4) (runOf 120 1 8) (runOf 128 8 6) (runOf 180 4 3) 14 (a .v .now) (a .sector .now) _ _ _ _
+    (c .before .before .before .before .before .before .before .before .before .before .before .before .before .before .put-run .ensures)
+    (c .before .before .before .before .before .before .before .before .before .before .put-run2 .ensures)
+    (c .before .before .before .before .before .before .put-run3 .ensures)
+    (c .before .before .put-run4 .ensures)
+
+pub put-counts-spec : {M : Type 1} → statement M
+put-counts-spec = tie.close (tie.spec put-run-requires put-run-requires-2 put-run-requires-3 put-run-requires-4 same-length returns)

@@ -1,0 +1,4 @@
+pub mod Parts
+pub mod Owned
+pub mod Sorted
+pub mod OneUse
