@@ -1,17 +1,14 @@
 // A run: what the input records ask for, accepted where its geometry, all its plans and its time are.
 ghost use mathlib.Core.Path.{_≡_};
-ghost use Rattle.params.specs.Options.{or64};
-ghost use Rattle.request.specs.Defaults.{orZeros, orEpoch};
 ghost use Rattle.totals.specs.Totals.{plansNumber};
 ghost use Rattle.run.specs.Runs.{orNext, timeRefusal, noRun, runOf, accepted};
 use geometry::Geometry;
 use inode::time::encode_time;
-use params::OptTime;
-use params::OptU64;
-use params::OptUuid;
-use params::Presence;
 use params::Timestamp;
 use request::Request;
+use request::defaults::seed_or_zero;
+use request::defaults::time_or_zero;
+use request::defaults::uuid_or_zeros;
 use request::parse;
 use summary::plans_number;
 
@@ -22,34 +19,6 @@ pub struct Run {
     pub uuid: [u8; 16],
     pub time: Timestamp,
     pub seed: u64, // of the inode generations
-}
-
-fn uuid_of(u: OptUuid) -> [u8; 16]
-    ensures { λ r. ⌜ r ≡ orZeros (u .presence) (u .bytes) ⌝ }
-{
-    let given = u.presence;
-    match given {
-        Presence::Given => u.bytes,
-        Presence::Absent => [0u8; 16],
-    }
-}
-
-fn time_of(t: OptTime) -> Timestamp
-    ensures { λ r. ⌜ r ≡ orEpoch t ⌝ }
-{
-    match t {
-        OptTime::Given(time) => time,
-        OptTime::Absent => Timestamp { secs: 0, nsecs: 0 },
-    }
-}
-
-fn seed_of(s: OptU64) -> u64
-    ensures { λ r. ⌜ r ≡ or64 s 0 ⌝ }
-{
-    match s {
-        OptU64::Given(n) => n,
-        OptU64::Absent => 0,
-    }
 }
 
 // 26 where the geometry's inodes can't store the time.
@@ -100,16 +69,13 @@ pub fn run_of(r: Request) -> Run
     let p = r.params;
     let c = Geometry::compute(p, r.device, r.logical, r.physical);
     let geometry = c.geometry;
-    let asked = p.time;
-    let time = time_of(asked);
+    let time = time_or_zero(p);
     let n = number_of(r.number, c.number, geometry, time);
     if n != 0 {
         return refused(n);
     }
-    let id = p.uuid;
-    let uuid = uuid_of(id);
-    let start = p.gen_seed;
-    let seed = seed_of(start);
+    let uuid = uuid_or_zeros(p);
+    let seed = seed_or_zero(p);
     Run {
         number: 0,
         geometry,
