@@ -1,0 +1,1 @@
+// Theorems on the bytes of a head; no functions.
