@@ -15,7 +15,7 @@ use Rattle.params.specs.declared.Features.{Features}
 use Rattle.geometry.specs.declared.Geometry.{Geometry}
 use Rattle.geometry.specs.Log.{headerOf, preallocOf}
 use Rattle.answers.specs.Named.{isAnswer}
-use Rattle.layout.specs.Places.{ibtBlock, rmapBlock, refcBlock, freelistOf, chunkOf, rootChunkOf, groupBlocks}
+use Rattle.layout.specs.Places.{ibtBlock, rmapBlock, refcBlock, freelistOf, chunkOf, groupBlocks}
 use Rattle.layout.specs.Bounds.{SizeBounds, GroupBounds, Bounds}
 use Rattle.layout.proofs.Bounding.{answer-bounds}
 use Rattle.layout.proofs.Ceil.{counted, one-more}
@@ -25,7 +25,7 @@ use Rattle.counts.specs.declared.Value64.the-variants.{Refused, Of}
 use Rattle.places.specs.Answers.{unless64, groupRefusal, agBlocks}
 use Rattle.places.proofs.Refused.{a-group}
 use Rattle.site.specs.declared.Sited.{Sited}
-use Rattle.site.specs.Sites.{value64, siteOf, noSite, sited, Sound}
+use Rattle.site.specs.Sites.{value64, siteOf, noSite, sited, Narrow, Sound}
 
 -- 16 MiB are at least 1024 blocks, 64 MiB at least one
 blocks-least : (a b : ℕ) → b ≤ 2 ^ 14 → 2 ^ 24 ≤ a * b → 1024 ≤ a
@@ -117,19 +117,7 @@ bounds-sound g k b =
 pub site-sound : (g : Geometry) (k : ℕ) → length (g .label) ≡ 12 → isAnswer g ≡ true → Sound (siteOf g k)
 site-sound g k l h = bounds-sound g k (answer-bounds g l h)
 
--- no number of the site passes 32 bits
-pub record Narrow (g : Geometry) (k : ℕ) : Type 0 where
-  pub header : headerOf (g .sectsize) (g .blocksize) ≤ 4
-  pub length : groupBlocks (g .dblocks) (g .agsize) (g .agcount) k < 2 ^ 32
-  pub head : preallocOf (g .features) (g .sectsize) (g .blocksize) < 2 ^ 32
-  pub list : freelistOf (g .features) < 2 ^ 32
-  pub log-at : g .«log_agbno» < 2 ^ 32
-  pub log-blocks : g .logblocks < 2 ^ 32
-  pub chunk-at : rootChunkOf (g .features) (g .sectsize) (g .inodesize) (g .blocksize) < 2 ^ 32
-  pub chunk-blocks : chunkOf (g .inodesize) (g .blocksize) < 2 ^ 32
-  pub finobt : bit (g .features .finobt) ≤ 1
-  pub rmapbt : bit (g .features .rmapbt) ≤ 1
-
+-- no number of an answer's site passes 32 bits
 pub narrow : (g : Geometry) (k : ℕ) → length (g .label) ≡ 12 → isAnswer g ≡ true → Narrow g k
 narrow g k l h =
     let b = answer-bounds g l h in

@@ -65,6 +65,19 @@ sited g agno =
     cond (eqb (groupRefusal g agno) 0) (record { number = 0; site = siteOf g agno })
     (record { number = groupRefusal g agno; site = noSite })
 
+-- no number of the site passes 32 bits
+pub record Narrow (g : Geometry) (k : ℕ) : Type 0 where
+  pub header : headerOf (g .sectsize) (g .blocksize) ≤ 4
+  pub length : groupBlocks (g .dblocks) (g .agsize) (g .agcount) k < 2 ^ 32
+  pub head : preallocOf (g .features) (g .sectsize) (g .blocksize) < 2 ^ 32
+  pub list : freelistOf (g .features) < 2 ^ 32
+  pub log-at : g .«log_agbno» < 2 ^ 32
+  pub log-blocks : g .logblocks < 2 ^ 32
+  pub chunk-at : rootChunkOf (g .features) (g .sectsize) (g .inodesize) (g .blocksize) < 2 ^ 32
+  pub chunk-blocks : chunkOf (g .inodesize) (g .blocksize) < 2 ^ 32
+  pub finobt : bit (g .features .finobt) ≤ 1
+  pub rmapbt : bit (g .features .rmapbt) ≤ 1
+
 -- what holds of the site of every group of an answer
 pub record Sound (s : Site) : Type 0 where
   pub length-least : 1024 ≤ s .length

@@ -7,7 +7,7 @@ ghost use Rattle.geometry.specs.Log.{headerOf, preallocOf};
 ghost use Rattle.layout.specs.Places.{groupBlocks, rmapBlock, refcBlock, freelistOf, chunkOf, rootChunkOf};
 ghost use Rattle.answers.specs.Named.{isAnswer};
 ghost use Rattle.counts.specs.Known.{number64};
-ghost use Rattle.site.specs.Sites.{value64, siteOf, noSite, sited};
+ghost use Rattle.site.specs.Sites.{value64, siteOf, noSite, sited, Narrow};
 use arith::choice::bit_of;
 use counts::Value64;
 use counts::head::freelist_of;
@@ -75,9 +75,9 @@ fn refused(n: u8) -> Sited
     Sited { number: n, site }
 }
 
-// The site of group agno, which has `length` blocks.
+// The site of group agno, which has `length` blocks; all its numbers fit in 32 bits.
 fn site_with(g: Geometry, agno: u64, length: u64) -> Site
-    requires { ⌜ (isAnswer g ≡ true) × (agno < g .agcount) × (length ≡ groupBlocks (g .dblocks) (g .agsize) (g .agcount) agno) ⌝ }
+    requires { ⌜ (Narrow g agno) × (length ≡ groupBlocks (g .dblocks) (g .agsize) (g .agcount) agno) ⌝ }
     ensures { λ r. ⌜ r ≡ siteOf g agno ⌝ }
 {
     let f = g.features;
