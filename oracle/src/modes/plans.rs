@@ -151,6 +151,11 @@ impl Mode for Plans {
         Some(out)
     }
 
+    fn replayed(&self, case: &[u8]) -> Option<Vec<u8>> {
+        let (choice, input) = case.split_at_checked(8)?;
+        Some([choice, &(input.len() as u32).to_be_bytes(), input].concat())
+    }
+
     fn show_case(&self, case: &[u8]) -> String {
         format!("{} {:?}", super::hex(case), case.get(8..).map(Request::parse))
     }
