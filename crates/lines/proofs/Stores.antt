@@ -10,7 +10,7 @@ use Rattle.endian.specs.Bytes.{patch}
 use Rattle.endian.proofs.Laws.{patch-append, drop-turn}
 use Rattle.lines.specs.Decimal.{digit, decimal}
 use Rattle.lines.specs.Lines.{behind, line}
-use Rattle.lines.proofs.Digits.{decimal-small, decimal-more, length-small, length-more}
+use Rattle.lines.proofs.Digits.{decimal-small, decimal-more, length-more}
 
 patch-one : (at b : ℕ) (xs : List ℕ) → patch at (b ∷ []) xs ≡ set xs at b
 unfolding patch

@@ -1,15 +1,15 @@
 -- Bytes copied one by one into an array of zeros; an option's case.
 -- Assumes nothing.
 use mathlib.Core.Path.{_≡_, refl, sym, ap, _∙_}
-use mathlib.Core.List.{List, [], _∷_, _++_, append-nil}
-use Prim.Native.Nat.{ℕ, suc, _+_, _-_, _≤_, _<_, min}
+use mathlib.Core.List.{List, _++_, append-nil}
+use Prim.Native.Nat.{ℕ, suc, _+_, _-_, _<_, min}
 use native.Mathlib.Omega.{arith}
 use native.Mathlib.Numerals.{add-one}
 use lib.ListN.{length, getD, set, take, drop, replicate, length-drop}
 use lib.Seq.{take-suc, append-snoc, set-at, length-take-le, getD-drop}
 use Rattle.endian.specs.Fields.{part}
 use Rattle.params.specs.declared.OptU64.{OptU64}
-use Rattle.params.specs.declared.OptU64.the-variants.{Absent, Given}
+use Rattle.params.specs.declared.OptU64.the-variants.{Given}
 use Rattle.params.specs.declared.Label.{Label}
 use Rattle.request.specs.Options.{holds, labelAt}
 

@@ -1,19 +1,18 @@
 -- Which numbers fit an option's type: the tests that the code makes.
 -- Assumes nothing.
-use mathlib.Core.Path.{_≡_, refl, sym, _∙_}
-use mathlib.Core.Bool.{Bool, true, false, _&&_, _||_}
-use Prim.Native.Nat.{ℕ, _+_, _-_, _*_, _/_, _^_, _≤_, _<_}
+use mathlib.Core.Path.{_≡_, refl, sym}
+use mathlib.Core.Bool.{Bool, true, false}
+use Prim.Native.Nat.{ℕ, _-_, _/_, _^_, _≤_, _<_}
 use native.Mathlib.Omega.{arith}
 use native.Mathlib.Nat.{div-eq-of-lt, div-add-mod', mod-lt}
 use lib.Dec.{ltb, eqb}
 use lib.Pow.{pow-mono}
-use lib.ListN.{getD, List·getD-eq-default}
+use lib.ListN.{length, getD, List·getD-eq-default}
 use borrow.Author.Tests.{lt-ltb, le-ltb, eq-eqb, ltb-true, ltb-false, ne-eqb}
 use Rattle.request.specs.Records.{optionBits, fits, known}
 
 -- a code past the table is no option's
-pub no-code : (code : ℕ) → 12 ≤ code → 0 ≡ getD optionBits code 0
-unfolding optionBits
+pub no-code : (code : ℕ) → length optionBits ≤ code → 0 ≡ getD optionBits code 0
 no-code code h = sym (List·getD-eq-default optionBits 0 h)
 
 module _ (code n b : ℕ) (is : b ≡ getD optionBits code 0) where

@@ -1,19 +1,17 @@
 -- A well-formed input has at most 415 bytes: each key stands once, and its record has a greatest length.
 -- Assumes nothing.
 use mathlib.Core.Path.{_≡_, refl, sym, ap, _∙_}
-use mathlib.Core.Logic.{_≢_}
 use mathlib.Core.Bool.{Bool, true, false, not, _&&_}
 use mathlib.Core.List.{List, [], _∷_, map}
-use Prim.Native.Nat.{ℕ, zero, suc, _+_, _-_, _^_, _≤_, _<_}
+use Prim.Native.Nat.{ℕ, zero, suc, _+_, _-_, _≤_, _<_}
 use native.Mathlib.Omega.{arith}
 use lib.Dec.{ltb, eqb}
 use lib.ListN.{length, getD, set, List·getD-map}
 use lib.Seq.{getD-set-other}
-use borrow.Author.Tests.{eqb-true, eqb-false, ltb-true, ltb-false, le-ltb, not-true}
+use borrow.Author.Tests.{eqb-false, ltb-true, ltb-false, le-ltb, not-true}
 use Rattle.params.specs.Options.{given64}
-use Rattle.params.specs.declared.OptU64.{OptU64}
 use Rattle.request.specs.declared.records.Record.{Record}
-use Rattle.request.specs.Records.{device, label, uuid, option, entry, none, optionBits, fits, known, more, recordAt, split, records, found, lookup, sound, startsWithDevice, wellFormed}
+use Rattle.request.specs.Records.{option, optionBits, fits, known, more, recordAt, split, records, found, lookup, sound, startsWithDevice, wellFormed}
 use Rattle.request.proofs.Marks.{record-all, record-ends}
 use Rattle.request.proofs.Values.{first, other, never}
 

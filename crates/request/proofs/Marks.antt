@@ -1,6 +1,6 @@
 -- The record at an offset, by its mark.
 -- Assumes nothing.
-use mathlib.Core.Path.{_≡_, refl, sym, ap, _∙_}
+use mathlib.Core.Path.{_≡_, refl}
 use mathlib.Core.Bool.{Bool, true, false}
 use mathlib.Core.List.{List}
 use Prim.Native.Nat.{ℕ, _+_, _≤_, _<_}
@@ -10,7 +10,7 @@ use lib.ListN.{length, getD}
 use borrow.Author.Tests.{le-leb, lt-leb, eq-eqb, ne-eqb, leb-true}
 use Rattle.endian.specs.Bytes.{beAt}
 use Rattle.request.specs.declared.records.Record.{Record}
-use Rattle.request.specs.Records.{device, label, uuid, option, entry, choose, none, whole, byMark, recordAt}
+use Rattle.request.specs.Records.{device, label, uuid, option, entry, choose, none, whole, recordAt}
 
 -- ---- a record of a known length
 module _ (len key value next : ℕ) where

@@ -3,16 +3,15 @@
 use mathlib.Core.Path.{_≡_, refl, sym, ap, _∙_}
 use mathlib.Core.Bool.{Bool, true, false}
 use mathlib.Core.List.{List, [], _∷_}
-use Prim.Native.Nat.{ℕ, zero, suc, _+_, _-_, _≤_, _<_}
+use Prim.Native.Nat.{ℕ, zero, suc, _-_, _≤_, _<_}
 use native.Mathlib.Omega.{arith}
 use lib.Dec.{ltb}
 use lib.ListN.{length}
-use borrow.Author.Tests.{lt-ltb, le-ltb, eq-eqb, ne-eqb, ltb-true, ltb-false}
+use borrow.Author.Tests.{lt-ltb, le-ltb, eq-eqb, ne-eqb, ltb-true}
 use Rattle.params.specs.Options.{given64}
-use Rattle.params.specs.declared.OptU64.{OptU64}
 use Rattle.params.specs.declared.OptU64.the-variants.{Absent, Given}
 use Rattle.request.specs.declared.records.Record.{Record}
-use Rattle.request.specs.Records.{known, more, recordAt, split, records, found, lookup, sound, startsWithDevice, wellFormed}
+use Rattle.request.specs.Records.{known, more, recordAt, split, records, lookup, sound, startsWithDevice, wellFormed}
 use Rattle.request.proofs.Marks.{record-ends}
 
 same-more : (t : Bool) (r : Record) (rs ss : List Record) → (t ≡ true → rs ≡ ss) → more t r rs ≡ more t r ss

@@ -12,10 +12,12 @@ use Rattle.params.specs.declared.Timestamp.{Timestamp}
 use Rattle.params.specs.declared.Params.{Params}
 use Rattle.params.specs.Options.{or64}
 
+-- the bytes where they are given
 abbrev pub orZeros : Presence → List ℕ → List ℕ
 orZeros Yes bytes = bytes
 orZeros No bytes = replicate 16 0
 
+-- the time where it is given, else 0 s after the epoch
 abbrev pub orEpoch : OptTime → Timestamp
 orEpoch (Given t) = t
 orEpoch Absent = record { secs = pos 0; nsecs = 0 }

@@ -22,7 +22,7 @@ use Rattle.params.specs.declared.Features.{Features}
 use Rattle.params.specs.declared.Params.{Params}
 use Rattle.params.specs.Params.{allFeatures, options, noLabel, noUuid}
 use Rattle.request.specs.declared.records.Record.{Record}
-use Rattle.request.specs.Records.{device, label, uuid, option, lookup, records}
+use Rattle.request.specs.Records.{label, uuid, option, lookup, records}
 
 -- what holds of an option's number, if it is given
 abbrev pub holds : (ℕ → Type 0) → OptU64 → Type 0

@@ -1,6 +1,7 @@
 // The input records: which disk, and with which options.
 pub mod records; // the input as records, each with a key that may stand once
 pub mod options; // the options that the records give
+pub mod defaults; // what stands for an absent UUID, time and seed
 
 ghost use mathlib.Core.Path.{_≡_};
 ghost use Rattle.request.specs.Parse.{parseDef, refusal};

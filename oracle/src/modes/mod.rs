@@ -14,6 +14,7 @@ pub mod places;
 pub mod plans;
 pub mod records;
 pub mod replayed;
+pub mod requests;
 pub mod structs;
 pub mod writes;
 
@@ -74,6 +75,7 @@ pub fn named(name: &str) -> Option<Box<dyn Mode + Sync>> {
         "geometry" => Box::new(geometry::Geometries),
         "places" => Box::new(places::Places),
         "helpers" => Box::new(places::Helpers),
+        "request" => Box::new(requests::Requests),
         "plans" => Box::new(plans::Plans),
         "planlist" => Box::new(plans::Planlist),
         "writelist" => Box::new(writes::Writelist),

@@ -13,7 +13,8 @@ unfolding optionBits
 returns c = refl
 
 returns-2 : tie.Need-returns-2
-returns-2 c = no-code _ (omega arith)
+unfolding optionBits
+returns-2 c = no-code (c .before .args .code) (omega arith)
 
 pub option-bits-spec : {M : Type 1} → statement M
 option-bits-spec =

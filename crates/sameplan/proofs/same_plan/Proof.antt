@@ -1,0 +1,18 @@
+-- `sameplan::same_plan` meets its contract.
+-- Assumes nothing.
+use Rattle.sameplan.specs.Same.{samePlan}
+use borrow.Author.Needs.{needs}
+use Rattle.sameplan.proofs.same_plan.Statement.{statement}
+use Rattle.sameplan.proofs.same_plan.Tie as tie
+
+returns : tie.Need-returns
+unfolding samePlan
+returns c = cc
+
+pub same-plan-spec : {M : Type 1} → statement M
+same-plan-spec =
+    tie.close
+    (tie.spec
+    (λ c κs. search needs) (λ c κs. search needs) (λ c κs. search needs) (λ c κs. search needs)
+    (λ c κs. search needs) (λ c κs. search needs) (λ c κs. search needs) (λ c κs. search needs)
+    (λ c κs. search needs) returns)
