@@ -761,3 +761,42 @@ pub mod records {
         (part(NUMBER, 0) as u32, (0..part(LEN, 0) as usize).map(rec).collect())
     }
 }
+
+/// Crate `ffi_plans`: the planner, asked by the input records of a geometry.
+#[cfg(feature = "plans")]
+pub mod plans {
+    use crate::format::AgPlan;
+    use crate::structs::btree::{AllocRec, RmapRec};
+
+    extern "C" {
+        fn zq_step(which: u64, input: *const u8, len: usize) -> u64;
+        fn zq_plan(which: u64, agno: u64, input: *const u8, len: usize) -> u64;
+        fn zq_plan_record(which: u64, k: usize, agno: u64, input: *const u8, len: usize) -> u64;
+    }
+
+    /// The number of the geometry step, the groups and the log's group.
+    pub fn step(input: &[u8]) -> [u64; 3] {
+        [0, 1, 2].map(|which| unsafe { zq_step(which, input.as_ptr(), input.len()) })
+    }
+
+    /// The plan of a group with its `freeblks` and `longest`, or the number of its refusal.
+    pub fn plan(input: &[u8], agno: u64) -> Result<(AgPlan, u64, u64), u64> {
+        let number = |which| unsafe { zq_plan(which, agno, input.as_ptr(), input.len()) };
+        let part = |which, k| unsafe { zq_plan_record(which, k, agno, input.as_ptr(), input.len()) };
+        if number(0) != 0 {
+            return Err(number(0));
+        }
+        let listed = |which| 0..number(which) as usize;
+        let plan = AgPlan {
+            agno: number(1),
+            length: number(2),
+            free: listed(3).map(|k| AllocRec { start: part(0, k) as u32, count: part(1, k) as u32 }).collect(),
+            agfl: listed(4).map(|k| part(2, k) as u32).collect(),
+            rmap: listed(5)
+                .map(|k| RmapRec { start: part(3, k) as u32, count: part(4, k) as u32, owner: part(5, k) })
+                .collect(),
+            chunk: (number(6) == 1).then(|| number(7)),
+        };
+        Ok((plan, number(8), number(9)))
+    }
+}

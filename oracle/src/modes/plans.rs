@@ -75,7 +75,8 @@ pub fn bounded(r: &mut Random, groups: u64, malformed: bool) -> Vec<u8> {
 /// chunk, each with its count before it, freeblks and longest.
 pub struct Plans;
 
-fn plan_line(out: Out, p: &AgPlan) -> io::Result<()> {
+/// The plan in the order of its fields; `freeblks` and `longest` are the side's own.
+fn plan_line(out: Out, p: &AgPlan, freeblks: u64, longest: u64) -> io::Result<()> {
     write!(out, "0 {} {} {}", p.agno, p.length, p.free.len())?;
     for r in &p.free {
         write!(out, " {} {}", r.start, r.count)?;
@@ -92,14 +93,20 @@ fn plan_line(out: Out, p: &AgPlan) -> io::Result<()> {
         Some(c) => write!(out, " 1 {c}")?,
         None => write!(out, " 0")?,
     }
-    writeln!(out, " {} {}", p.freeblks(), p.longest())
+    writeln!(out, " {freeblks} {longest}")
+}
+
+/// The groups that are planned.
+fn groups(agcount: u64, logagno: u64, choice: u64) -> [u64; 4] {
+    [0, logagno, agcount - 1, choice % agcount]
 }
 
 impl Mode for Plans {
     fn case(&self, r: &mut Random) -> Vec<u8> {
         let changes = r.below(3);
         let q = if r.one_in(2) { wishes::request(r, changes) } else { wishes::small(r, changes, 1000) };
-        [&r.next().to_be_bytes()[..], &q.encode()].concat()
+        let input = if r.one_in(8) { wishes::records(r, &q) } else { q.encode() };
+        [&r.next().to_be_bytes()[..], &input].concat()
     }
 
     fn answer(&self, case: &[u8], out: Out) -> io::Result<Told> {
@@ -114,9 +121,9 @@ impl Mode for Plans {
         let Some(g) = answer else {
             return Ok(told);
         };
-        for agno in [0, g.logagno, g.agcount - 1, choice % g.agcount] {
+        for agno in groups(g.agcount, g.logagno, choice) {
             match plan(&g, agno) {
-                Ok(p) => plan_line(out, &p)?,
+                Ok(p) => plan_line(out, &p, p.freeblks(), p.longest())?,
                 Err(number) => {
                     writeln!(out, "{number}")?;
                     told.number = number;
@@ -124,6 +131,29 @@ impl Mode for Plans {
             }
         }
         Ok(told)
+    }
+
+    #[cfg(feature = "plans")]
+    fn ours(&self, case: &[u8]) -> Option<Vec<u8>> {
+        use mkfs_xfs::ours::plans::{plan, step};
+        let mut f = Fields(case);
+        let (choice, input) = (f.u64(), f.rest());
+        let [number, agcount, logagno] = step(input);
+        let mut out = format!("{number}\n").into_bytes();
+        if number == 0 {
+            for agno in groups(agcount, logagno, choice) {
+                match plan(input, agno) {
+                    Ok((p, freeblks, longest)) => plan_line(&mut out, &p, freeblks, longest).ok()?,
+                    Err(number) => out.extend(format!("{number}\n").bytes()),
+                }
+            }
+        }
+        Some(out)
+    }
+
+    fn replayed(&self, case: &[u8]) -> Option<Vec<u8>> {
+        let (choice, input) = case.split_at_checked(8)?;
+        Some([choice, &(input.len() as u32).to_be_bytes(), input].concat())
     }
 
     fn show_case(&self, case: &[u8]) -> String {
