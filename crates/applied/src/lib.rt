@@ -1,6 +1,7 @@
 // The written records, read back: the head of each, and how much of its bytes has been seen. A list is read in parts, so an answer
 // also says that more bytes are needed.
 ghost use mathlib.Core.Path.{_≡_};
+ghost use Prim.Native.Nat.{_≤_};
 ghost use Rattle.applied.specs.Records.{cut, refused, write, decodeDef, bodyDef};
 
 // The refusal of malformed records.
@@ -117,7 +118,7 @@ pub fn decode(bytes: &[u8], last: bool) -> Decoded
 
 // Of `len` bytes that a record still has, those among the `have` bytes that are here; `last` where the list ends with them.
 pub fn body(len: u64, have: usize, last: bool) -> Piece
-    ensures { λ r. ⌜ r ≡ bodyDef last len have ⌝ }
+    ensures { λ r. ⌜ (r ≡ bodyDef last len have) × (r .here ≤ have) ⌝ }
 {
     if len <= have as u64 {
         return Piece {
