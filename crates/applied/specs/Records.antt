@@ -1,0 +1,120 @@
+-- A list of written records, read from its start: the head of a record, by its mark, and the bytes behind it.
+-- Assumes nothing.
+use mathlib.Core.List.{List, [], _∷_, _++_}
+use mathlib.Core.Bool.{Bool, true, false}
+use Prim.Native.Nat.{ℕ, _-_, _^_, _<_}
+use lib.Dec.{leb, eqb}
+use lib.ListN.{length}
+use Rattle.endian.specs.Bytes.{beAt, beBytes}
+use Rattle.applied.specs.declared.Decoded.{Decoded}
+use Rattle.applied.specs.declared.Piece.{Piece}
+
+-- ---- marks and kinds
+
+-- `FL`, `WZ`, `WB`
+abbrev pub FL : ℕ
+FL = 0x464c
+
+abbrev pub WZ : ℕ
+WZ = 0x575a
+
+abbrev pub WB : ℕ
+WB = 0x5742
+
+-- what a record asks for
+abbrev pub flush : ℕ
+flush = 1
+
+abbrev pub zeros : ℕ
+zeros = 2
+
+abbrev pub bytes : ℕ
+bytes = 3
+
+-- ---- a head
+
+-- a head with its kind, the offset and length of the write, and its own size
+abbrev pub head : ℕ → ℕ → ℕ → ℕ → Decoded
+head kind at len size = record { number = 0; kind = kind; at = at; len = len; size = size }
+
+-- no head yet: more bytes are needed
+abbrev pub more : Decoded
+more = head 0 0 0 0
+
+abbrev pub refused : Decoded
+refused = record { number = 28; kind = 0; at = 0; len = 0; size = 0 }
+
+abbrev pub choose : Bool → Decoded → Decoded → Decoded
+choose true r s = r
+choose false r s = s
+
+-- too few bytes for a head: malformed where the list ends with them
+abbrev pub cut : Bool → Decoded
+cut last = choose last refused more
+
+-- a write's head: the mark, the offset and the length in 8 bytes each
+unfoldable pub write : Bool → ℕ → List ℕ → Decoded
+write last kind xs = choose (leb 18 (length xs)) (head kind (beAt 8 2 xs) (beAt 8 10 xs) 18) (cut last)
+
+-- by the mark; an unknown one is malformed
+abbrev pub byMark : ℕ → Bool → List ℕ → Decoded
+byMark mark last xs =
+    choose (eqb mark FL) (head flush 0 0 2)
+    (choose (eqb mark WZ) (write last zeros xs)
+    (choose (eqb mark WB) (write last bytes xs) refused))
+
+-- The head that the bytes begin with; `last` where the list ends with them.
+unfoldable pub decodeDef : Bool → List ℕ → Decoded
+decodeDef last xs = choose (leb 2 (length xs)) (byMark (beAt 2 0 xs) last xs) (cut last)
+
+-- ---- the bytes behind a head
+
+-- `here` bytes of the record stand here, `left` are still to come
+abbrev pub part : ℕ → ℕ → Piece
+part here left = record { number = 0; here = here; left = left }
+
+abbrev pub noBody : Piece
+noBody = record { number = 28; here = 0; left = 0 }
+
+abbrev pub pick : Bool → Piece → Piece → Piece
+pick true r s = r
+pick false r s = s
+
+-- The `len` bytes that a record still has, where `have` bytes are here: all of them, or as many as there are; malformed where the list
+-- ends before they do.
+unfoldable pub bodyDef : Bool → ℕ → ℕ → Piece
+bodyDef last len have = pick (leb len have) (part len 0) (pick last noBody (part have (len - have)))
+
+-- ---- as they are written
+
+-- a written record; the length of a `WB` is that of its bytes
+pub data Written : Type 0 where
+  Flush : Written
+  Zeros : ℕ → ℕ → Written
+  Bytes : ℕ → List ℕ → Written
+
+-- the mark, the offset and the length, before the rest of the list
+abbrev pub headBytes : ℕ → ℕ → ℕ → List ℕ → List ℕ
+headBytes mark at len rest = beBytes 2 mark ++ (beBytes 8 at ++ (beBytes 8 len ++ rest))
+
+-- a record, before the rest of the list
+unfoldable pub encode : Written → List ℕ → List ℕ
+encode Flush rest = beBytes 2 FL ++ rest
+encode (Zeros at len) rest = headBytes WZ at len rest
+encode (Bytes at bs) rest = headBytes WB at (length bs) (bs ++ rest)
+
+-- what a record's head says
+abbrev pub headOf : Written → Decoded
+headOf Flush = head flush 0 0 2
+headOf (Zeros at len) = head zeros at len 18
+headOf (Bytes at bs) = head bytes at (length bs) 18
+
+-- the bytes behind its head
+abbrev pub bytesOf : Written → List ℕ
+bytesOf Flush = []
+bytesOf (Zeros at len) = []
+bytesOf (Bytes at bs) = bs
+
+-- its offset and length fit 8 bytes
+abbrev pub fits : Written → Type 0
+fits w = (headOf w .at < 2 ^ 64) × (headOf w .len < 2 ^ 64)

@@ -1,0 +1,142 @@
+// The written records, read back: the head of each, and how much of its bytes has been seen. A list is read in parts, so an answer
+// also says that more bytes are needed.
+ghost use mathlib.Core.Path.{_≡_};
+ghost use Prim.Native.Nat.{_≤_};
+ghost use Rattle.applied.specs.Records.{cut, refused, write, decodeDef, bodyDef};
+
+// The refusal of malformed records.
+pub const MALFORMED: u32 = 28;
+
+// The marks, two bytes each.
+const FL: u16 = 0x464c;
+
+const WZ: u16 = 0x575a;
+
+const WB: u16 = 0x5742;
+
+// What a record asks for; none is known yet where more bytes are needed.
+pub const MORE: u8 = 0;
+
+pub const FLUSH: u8 = 1;
+
+pub const ZEROS: u8 = 2;
+
+pub const BYTES: u8 = 3;
+
+// The bytes of a mark, and of the head of a write: its mark, offset and length.
+const MARK: usize = 2;
+
+const HEAD: usize = 18;
+
+// A record's head: what it asks for, where on the device and how many bytes, and the head's own size. `number` is 0, or 28 beside zeros.
+pub struct Decoded {
+    pub number: u32,
+    pub kind: u8,
+    pub at: u64,
+    pub len: u64,
+    pub size: usize,
+}
+
+// How many bytes of the record stand here, and how many are still to come. `number` is 0, or 28 beside zeros.
+pub struct Piece {
+    pub number: u32,
+    pub here: usize,
+    pub left: u64,
+}
+
+fn malformed() -> Decoded
+    ensures { λ r. ⌜ r ≡ refused ⌝ }
+{
+    Decoded {
+        number: MALFORMED,
+        kind: MORE,
+        at: 0,
+        len: 0,
+        size: 0,
+    }
+}
+
+// Too few bytes for a head: the list is cut if it ends with them.
+fn too_few(last: bool) -> Decoded
+    ensures { λ r. ⌜ r ≡ cut last ⌝ }
+{
+    if last {
+        return malformed();
+    }
+    Decoded {
+        number: 0,
+        kind: MORE,
+        at: 0,
+        len: 0,
+        size: 0,
+    }
+}
+
+// The head of a write.
+fn write_head(bytes: &[u8], last: bool, kind: u8) -> Decoded
+    ensures { λ r. ⌜ r ≡ write last kind (now (bytes .entry)) ⌝ }
+{
+    if bytes.len() < HEAD {
+        return too_few(last);
+    }
+    let at = endian::be64(bytes, 2);
+    let len = endian::be64(bytes, 10);
+    Decoded {
+        number: 0,
+        kind,
+        at: at.value,
+        len: len.value,
+        size: HEAD,
+    }
+}
+
+// The head of the record that the bytes begin with; `last` where the list ends with them.
+pub fn decode(bytes: &[u8], last: bool) -> Decoded
+    ensures { λ r. ⌜ r ≡ decodeDef last (now (bytes .entry)) ⌝ }
+{
+    if bytes.len() < MARK {
+        return too_few(last);
+    }
+    let mark = endian::be16(bytes, 0);
+    if mark.value == FL {
+        return Decoded {
+            number: 0,
+            kind: FLUSH,
+            at: 0,
+            len: 0,
+            size: MARK,
+        };
+    }
+    if mark.value == WZ {
+        return write_head(bytes, last, ZEROS);
+    }
+    if mark.value == WB {
+        return write_head(bytes, last, BYTES);
+    }
+    malformed()
+}
+
+// Of `len` bytes that a record still has, those among the `have` bytes that are here; `last` where the list ends with them.
+pub fn body(len: u64, have: usize, last: bool) -> Piece
+    ensures { λ r. ⌜ (r ≡ bodyDef last len have) × (r .here ≤ have) ⌝ }
+{
+    if len <= have as u64 {
+        return Piece {
+            number: 0,
+            here: len as usize,
+            left: 0,
+        };
+    }
+    if last {
+        return Piece {
+            number: MALFORMED,
+            here: 0,
+            left: 0,
+        };
+    }
+    Piece {
+        number: 0,
+        here: have,
+        left: len - have as u64,
+    }
+}

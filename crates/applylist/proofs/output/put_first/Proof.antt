@@ -1,0 +1,14 @@
+-- `applylist::output::put_first` meets its contract.
+-- Assumes nothing.
+use mathlib.Core.Path.{sym}
+use lib.Seq.{length-take-le}
+use borrow.Author.Needs.{needs}
+use Rattle.applylist.proofs.output.put_first.Statement.{statement}
+use Rattle.applylist.proofs.output.put_first.Tie as tie
+
+slice-aggregate-put-all : tie.Need-slice-aggregate-put-all
+slice-aggregate-put-all c = sym (length-take-le (c .before .before .args .n) (c .before .before .args .bytes .now) (c .before .before .pre))
+
+pub put-first-spec : {M : Type 1} → statement M
+put-first-spec = tie.close (tie.spec
+    slice-aggregate-put-all (λ c κs. search needs) (λ c. search needs))
