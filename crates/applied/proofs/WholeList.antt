@@ -6,7 +6,7 @@ use mathlib.Core.List.{List, [], _∷_}
 use Prim.Native.Nat.{ℕ}
 use lib.ListN.{length, take, drop}
 use Rattle.applied.specs.declared.Decoded.{Decoded}
-use Rattle.applied.specs.Records.{decodeDef, Written, Flush, Zeros, Bytes, encode, headOf, bytesOf, fits}
+use Rattle.applied.specs.Records.{Written, Flush, Zeros, Bytes, encode, headOf, bytesOf}
 use Rattle.applied.specs.Whole.{encodeAll, recordOf, own, readAll, allFit}
 use Rattle.applied.proofs.Encoded.{head-back, bytes-back, next-back}
 
