@@ -1,2 +1,4 @@
 pub mod Heads
 pub mod Encoded
+pub mod WholeList
+pub mod Pieces

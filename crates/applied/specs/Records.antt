@@ -1,6 +1,6 @@
 -- A list of written records, read from its start: the head of a record, by its mark, and the bytes behind it.
 -- Assumes nothing.
-use mathlib.Core.List.{List, [], _∷_, _++_}
+use mathlib.Core.List.{List, [], _++_}
 use mathlib.Core.Bool.{Bool, true, false}
 use Prim.Native.Nat.{ℕ, _-_, _^_, _<_}
 use lib.Dec.{leb, eqb}

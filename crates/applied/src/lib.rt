@@ -24,9 +24,9 @@ pub const ZEROS: u8 = 2;
 pub const BYTES: u8 = 3;
 
 // The bytes of a mark, and of the head of a write: its mark, offset and length.
-const MARK: usize = 2;
+pub const MARK: usize = 2;
 
-const HEAD: usize = 18;
+pub const HEAD: usize = 18;
 
 // A record's head: what it asks for, where on the device and how many bytes, and the head's own size. `number` is 0, or 28 beside zeros.
 pub struct Decoded {

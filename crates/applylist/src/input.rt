@@ -6,12 +6,9 @@ use crate::GOES_ON;
 use crate::MALFORMED;
 use crate::READ_FAILED;
 use applied::Decoded;
+use applied::HEAD;
+use applied::MARK;
 use libc::STDIN_FILENO;
-
-// The bytes of a mark, and of the longest head.
-const MARK: usize = 2;
-
-const HEAD: usize = 18;
 
 // How many bytes were read, whether there may be more, and whether a read failed.
 struct Input {
@@ -66,7 +63,7 @@ fn fill(n: usize, want: usize, buf: &mut [u8]) -> Input
     i
 }
 
-// The head of the `n` bytes that were read, of which `want` were asked for.
+// The head in the bytes that were read. The list ends with them where they are fewer than the `want` that were asked for.
 fn head_of(buf: &[u8], i: Input, want: usize) -> Head
     requires { ⌜ i .n ≤ length (now buf) ⌝ }
 {

@@ -143,9 +143,9 @@ fn finish(p: Progress) {
         report(p.stop, p.record);
         return;
     }
-    io::write_all(STDOUT_FILENO, b"applied ");
+    io::write_all(STDOUT_FILENO, b"records applied: ");
     io::print_decimal(STDOUT_FILENO, std::num::wrapping_sub_u64(p.record, 1));
-    if !io::write_all(STDOUT_FILENO, b" records\n") {
+    if !io::write_all(STDOUT_FILENO, b"\n") {
         os::fail(b"standard output");
     }
 }
