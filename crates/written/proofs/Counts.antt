@@ -1,0 +1,62 @@
+-- How many records a run writes.
+-- Assumes nothing.
+use mathlib.Core.Path.{_≡_, refl, sym, ap, _∙_}
+use mathlib.Core.List.{List, [], _∷_, _++_}
+use Prim.Native.Nat.{ℕ, zero, suc, _+_, _*_}
+use native.Mathlib.Omega.{arith}
+use lib.ListN.{length, drop, length-append}
+use Rattle.run.specs.declared.Run.{Run}
+use Rattle.written.specs.Records.{Record, WZ, WB, FL, blocks}
+use Rattle.written.specs.Listing.{headBlocks, headerBlocks, chunkBlocks, headFinished, opening, headRecords, headsTo, chunkRecords, closing, listOf, recordCount}
+
+-- a record for each block
+pub blocks-count : (bs offset n : ℕ) (bytes : List ℕ) → length (blocks bs offset n bytes) ≡ n
+unfolding blocks
+blocks-count bs offset zero bytes = refl
+blocks-count bs offset (suc n) bytes = let h = blocks-count bs (offset + bs) n (drop bs bytes) in omega arith
+
+module _ (run : Run) where
+  pub opening-count : (device : ℕ) → length (opening run device) ≡ 4
+  unfolding opening
+  opening-count device = refl
+
+  pub head-count : (k : ℕ) → length (headRecords run k) ≡ headBlocks (run .geometry)
+  unfolding headRecords
+  head-count k = blocks-count _ _ (headBlocks (run .geometry)) _
+
+  pub heads-count : (n : ℕ) → length (headsTo run n) ≡ n * headBlocks (run .geometry)
+  unfolding headsTo
+  heads-count zero = omega arith
+  heads-count (suc n) =
+      let h : length (headsTo run n) ≡ n * headBlocks (run .geometry) = heads-count n in
+      let b : length (headRecords run n) ≡ headBlocks (run .geometry) = head-count n in
+      length-append (headsTo run n) (headRecords run n) ∙ omega arith
+
+  pub chunk-count : length (chunkRecords run) ≡ chunkBlocks (run .geometry)
+  unfolding chunkRecords
+  chunk-count = blocks-count _ _ (chunkBlocks (run .geometry)) _
+
+  again : List Record
+  again = blocks (run .geometry .blocksize) 0 (headerBlocks (run .geometry)) (headFinished (run .geometry) (run .uuid))
+
+  pub closing-count : length (closing run) ≡ headerBlocks (run .geometry) + 2
+  unfolding closing again
+  closing-count =
+      let b : length again ≡ headerBlocks (run .geometry) = blocks-count _ _ (headerBlocks (run .geometry)) _ in
+      let a : length (again ++ (FL ∷ [])) ≡ length again + 1 = length-append again (FL ∷ []) in
+      let c : suc (length (again ++ (FL ∷ []))) ≡ headerBlocks (run .geometry) + 2 = omega arith in
+      c
+
+  -- THE WHOLE LIST
+  pub list-count : (device : ℕ) → length (listOf run device) ≡ recordCount (run .geometry)
+  unfolding listOf recordCount
+  list-count device =
+      let hs = headsTo run (run .geometry .agcount) in
+      let o : length (opening run device) ≡ 4 = opening-count device in
+      let h : length hs ≡ run .geometry .agcount * headBlocks (run .geometry) = heads-count (run .geometry .agcount) in
+      let r : length (chunkRecords run) ≡ chunkBlocks (run .geometry) = chunk-count in
+      let z : length (closing run) ≡ headerBlocks (run .geometry) + 2 = closing-count in
+      let a : length (opening run device ++ (hs ++ (chunkRecords run ++ closing run))) ≡ length (opening run device) + length (hs ++ (chunkRecords run ++ closing run)) = length-append (opening run device) (hs ++ (chunkRecords run ++ closing run)) in
+      let b : length (hs ++ (chunkRecords run ++ closing run)) ≡ length hs + length (chunkRecords run ++ closing run) = length-append hs (chunkRecords run ++ closing run) in
+      let c : length (chunkRecords run ++ closing run) ≡ length (chunkRecords run) + length (closing run) = length-append (chunkRecords run) (closing run) in
+      omega arith

@@ -1,0 +1,4 @@
+pub mod Counts
+pub mod Chunks
+pub mod Whole
+pub mod Example

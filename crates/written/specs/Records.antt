@@ -1,0 +1,28 @@
+-- Written records: zeros, one block's bytes, or a flush; and their bytes in the list.
+-- Assumes nothing.
+use mathlib.Core.List.{List, [], _∷_, _++_}
+use Prim.Native.Nat.{ℕ, zero, suc, _+_}
+use lib.ListN.{length, take, drop}
+use Rattle.endian.specs.Bytes.{beBytes}
+
+-- zeros from an offset on, so many; bytes from an offset on; flush
+pub data Record : Type 0 where
+  WZ : ℕ → ℕ → Record
+  WB : ℕ → List ℕ → Record
+  FL : Record
+
+-- a record in the list: its mark, then offset and length in 8 bytes each, then the bytes
+unfoldable pub recordBytes : Record → List ℕ
+recordBytes (WZ offset n) = 0x57 ∷ 0x5a ∷ (beBytes 8 offset ++ beBytes 8 n)
+recordBytes (WB offset bytes) = 0x57 ∷ 0x42 ∷ (beBytes 8 offset ++ (beBytes 8 (length bytes) ++ bytes))
+recordBytes FL = 0x46 ∷ 0x4c ∷ []
+
+-- records one after the other
+unfoldable pub listBytes : List Record → List ℕ
+listBytes [] = []
+listBytes (r ∷ rs) = recordBytes r ++ listBytes rs
+
+-- a longer write is split into its n blocks of bs bytes, rising
+unfoldable pub blocks : ℕ → ℕ → ℕ → List ℕ → List Record
+blocks bs offset zero bytes = []
+blocks bs offset (suc n) bytes = WB offset (take bs bytes) ∷ blocks bs (offset + bs) n (drop bs bytes)
