@@ -4,7 +4,8 @@
 use std::env;
 use std::path::Path;
 
-const FEATURES: [&str; 9] = ["crc", "geometry", "places", "helpers", "records", "sb", "structs", "recs", "chunk"];
+const FEATURES: [&str; 10] =
+    ["crc", "geometry", "places", "helpers", "records", "sb", "structs", "recs", "slices", "chunk"];
 
 fn main() {
     println!("cargo:rerun-if-env-changed=ZECHURQI_STATICLIB");
