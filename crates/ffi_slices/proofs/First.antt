@@ -71,7 +71,7 @@ module _ (R₀ : RattleType) (f : R₀ .Denot → List ℕ) (size : ℕ) (k-recs
   }
 
   -- the callee and the function: each with its signature and its clauses
-  abbrev recsEnded : Ended
+  abbrev pub recsEnded : Ended
   recsEnded = record {
     signature = record { lifetimes = 2; outlives = []; params = shrSliceOf (0 ∷ []) tt (plain (λ _. R)) ∷ mutSliceOf (1 ∷ []) tt (plain (λ _. u8)) ∷ []; result = plain (λ _. u32) };
     kept = (yes, (yes, tt));
@@ -80,13 +80,13 @@ module _ (R₀ : RattleType) (f : R₀ .Denot → List ℕ) (size : ℕ) (k-recs
   abbrev pub firstSignature : Signature
   firstSignature = record { lifetimes = 1; outlives = []; params = plain (λ _. Array R 65) ∷ plain (λ _. usize) ∷ mutSliceOf (0 ∷ []) tt (plain (λ _. u8)) ∷ []; result = plain (λ _. u32) }
 
-  abbrev firstEnded : Ended
+  abbrev pub firstEnded : Ended
   firstEnded = record { signature = firstSignature; kept = (yes, (yes, (yes, tt))) }
 
-  abbrev RecsClauses : {M : Type 1} (𝓤 : URA M) → Clauses 𝓤 recsEnded
+  abbrev pub RecsClauses : {M : Type 1} (𝓤 : URA M) → Clauses 𝓤 recsEnded
   RecsClauses 𝓤 κs a = record { ghost = Unit {0}; requires = λ _. emp 𝓤; ensures = λ _ r e. fact 𝓤 (Written (recsNumber size (length (now (a .0))) (length (now (a .1 .0)))) (listed f (now (a .0))) (now (a .1 .0)) r (now (e .1 .0))) }
 
-  abbrev FirstClauses : {M : Type 1} (𝓤 : URA M) → Clauses 𝓤 firstEnded
+  abbrev pub FirstClauses : {M : Type 1} (𝓤 : URA M) → Clauses 𝓤 firstEnded
   FirstClauses 𝓤 κs a = record { ghost = Unit {0}; requires = λ _. fact 𝓤 (a .1 .0 ≤ 65); ensures = λ _ r e. fact 𝓤 (Written (recsNumber size (a .1 .0) (length (now (a .1 .1 .0)))) (listed f (take (a .1 .0) (a .0))) (now (a .1 .1 .0)) r (now (e .1 .1 .0))) }
 
   abbrev stayed : Stays (firstEnded .signature .params) (firstEnded .kept)

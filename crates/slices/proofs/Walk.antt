@@ -122,7 +122,7 @@ module _ (R : RattleType) (τ : Ty) (f : R .Denot → List ℕ) (size : ℕ) (f-
   abbrev pub recsSignature : Signature
   recsSignature = record { lifetimes = 2; outlives = []; params = shrSliceOf (0 ∷ []) tt (plain (λ _. R)) ∷ mutSliceOf (1 ∷ []) tt (plain (λ _. u8)) ∷ []; result = plain (λ _. u32) }
 
-  abbrev recsEnded : Ended
+  abbrev pub recsEnded : Ended
   recsEnded = record { signature = recsSignature; kept = (yes, (yes, tt)) }
 
   abbrev AtClauses : {M : Type 1} (𝓤 : URA M) → Clauses 𝓤 atEnded
@@ -131,7 +131,7 @@ module _ (R : RattleType) (τ : Ty) (f : R .Denot → List ℕ) (size : ℕ) (f-
   abbrev PutClauses : {M : Type 1} (𝓤 : URA M) → Clauses 𝓤 putEnded
   PutClauses 𝓤 κs a = record { ghost = Unit {0}; requires = λ _. fact 𝓤 (size * a .1 .0 + size ≤ length (now (a .0))); ensures = λ _ r e. fact 𝓤 (now (e .0) ≡ patch (size * a .1 .0) (f (a .1 .1 .0)) (now (a .0))) }
 
-  abbrev RecsClauses : {M : Type 1} (𝓤 : URA M) → Clauses 𝓤 recsEnded
+  abbrev pub RecsClauses : {M : Type 1} (𝓤 : URA M) → Clauses 𝓤 recsEnded
   RecsClauses 𝓤 κs a = record { ghost = Unit {0}; requires = λ _. emp 𝓤; ensures = λ _ r e. fact 𝓤 (Written (recsNumber size (length (now (a .0))) (length (now (a .1 .0)))) (listed f (now (a .0))) (now (a .1 .0)) r (now (e .1 .0))) }
 
   abbrev stayed : Stays (recsEnded .signature .params) (recsEnded .kept)
