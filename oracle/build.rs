@@ -5,7 +5,7 @@ use std::env;
 use std::path::Path;
 
 const FEATURES: [&str; 10] =
-    ["crc", "geometry", "places", "helpers", "records", "sb", "structs", "recs", "chunk", "plans"];
+const FEATURES: [&str; 11] = ["crc", "geometry", "places", "helpers", "records", "sb", "structs", "recs", "chunk", "plans", "slices"];
 
 fn main() {
     println!("cargo:rerun-if-env-changed=ZECHURQI_STATICLIB");

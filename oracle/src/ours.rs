@@ -692,6 +692,48 @@ pub mod recs {
     }
 }
 
+/// Crate `ffi_slices`: the record lists of lent slices of at most 65 records. Every function gives the number.
+#[cfg(feature = "slices")]
+pub mod slices {
+    use crate::structs::btree::{AllocRec, RmapRec};
+
+    type Column<T> = [T; 65];
+
+    extern "C" {
+        fn zq_alloc_slice(
+            start: *const Column<u32>,
+            blocks: *const Column<u32>,
+            count: usize,
+            out: *mut u8,
+            len: usize,
+        ) -> u32;
+        fn zq_rmap_slice(
+            start: *const Column<u32>,
+            blocks: *const Column<u32>,
+            owner: *const Column<u64>,
+            count: usize,
+            out: *mut u8,
+            len: usize,
+        ) -> u32;
+    }
+
+    /// One field of every record, zeros past the list's end.
+    fn column<R, T: Copy + Default>(recs: &[R], field: impl Fn(&R) -> T) -> Column<T> {
+        std::array::from_fn(|i| recs.get(i).map_or(T::default(), &field))
+    }
+
+    pub fn alloc_recs(recs: &[AllocRec], out: &mut [u8]) -> u32 {
+        let (start, blocks) = (column(recs, |r| r.start), column(recs, |r| r.count));
+        unsafe { zq_alloc_slice(&start, &blocks, recs.len(), out.as_mut_ptr(), out.len()) }
+    }
+
+    pub fn rmap_recs(recs: &[RmapRec], out: &mut [u8]) -> u32 {
+        let (start, blocks) = (column(recs, |r| r.start), column(recs, |r| r.count));
+        let owner = column(recs, |r| r.owner);
+        unsafe { zq_rmap_slice(&start, &blocks, &owner, recs.len(), out.as_mut_ptr(), out.len()) }
+    }
+}
+
 /// Crate `ffi_records`. A list of records goes as an array of 64 for each field, and how many there are.
 #[cfg(feature = "records")]
 pub mod records {

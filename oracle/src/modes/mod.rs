@@ -88,6 +88,7 @@ pub fn named(name: &str) -> Option<Box<dyn Mode + Sync>> {
         "agfl" => Box::new(structs::AgflSector),
         "leaf" => Box::new(structs::Leaf),
         "recs" => Box::new(structs::Recs),
+        "slices" => Box::new(structs::Slices),
         "chunk" => Box::new(chunk::RootChunk),
         "dinode" => Box::new(inodes::Allocated),
         "free_inode" => Box::new(inodes::Free),

@@ -52,7 +52,7 @@ pub fn encoded(out: Out, number: u32, buf: &[u8], encode: impl FnOnce(&mut [u8])
 }
 
 /// The port's answer: `encode` changes the buffer and gives the number.
-#[cfg(any(feature = "structs", feature = "sb", feature = "recs"))]
+#[cfg(any(feature = "structs", feature = "sb", feature = "recs", feature = "slices"))]
 pub fn port_encoded(buf: &[u8], encode: impl FnOnce(&mut [u8]) -> u32) -> Option<Vec<u8>> {
     let mut left = buf.to_vec();
     let number = encode(&mut left);
@@ -305,6 +305,54 @@ impl Mode for Recs {
             0 => alloc_recs(&recs.map(alloc), count, b),
             3 => rmap_recs(&recs.map(rmap), count, b),
             _ => inobt_recs(&recs.map(inobt), count, kind == 2, b),
+        })
+    }
+}
+
+/// The kind (1 byte: 0 free, 3 rmap), the count (1, at most 65), that many records of 16 bytes (the first 8 for free
+/// records), and the lent buffer: the lists as the Rust takes them, by a lent slice.
+pub struct Slices;
+
+/// The kind, the records and the lent buffer of a case.
+fn slice_of(case: &[u8]) -> (usize, Vec<&[u8]>, &[u8]) {
+    let mut f = Fields(case);
+    let (kind, count) = (if f.u8() == 3 { 3 } else { 0 }, usize::from(f.u8()).min(MOST + 1));
+    (kind, (0..count).map(|_| f.bytes(16)).collect(), f.rest())
+}
+
+impl Mode for Slices {
+    fn case(&self, r: &mut Random) -> Vec<u8> {
+        let kind = r.pick(&[0, 3]);
+        let count = if r.one_in(8) { MOST + r.below(2) as usize } else { r.below(MOST as u64 + 2) as usize };
+        let fits = count * REC_SIZES[kind];
+        let len = match r.below(8) {
+            0 => fits + 1,
+            1 => fits.saturating_sub(1),
+            _ => fits,
+        };
+        let mut out = vec![kind as u8, count as u8];
+        out.extend(r.bytes(16 * count + len));
+        out
+    }
+
+    fn answer(&self, case: &[u8], out: Out) -> io::Result<Told> {
+        let (kind, recs, buf) = slice_of(case);
+        let number = match () {
+            _ if recs.len() * REC_SIZES[kind] != buf.len() => BAD_LENGTH,
+            _ if recs.len() > MOST => TOO_MANY,
+            _ => 0,
+        };
+        let told = encoded(out, number, buf, |b| b.copy_from_slice(&rec_bytes(kind, &recs)))?;
+        Ok(Told { kind: REC_KINDS[kind], ..told })
+    }
+
+    #[cfg(feature = "slices")]
+    fn ours(&self, case: &[u8]) -> Option<Vec<u8>> {
+        use mkfs_xfs::ours::slices::{alloc_recs, rmap_recs};
+        let (kind, recs, buf) = slice_of(case);
+        port_encoded(buf, |b| match kind {
+            0 => alloc_recs(&recs.iter().map(|r| alloc(r)).collect::<Vec<_>>(), b),
+            _ => rmap_recs(&recs.iter().map(|r| rmap(r)).collect::<Vec<_>>(), b),
         })
     }
 }

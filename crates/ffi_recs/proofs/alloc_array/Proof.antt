@@ -10,7 +10,7 @@ use Rattle.ffi_recs.proofs.alloc_array.Statement.{statement}
 use Rattle.ffi_recs.proofs.alloc_array.Tie as tie
 
 abbrev Inv-loop : tie.InvT-loop
-Inv-loop start count recs₀ i₀ recs i = Filled (allocAt start count) recs i
+Inv-loop start count recs₀ i₀ recs i = Filled (allocAt start count) 64 recs i
 
 abbrev μ-loop : tie.MeasureT-loop
 μ-loop start count recs₀ i₀ recs i = i
@@ -45,11 +45,11 @@ loop-less c = omega arith
 loop-again : tie.Need-loop-again Inv-loop μ-loop
 loop-again c =
     let l = c .before .before .before .loop in
-    fill-turn _ (l .recs) (l .i) (c .before .before .loop-test .taken) (l .inv)
+    fill-turn _ 64 (l .recs) (l .i) (c .before .before .loop-test .taken) (l .inv)
 
 returns : tie.Need-returns Inv-loop μ-loop
 unfolding allocArray
-returns c = fill-all _ (c .before .loop .recs) (c .before .loop .i) (c .loop-test .left) (c .before .loop .inv)
+returns c = fill-all _ 64 (c .before .loop .recs) (c .before .loop .i) (c .loop-test .left) (c .before .loop .inv)
 
 pub alloc-array-spec : {M : Type 1} → statement M
 alloc-array-spec =

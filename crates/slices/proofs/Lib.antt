@@ -1,0 +1,4 @@
+pub mod Laws
+pub mod Again
+pub mod Element
+pub mod Walk
