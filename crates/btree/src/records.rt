@@ -67,8 +67,8 @@ fn put_alloc(out: &mut [u8], o: usize, r: AllocRec)
     endian::put32(out, o, r.start);
 }
 
-// The first `count` free extents. 27 unless `out` is as long as they need, 34 above 64.
-pub fn alloc_recs(recs: [AllocRec; 64], count: usize, out: &mut [u8]) -> u32
+// The Rust's alloc_recs over an array of 64 (crate slices has it over a lent slice): the first `count` free extents. 27 unless `out` is as long as they need, 34 above 64.
+pub fn alloc_recs_64(recs: [AllocRec; 64], count: usize, out: &mut [u8]) -> u32
     ensures { λ r. ⌜ Written (recsNumber 8 count (length (now (out .entry)))) (listed allocBytes (take count recs)) (now (out .entry)) r (now (out .exit)) ⌝ }
 {
     let refusal = number(ALLOC_REC, count, out.len());
@@ -114,8 +114,8 @@ fn put_inobt(out: &mut [u8], o: usize, sparse: bool, r: InobtRec)
     put_full(out, o, r);
 }
 
-// The first `count` inode chunks; without sparse inodes the free count is a 32-bit number in the place of holes, count and free count.
-pub fn inobt_recs(recs: [InobtRec; 64], count: usize, sparse: bool, out: &mut [u8]) -> u32
+// The Rust's inobt_recs: the first `count` inode chunks; without sparse inodes the free count is a 32-bit number in the place of holes, count and free count.
+pub fn inobt_recs_64(recs: [InobtRec; 64], count: usize, sparse: bool, out: &mut [u8]) -> u32
     ensures { λ r. ⌜ Written (recsNumber 16 count (length (now (out .entry)))) (listed (inobtBytes sparse) (take count recs)) (now (out .entry)) r (now (out .exit)) ⌝ }
 {
     let refusal = number(INOBT_REC, count, out.len());
@@ -140,8 +140,8 @@ fn put_rmap(out: &mut [u8], o: usize, r: RmapRec)
     endian::put32(out, o, r.start);
 }
 
-// The first `count` reverse mappings.
-pub fn rmap_recs(recs: [RmapRec; 64], count: usize, out: &mut [u8]) -> u32
+// The Rust's rmap_recs over an array of 64: the first `count` reverse mappings.
+pub fn rmap_recs_64(recs: [RmapRec; 64], count: usize, out: &mut [u8]) -> u32
     ensures { λ r. ⌜ Written (recsNumber 24 count (length (now (out .entry)))) (listed rmapBytes (take count recs)) (now (out .entry)) r (now (out .exit)) ⌝ }
 {
     let refusal = number(RMAP_REC, count, out.len());

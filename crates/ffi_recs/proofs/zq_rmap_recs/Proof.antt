@@ -7,14 +7,14 @@ use Rattle.ffi_recs.proofs.zq_rmap_recs.Tie as tie
 rmap-array-requires : tie.Need-rmap-array-requires
 rmap-array-requires c κs = search needs
 
-rmap-recs-requires : tie.Need-rmap-recs-requires
-rmap-recs-requires c κs = search needs
+rmap-recs-64-requires : tie.Need-rmap-recs-64-requires
+rmap-recs-64-requires c κs = search needs
 
 same-length : tie.Need-same-length
 same-length c = search needs
 
 returns : tie.Need-returns
-returns c = rw (c .before .before .before .before .rmap-array .ensures) at (c .before .before .rmap-recs .ensures)
+returns c = rw (c .before .before .before .before .rmap-array .ensures) at (c .before .before .rmap-recs-64 .ensures)
 
 pub zq-rmap-recs-spec : {M : Type 1} → statement M
-zq-rmap-recs-spec = tie.close (tie.spec rmap-array-requires rmap-recs-requires same-length returns)
+zq-rmap-recs-spec = tie.close (tie.spec rmap-array-requires rmap-recs-64-requires same-length returns)

@@ -1,4 +1,4 @@
--- `btree::records::rmap_recs` meets its contract.
+-- `btree::records::rmap_recs_64` meets its contract.
 -- Assumes nothing.
 use Rattle.btree.proofs.Laws.{rmap-size, noRmap, accepted, record-turn, record-none, record-all}
 use Rattle.btree.specs.Records.{listed, rmapBytes}
@@ -11,8 +11,8 @@ use native.Mathlib.Omega.{arith}
 use lib.ListN.{length, take, drop}
 use Prim.Native.Nat.{_*_, _≤_}
 use mathlib.Core.Path.{_≡_, refl, sym, _∙_}
-use Rattle.btree.proofs.records.rmap_recs.Statement.{statement}
-use Rattle.btree.proofs.records.rmap_recs.Tie as tie
+use Rattle.btree.proofs.records.rmap_recs_64.Statement.{statement}
+use Rattle.btree.proofs.records.rmap_recs_64.Tie as tie
 
 abbrev Inv-loop : tie.InvT-loop
 Inv-loop count out₀ recs refusal i₀ out i = (i ≤ count) × (length out ≡ length out₀) × (length out₀ ≡ 24 * count) × (count ≤ length recs) × (length recs ≡ 64) × (out ≡ patch (24 * i) (listed rmapBytes (drop i (take count recs))) out₀)
@@ -64,8 +64,8 @@ returns-2 c =
     let args = c .before .before .before .before .before .args in
     done (sym (c .before .before .before .number .ensures) ∙ c .before .before .if1 .left) (record-all rmapBytes 24 rmap-size noRmap (args .t1) (args .count) (c .before .loop .inv .3) (c .before .loop .i) (args .out .now) _ (c .loop-test .left) (c .before .loop .inv .2) (c .before .loop .inv .5))
 
-pub rmap-recs-spec : {M : Type 1} → statement M
-rmap-recs-spec =
+pub rmap-recs-64-spec : {M : Type 1} → statement M
+rmap-recs-64-spec =
     tie.close
     (tie.spec
     Inv-loop

@@ -1,4 +1,4 @@
--- `btree::records::inobt_recs` meets its contract.
+-- `btree::records::inobt_recs_64` meets its contract.
 -- Assumes nothing.
 use Rattle.btree.proofs.Laws.{inobt-size, noInobt, accepted, record-turn, record-none, record-all}
 use Rattle.btree.specs.Records.{listed, inobtBytes}
@@ -11,8 +11,8 @@ use native.Mathlib.Omega.{arith}
 use lib.ListN.{length, take, drop}
 use Prim.Native.Nat.{_*_, _≤_}
 use mathlib.Core.Path.{_≡_, refl, sym, _∙_}
-use Rattle.btree.proofs.records.inobt_recs.Statement.{statement}
-use Rattle.btree.proofs.records.inobt_recs.Tie as tie
+use Rattle.btree.proofs.records.inobt_recs_64.Statement.{statement}
+use Rattle.btree.proofs.records.inobt_recs_64.Tie as tie
 
 abbrev Inv-loop : tie.InvT-loop
 Inv-loop count sparse out₀ recs refusal i₀ out i = (i ≤ count) × (length out ≡ length out₀) × (length out₀ ≡ 16 * count) × (count ≤ length recs) × (length recs ≡ 64) × (out ≡ patch (16 * i) (listed (inobtBytes sparse) (drop i (take count recs))) out₀)
@@ -64,8 +64,8 @@ returns-2 c =
     let args = c .before .before .before .before .before .args in
     done (sym (c .before .before .before .number .ensures) ∙ c .before .before .if1 .left) (record-all (inobtBytes (args .sparse)) 16 (inobt-size (args .sparse)) noInobt (args .t1) (args .count) (c .before .loop .inv .3) (c .before .loop .i) (args .out .now) _ (c .loop-test .left) (c .before .loop .inv .2) (c .before .loop .inv .5))
 
-pub inobt-recs-spec : {M : Type 1} → statement M
-inobt-recs-spec =
+pub inobt-recs-64-spec : {M : Type 1} → statement M
+inobt-recs-64-spec =
     tie.close
     (tie.spec
     Inv-loop
