@@ -6,7 +6,7 @@ use Prim.Native.Nat.{ℕ, zero, suc, _+_, _-_, _≤_}
 use native.Mathlib.Omega.{arith}
 use borrow.Author.Tests.{eq-eqb, ne-eqb, le-leb, lt-leb}
 use Rattle.run.specs.declared.Run.{Run}
-use Rattle.written.specs.Records.{Record}
+use Rattle.records.specs.Records.{Record}
 use Rattle.written.specs.Listing.{opening, headRecords, headsTo, chunkRecords, closing, listOf, chunkCount, listChunk, chunksTo}
 
 module _ (run : Run) (device : ℕ) where

@@ -4,16 +4,11 @@ use mathlib.Core.Path.{_≡_, refl, sym, ap, _∙_}
 use mathlib.Core.List.{List, [], _∷_, _++_}
 use Prim.Native.Nat.{ℕ, zero, suc, _+_, _*_}
 use native.Mathlib.Omega.{arith}
-use lib.ListN.{length, drop, length-append}
+use lib.ListN.{length, length-append}
 use Rattle.run.specs.declared.Run.{Run}
-use Rattle.written.specs.Records.{Record, WZ, WB, FL, blocks}
+use Rattle.records.specs.Records.{Record, FL, blocks}
+use Rattle.records.proofs.Blocks.{blocks-count}
 use Rattle.written.specs.Listing.{headBlocks, headerBlocks, chunkBlocks, headFinished, opening, headRecords, headsTo, chunkRecords, closing, listOf, recordCount}
-
--- a record for each block
-pub blocks-count : (bs offset n : ℕ) (bytes : List ℕ) → length (blocks bs offset n bytes) ≡ n
-unfolding blocks
-blocks-count bs offset zero bytes = refl
-blocks-count bs offset (suc n) bytes = let h = blocks-count bs (offset + bs) n (drop bs bytes) in omega arith
 
 module _ (run : Run) where
   pub opening-count : (device : ℕ) → length (opening run device) ≡ 4

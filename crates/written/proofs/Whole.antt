@@ -2,13 +2,11 @@
 -- Assumes nothing.
 use mathlib.Core.Path.{_≡_, refl, sym, ap, _∙_}
 use mathlib.Core.Bool.{Bool, true, false}
-use mathlib.Core.List.{List, [], _∷_, _++_}
 use Prim.Native.Nat.{ℕ, zero, suc, _+_, _*_, _<_, _≤_}
 use native.Mathlib.Omega.{arith}
 use borrow.Author.Tests.{eqb-true, eqb-false}
 use lib.Dec.{eqb}
-use lib.ListN.{length, take, drop, length-drop}
-use lib.Seq.{length-take-le}
+use lib.ListN.{length}
 use Rattle.geometry.specs.declared.Geometry.{Geometry}
 use Rattle.head.specs.Head.{headLength}
 use Rattle.head.proofs.Bytes.{head-length}
@@ -20,32 +18,9 @@ use Rattle.totals.specs.Totals.{firstTo, plansNumber}
 use Rattle.totals.proofs.Whole.{all-planned}
 use Rattle.states.specs.States.{stateOf}
 use Rattle.run.specs.declared.Run.{Run}
-use Rattle.written.specs.Records.{Record, WZ, WB, FL, blocks}
+use Rattle.records.specs.Records.{OneBlock, All}
+use Rattle.records.proofs.Blocks.{all-append, blocks-whole}
 use Rattle.written.specs.Listing.{headWritten, headRecords, headsTo}
-
--- a record of zeros, a flush, or one block of bs bytes
-abbrev pub OneBlock : ℕ → Record → Type 0
-OneBlock bs (WZ offset n) = Unit {0}
-OneBlock bs (WB offset bytes) = length bytes ≡ bs
-OneBlock bs FL = Unit {0}
-
--- all of a list
-abbrev pub All : (Record → Type 0) → List Record → Type 0
-All q [] = Unit {0}
-All q (r ∷ rs) = q r × All q rs
-
-pub all-append : (q : Record → Type 0) (xs ys : List Record) → All q xs → All q ys → All q (xs ++ ys)
-all-append q [] ys a b = b
-all-append q (x ∷ xs) ys a b = (a .0, all-append q xs ys (a .1) b)
-
--- bytes enough for n blocks
-pub blocks-whole : (bs offset n : ℕ) (bytes : List ℕ) → n * bs ≤ length bytes → All (OneBlock bs) (blocks bs offset n bytes)
-unfolding blocks
-blocks-whole bs offset zero bytes h = tt
-blocks-whole bs offset (suc n) bytes h = (
-  length-take-le bs bytes (omega arith),
-  blocks-whole bs (offset + bs) n (drop bs bytes) (omega (arith, length-drop bs bytes)),
-)
 
 -- the head of a planned group
 pub head-whole : (run : Run) (k : ℕ) → length (run .geometry .label) ≡ 12 → isPlan (run .geometry) (planned (run .geometry) k .plan) ≡ true

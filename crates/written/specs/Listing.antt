@@ -18,7 +18,7 @@ use Rattle.head.specs.Head.{zeros, headBytes}
 use Rattle.rootchunk.specs.Chunk.{chunkBytes}
 use Rattle.states.specs.States.{stateOf, finishedState}
 use Rattle.run.specs.declared.Run.{Run}
-use Rattle.written.specs.Records.{Record, WZ, WB, FL, blocks}
+use Rattle.records.specs.Records.{Record, WZ, WB, FL, blocks}
 
 -- ---- the device's ends: whole blocks only
 

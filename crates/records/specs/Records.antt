@@ -1,5 +1,6 @@
 -- Written records: zeros, one block's bytes, or a flush; and their bytes in the list.
 -- Assumes nothing.
+use mathlib.Core.Path.{_≡_}
 use mathlib.Core.List.{List, [], _∷_, _++_}
 use Prim.Native.Nat.{ℕ, zero, suc, _+_}
 use lib.ListN.{length, take, drop}
@@ -26,3 +27,14 @@ listBytes (r ∷ rs) = recordBytes r ++ listBytes rs
 unfoldable pub blocks : ℕ → ℕ → ℕ → List ℕ → List Record
 blocks bs offset zero bytes = []
 blocks bs offset (suc n) bytes = WB offset (take bs bytes) ∷ blocks bs (offset + bs) n (drop bs bytes)
+
+-- a record of zeros, a flush, or one block of bs bytes
+abbrev pub OneBlock : ℕ → Record → Type 0
+OneBlock bs (WZ offset n) = Unit {0}
+OneBlock bs (WB offset bytes) = length bytes ≡ bs
+OneBlock bs FL = Unit {0}
+
+-- all of a list
+abbrev pub All : (Record → Type 0) → List Record → Type 0
+All q [] = Unit {0}
+All q (r ∷ rs) = q r × All q rs
