@@ -127,3 +127,9 @@ chunksTo run device (suc n) = chunksTo run device n ++ listChunk run device n
 -- ---- how many records: three WZ, the log block, two FL, and a WB for each block of heads, root chunk and header blocks
 unfoldable pub recordCount : Geometry → ℕ
 recordCount g = 6 + g .agcount * headBlocks g + chunkBlocks g + headerBlocks g
+
+-- ---- what a finished run leaves
+
+-- in group k's head: group 0's has the finished superblock
+unfoldable pub headLeft : Geometry → List ℕ → ℕ → List ℕ
+headLeft g uuid k = choose (eqb k 0) (headFinished g uuid) (headWritten g uuid k)
