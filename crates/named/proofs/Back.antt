@@ -1,33 +1,26 @@
--- A superblock names its own geometry and UUID, whatever stands behind it.
+-- Bytes that begin with a superblock name its geometry and UUID, whatever its state is and whatever stands behind it.
 -- Assumes nothing.
 use mathlib.Core.Path.{_≡_, ap, _∙_}
 use mathlib.Core.Bool.{true}
-use mathlib.Core.List.{List, _++_}
+use mathlib.Core.List.{List}
 use Prim.Native.Nat.{ℕ, _+_, _≤_, _<_, _^_}
 use native.Mathlib.Nat.{pow-le-pow-right, le-trans}
 use native.Mathlib.Omega.{arith}
 use lib.Dec.{lit<, lit≤}
-use lib.ListN.{length, length-replicate}
-use Rattle.arith.specs.Choice.{bit}
-use Rattle.arith.proofs.Laws.{bit-le}
+use lib.ListN.{length, take, replicate, length-replicate}
 use Rattle.endian.specs.Bytes.{beAt}
 use Rattle.endian.specs.Fields.{part}
 use Rattle.geometry.specs.declared.Geometry.{Geometry}
-use Rattle.geometry.specs.declared.Computed.{Computed}
 use Rattle.answers.specs.Named.{namedAnswer, namesOf, isAnswer}
 use Rattle.naming.proofs.Exact.{sound, answer-again}
 use Rattle.layout.specs.Bounds.{Bounds}
 use Rattle.layout.proofs.Bounding.{answer-bounds}
 use Rattle.layout.proofs.Inside.{few-blocks}
 use Rattle.sb.specs.declared.SbState.{SbState}
-use Rattle.sb.specs.Superblock.{roCompat, inCompat, sbBytes}
+use Rattle.sb.specs.Superblock.{sbBytes}
 use Rattle.sb.proofs.Read as read
-use Rattle.plan.specs.declared.AgPlan.{AgPlan}
-use Rattle.frame.specs.Frames.{frameOf}
-use Rattle.head.specs.Head.{zeros, behindBytes, headBytes}
-use Rattle.head.proofs.Lending.{sb-length}
-use Rattle.named.specs.Named.{featuresAt, namesAt, namedBy, uuidAt}
-use Rattle.named.proofs.Inside.{part-inside, at-inside}
+use Rattle.named.specs.Named.{namesAt, namedBy, uuidAt}
+use Rattle.named.proofs.Inside.{same-at, part-first}
 use Rattle.named.proofs.Features.{ro-small, in-small, features-back}
 
 -- what is named fits its field
@@ -58,74 +51,46 @@ small g b =
       sector = omega (arith, s .sector-power);
     }
 
-module _ (g : Geometry) (s : SbState) (ys : List ℕ) (u : length (s .uuid) ≡ 16) (l : length (g .label) ≡ 12) (a : isAnswer g ≡ true) where
+-- a sector of zeros, for the superblock
+abbrev lent : Geometry → List ℕ
+lent g = replicate (g .sectsize) 0
+
+module _ (g : Geometry) (s : SbState) (u : length (s .uuid) ≡ 16) (l : length (g .label) ≡ 12) (a : isAnswer g ≡ true) (xs : List ℕ) (b : take (g .sectsize) xs ≡ sbBytes g s (lent g)) where
   fits : Small g
   fits = small g (answer-bounds g l a)
 
-  -- the sector before the rest
-  abbrev sector : List ℕ
-  sector = sbBytes g s (zeros (g .sectsize))
+  room : 264 ≤ length (lent g)
+  room = let f = fits .sector in let e = length-replicate {A = ℕ} (g .sectsize) 0 in omega arith
 
-  lent : length (zeros (g .sectsize)) ≡ g .sectsize
-  lent = length-replicate {A = ℕ} (g .sectsize) 0
+  bytes-are : (off n : ℕ) → off + n ≤ 264 → part off n xs ≡ part off n (sbBytes g s (lent g))
+  bytes-are off n h = part-first (g .sectsize) off n xs (sbBytes g s (lent g)) (let f = fits .sector in omega arith) b
 
-  room : 264 ≤ length (zeros (g .sectsize))
-  room = let f = fits .sector in let e = lent in omega arith
-
-  long : 264 ≤ length sector
-  long = let r = room in let e = sb-length g s (zeros (g .sectsize)) in omega arith
-
-  number : (n off : ℕ) → off + n ≤ 264 → beAt n off (sector ++ ys) ≡ beAt n off sector
-  number n off h = at-inside n off sector ys (let r = long in omega arith)
-
-  label : part 108 12 (sector ++ ys) ≡ g .label
-  label = part-inside 108 12 sector ys (let r = long in omega arith) ∙ read.label-back g s u l (zeros (g .sectsize)) room
+  number-is : (n off : ℕ) → off + n ≤ 264 → beAt n off xs ≡ beAt n off (sbBytes g s (lent g))
+  number-is n off h = same-at n off xs (sbBytes g s (lent g)) (bytes-are off n h)
 
   -- A SUPERBLOCK NAMES WHAT ITS GEOMETRY NAMES
-  pub names-back : namesAt (sector ++ ys) ≡ namesOf g
+  pub names-back : namesAt xs ≡ namesOf g
   unfolding namesAt namesOf
   names-back =
-      let z = zeros (g .sectsize) in
       rw (
-        number 8 8 (lit≤ tt) ∙ read.dblocks-back g s u l z room (fits .dblocks),
-        number 4 84 (lit≤ tt) ∙ read.agblocks-back g s u l z room (fits .agsize),
-        number 4 4 (lit≤ tt) ∙ read.blocksize-back g s u l z room (fits .blocksize),
-        number 2 102 (lit≤ tt) ∙ read.sectsize-back g s u l z room (fits .sectsize),
-        number 2 104 (lit≤ tt) ∙ read.inodesize-back g s u l z room (fits .inodesize),
-        number 1 127 (lit≤ tt) ∙ read.imaxpct-back g s u l z room (fits .imaxpct),
-        number 4 212 (lit≤ tt) ∙ read.ro-compat-back g s u l z room (ro-small (g .features)),
-        number 4 216 (lit≤ tt) ∙ read.incompat-back g s u l z room (in-small (g .features)),
+        number-is 8 8 (lit≤ tt) ∙ read.dblocks-back g s u l (lent g) room (fits .dblocks),
+        number-is 4 84 (lit≤ tt) ∙ read.agblocks-back g s u l (lent g) room (fits .agsize),
+        number-is 4 4 (lit≤ tt) ∙ read.blocksize-back g s u l (lent g) room (fits .blocksize),
+        number-is 2 102 (lit≤ tt) ∙ read.sectsize-back g s u l (lent g) room (fits .sectsize),
+        number-is 2 104 (lit≤ tt) ∙ read.inodesize-back g s u l (lent g) room (fits .inodesize),
+        number-is 1 127 (lit≤ tt) ∙ read.imaxpct-back g s u l (lent g) room (fits .imaxpct),
+        number-is 4 212 (lit≤ tt) ∙ read.ro-compat-back g s u l (lent g) room (ro-small (g .features)),
+        number-is 4 216 (lit≤ tt) ∙ read.incompat-back g s u l (lent g) room (in-small (g .features)),
         features-back (g .features),
-        label,
+        bytes-are 108 12 (lit≤ tt) ∙ read.label-back g s u l (lent g) room,
       )
 
-  -- AND THAT IS ITS GEOMETRY
-  pub named-back : namedBy (sector ++ ys) ≡ record { number = 0; geometry = g }
+  -- WHICH IS ITS GEOMETRY
+  pub named-back : namedBy xs ≡ record { number = 0; geometry = g }
   unfolding namedBy
   named-back = ap namedAnswer names-back ∙ answer-again g (sound g l a)
 
-  pub uuid-back : uuidAt (sector ++ ys) ≡ s .uuid
+  -- AND ITS UUID
+  pub uuid-back : uuidAt xs ≡ s .uuid
   unfolding uuidAt
-  uuid-back = part-inside 32 16 sector ys (let r = long in omega arith) ∙ read.uuid-back g s u l (zeros (g .sectsize)) room
-
-  pub progress-back : beAt 1 126 (sector ++ ys) ≡ bit (s .inprogress)
-  progress-back = number 1 126 (lit≤ tt) ∙ read.inprogress-back g s u l (zeros (g .sectsize)) room (let b = bit-le (s .inprogress) in omega arith)
-
--- THE SAME OF A WHOLE HEAD
-module _ (g : Geometry) (p : AgPlan) (uuid : List ℕ) (s : SbState) (u : length (s .uuid) ≡ 16) (l : length (g .label) ≡ 12) (a : isAnswer g ≡ true) where
-  pub head-names : namesAt (headBytes g p uuid s) ≡ namesOf g
-  unfolding headBytes
-  head-names = names-back g s (behindBytes (frameOf g p) p uuid) u l a
-
-  pub head-named : namedBy (headBytes g p uuid s) ≡ record { number = 0; geometry = g }
-  unfolding headBytes
-  head-named = named-back g s (behindBytes (frameOf g p) p uuid) u l a
-
-  pub head-uuid : uuidAt (headBytes g p uuid s) ≡ s .uuid
-  unfolding headBytes
-  head-uuid = uuid-back g s (behindBytes (frameOf g p) p uuid) u l a
-
-  -- the byte of sb_inprogress
-  pub head-progress : beAt 1 126 (headBytes g p uuid s) ≡ bit (s .inprogress)
-  unfolding headBytes
-  head-progress = progress-back g s (behindBytes (frameOf g p) p uuid) u l a
+  uuid-back = bytes-are 32 16 (lit≤ tt) ∙ read.uuid-back g s u l (lent g) room

@@ -1,25 +1,25 @@
--- A field that lies in the first of two lists, and bytes of a part.
+-- Parts of a list of bytes: the numbers that they hold, their length, and that they hold bytes.
 -- Assumes nothing.
 use mathlib.Core.Path.{_≡_, ap, sym, _∙_}
-use mathlib.Core.List.{List, [], _∷_, _++_}
+use mathlib.Core.List.{List, [], _∷_}
 use Prim.Native.Nat.{ℕ, zero, suc, _+_, _≤_, _<_}
 use native.Mathlib.Omega.{arith}
 use lib.ListN.{length, take, drop, getD, length-drop}
-use lib.Seq.{take-append-le, drop-append-le, getD-drop, length-take-le}
+use lib.Seq.{getD-drop, length-take-le}
 use Rattle.endian.specs.Bytes.{beAt}
 use Rattle.endian.specs.Fields.{part}
 use Rattle.endian.proofs.Fields.{at-part}
-
-pub part-inside : (off n : ℕ) (xs ys : List ℕ) → off + n ≤ length xs → part off n (xs ++ ys) ≡ part off n xs
-part-inside off n xs ys h =
-    ap (take n) (drop-append-le off xs ys (omega arith)) ∙ take-append-le n (drop off xs) ys (let e = length-drop off xs in omega arith)
+use Rattle.endian.proofs.Consecutive.{part-part}
 
 -- equal parts hold equal numbers
 pub same-at : (n off : ℕ) (xs ys : List ℕ) → part off n xs ≡ part off n ys → beAt n off xs ≡ beAt n off ys
 same-at n off xs ys e = at-part n off xs ∙ ap (beAt n 0) e ∙ sym (at-part n off ys)
 
-pub at-inside : (n off : ℕ) (xs ys : List ℕ) → off + n ≤ length xs → beAt n off (xs ++ ys) ≡ beAt n off xs
-at-inside n off xs ys h = same-at n off (xs ++ ys) xs (part-inside off n xs ys h)
+-- a part of the first bytes
+pub part-first : (size off n : ℕ) (xs ys : List ℕ) → off + n ≤ size → take size xs ≡ ys → part off n xs ≡ part off n ys
+part-first size off n xs ys h e =
+    let z : 0 + off ≡ off = omega arith in
+    sym (part-part 0 size off n xs h ∙ ap (λ (k : ℕ). part k n xs) z) ∙ ap (part off n) e
 
 pub part-length : (off n : ℕ) (xs : List ℕ) → off + n ≤ length xs → length (part off n xs) ≡ n
 part-length off n xs h = length-take-le n (drop off xs) (let e = length-drop off xs in omega arith)
