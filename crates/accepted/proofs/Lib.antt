@@ -1,2 +1,5 @@
 pub mod Bytes
 pub mod Runs
+pub mod Alike
+pub mod Finished
+pub mod Superblocks
