@@ -3,3 +3,4 @@ pub mod Runs
 pub mod Alike
 pub mod Finished
 pub mod Superblocks
+pub mod Sound
