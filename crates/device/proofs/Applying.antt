@@ -13,7 +13,7 @@ use lib.Seq.{length-take-le, take-add}
 use Rattle.seqs.specs.Lists.{choose, both}
 use Rattle.records.specs.Records.{Record, WZ, WB, FL, All, blocks}
 use Rattle.device.specs.Device.{Device, at, len, byte, step, applied, read, Misses, Fits, Rising}
-use Rattle.device.proofs.Reading.{read-is, read-same, read-append}
+use Rattle.device.proofs.Reading.{getD-read, read-is, read-same, read-append}
 
 -- ---- one record
 
@@ -35,6 +35,18 @@ pub zeros-left : (at n off m : ℕ) (d : Device) → at ≤ off → off + m ≤ 
 zeros-left at n off m d h k =
     read-is _ off m (replicate m 0) (length-replicate m 0)
     (λ i l. step-hit (WZ at n) d (off + i) (omega arith) (omega arith) ∙ sym (getD-replicate m i 0 0 l))
+
+stay-zero : (t : Bool) (v : ℕ) → v ≡ 0 → choose t 0 v ≡ 0
+stay-zero true v e = refl
+stay-zero false v e = e
+
+pub zeros-stay : (at m off n : ℕ) (d : Device) → read d off n ≡ replicate n 0 → read (step (WZ at m) d) off n ≡ replicate n 0
+unfolding step
+zeros-stay at m off n d e =
+    read-is _ off n (replicate n 0) (length-replicate n 0)
+    (λ i h.
+    let z : getD (replicate n 0) i 0 ≡ 0 = getD-replicate n i 0 0 h in
+    stay-zero (both (leb at (off + i)) (ltb (off + i) (at + m))) (d (off + i)) (sym (getD-read d off n i h) ∙ ap (λ (xs : List ℕ). getD xs i 0) e ∙ z) ∙ sym z)
 
 pub bytes-left : (off n : ℕ) (bytes : List ℕ) (d : Device) → length bytes ≡ n → read (step (WB off bytes) d) off n ≡ bytes
 bytes-left off n bytes d e =

@@ -13,6 +13,12 @@ unfolding read
 length-read d off zero = refl
 length-read d off (suc n) = ap suc (length-read d (suc off) n)
 
+pub getD-read : (d : Device) (off n i : ℕ) → i < n → getD (read d off n) i 0 ≡ d (off + i)
+unfolding read
+getD-read d off zero i h = absurd (omega arith)
+getD-read d off (suc n) zero h = let z : off + 0 ≡ off = omega arith in rw z
+getD-read d off (suc n) (suc i) h = let z : off + suc i ≡ suc off + i = omega arith in rw z (getD-read d (suc off) n i (omega arith))
+
 -- a list that has the device's bytes is what is read
 pub read-is : (d : Device) (off n : ℕ) (xs : List ℕ) → length xs ≡ n → ((i : ℕ) → i < n → d (off + i) ≡ getD xs i 0) → read d off n ≡ xs
 unfolding read

@@ -1,8 +1,8 @@
 -- What a run leaves on a device, whatever stood there.
 -- Assumes nothing.
-use mathlib.Core.Path.{_≡_, refl, sym, ap, _∙_}
+use mathlib.Core.Path.{_≡_, refl, sym, ap, ap₂, _∙_}
 use mathlib.Core.List.{List, [], _∷_, _++_, append-assoc}
-use mathlib.Core.Logic.{⊎-elim}
+use mathlib.Core.Logic.{_⊎_, ⊎-elim}
 use Prim.Native.Nat.{ℕ, zero, suc, _+_, _-_, _*_, _≤_, _<_}
 use native.Mathlib.Omega.{arith}
 use borrow.Author.Tests.{ne-eqb}
@@ -17,8 +17,8 @@ use Rattle.records.specs.Records.{Record, WZ, WB, FL, All, blocks}
 use Rattle.records.proofs.Blocks.{all-append}
 use Rattle.device.specs.Device.{Device, step, applied, read, Misses}
 use Rattle.device.proofs.Reading.{read-split, read-first, read-behind, drop-agree}
-use Rattle.device.proofs.Applying.{applied-append, missed, missed-after, step-missed, zeros-left, bytes-left, blocks-left}
-use Rattle.written.specs.Listing.{opening, headRecords, headsTo, chunkRecords, closing, listOf, logOffset, logBlock, headBlocks, headerBlocks, chunkBlocks, headWritten, headFinished, headLeft}
+use Rattle.device.proofs.Applying.{applied-append, missed, missed-after, step-missed, zeros-left, zeros-stay, bytes-left, blocks-left}
+use Rattle.written.specs.Listing.{whackSize, blocksEnd, tailStart, opening, headRecords, headsTo, chunkRecords, closing, listOf, logOffset, logBlock, headBlocks, headerBlocks, chunkBlocks, headWritten, headFinished, headLeft}
 use Rattle.written.specs.Sound.{Sound}
 use Rattle.written.specs.Left.{headAt, headSize, headerSize, logSize, chunkAt, chunkSize, Left, unfinished}
 use Rattle.written.proofs.Spans.{Spans, spans}
@@ -62,13 +62,20 @@ module _ (run : Run) (device : ℕ) (s : Sound run device) where
       (missed-after (headAt run k) (headSize run) heads (chunkRecords run) (applied (opening run device) d) (alone run device s k h .chunk)
       ∙ heads-left (run .geometry .agcount) k h (omega arith) (applied (opening run device) d))
 
-  log-missed : All (Misses (logOffset (run .geometry)) (logSize run)) (headsTo run (run .geometry .agcount) ++ chunkRecords run)
-  log-missed =
-      let p = spans run device s in
-      let off = logOffset (run .geometry) in
-      all-append (Misses off (logSize run)) (headsTo run (run .geometry .agcount)) (chunkRecords run)
-      (heads-miss run off (logSize run) (run .geometry .agcount) (λ k h. head-miss run off (logSize run) k (λ x a b c d. log-apart run device s k x c d a b)))
-      (chunk-miss run off (logSize run) (λ x a b c d. omega (arith, p .log-chunk)))
+  -- ---- the opening
+
+  -- what it leaves stays, where no head, no root chunk and no header block lies
+  after-opening : (off n : ℕ) (d : Device)
+      → ((k x : ℕ) → k < run .geometry .agcount → off ≤ x → x < off + n → headAt run k ≤ x → x < headAt run k + headSize run → ⊥)
+      → ((x : ℕ) → off ≤ x → x < off + n → chunkAt run ≤ x → x < chunkAt run + chunkSize run → ⊥)
+      → headerSize run ≤ off → read (applied (listOf run device) d) off n ≡ read (applied (opening run device) d) off n
+  unfolding listOf
+  after-opening off n d heads chunk h =
+      let groups = run .geometry .agcount in
+      missed-after off n (opening run device) (headsTo run groups ++ (chunkRecords run ++ closing run)) d
+      (all-append (Misses off n) (headsTo run groups) (chunkRecords run ++ closing run)
+      (heads-miss run off n groups (λ k c. head-miss run off n k (λ x. heads k x c)))
+      (all-append (Misses off n) (chunkRecords run) (closing run) (chunk-miss run off n chunk) (closing-miss run off n h)))
 
   opening-log : (d : Device) → read (applied (opening run device) d) (logOffset (run .geometry)) (logSize run)
       ≡ logBlock (run .geometry) (run .uuid) ++ zeros (logSize run - run .geometry .blocksize)
@@ -77,18 +84,31 @@ module _ (run : Run) (device : ℕ) (s : Sound run device) where
       let p = spans run device s in
       let off = logOffset (run .geometry) in
       let bs = run .geometry .blocksize in
-      let block = logBlock (run .geometry) (run .uuid) in
-      let l : length block ≡ bs = s .log-long in
-      let n : bs ≤ logSize run = p .log-some in
-      read-split _ off bs (logSize run) n
-      ∙ rw (bytes-left off bs block _ l, step-missed (off + bs) (logSize run - bs) (WB off block) _ (λ x a b c d. omega arith), zeros-left off (logSize run) (off + bs) (logSize run - bs) _ (omega arith) (omega arith))
+      let rest = logSize run - bs in
+      read-split _ off bs (logSize run) (p .log-some)
+      ∙ ap₂ (λ (xs : List ℕ) (ys : List ℕ). xs ++ ys) (bytes-left off bs (logBlock (run .geometry) (run .uuid)) _ (s .log-long))
+      (step-missed (off + bs) rest _ _ (λ x a b c d. omega (arith, s .log-long)) ∙ zeros-left off _ (off + bs) rest _ (omega arith) (omega arith))
 
-  unfinished-log : (d : Device) → read (applied (unfinished run device) d) (logOffset (run .geometry)) (logSize run)
-      ≡ logBlock (run .geometry) (run .uuid) ++ zeros (logSize run - run .geometry .blocksize)
-  unfolding unfinished
-  unfinished-log d =
-      missed-after (logOffset (run .geometry)) (logSize run) (opening run device) (headsTo run (run .geometry .agcount) ++ chunkRecords run) d log-missed
-      ∙ opening-log d
+  opening-start : (off n : ℕ) (d : Device) → off + n ≤ whackSize → read (applied (opening run device) d) off n ≡ zeros n
+  unfolding opening applied
+  opening-start off n d h =
+      let p = spans run device s in
+      let one = p .start 1 (omega arith) in
+      let tail = p .end 1 (omega (arith, s .two)) in
+      let log = p .log-after 1 (omega (arith, s .log-not-first)) in
+      step-missed off n _ _ (λ x a b c d. omega arith)
+      ∙ zeros-stay _ _ off n _ (zeros-stay _ _ off n _ (zeros-left 0 _ off n d (omega arith) (omega (arith, p .tail-ends))))
+
+  opening-end : (d : Device) → read (applied (opening run device) d) (tailStart (run .geometry .blocksize) device) (blocksEnd (run .geometry .blocksize) device - tailStart (run .geometry .blocksize) device)
+      ≡ zeros (blocksEnd (run .geometry .blocksize) device - tailStart (run .geometry .blocksize) device)
+  unfolding opening applied
+  opening-end d =
+      let p = spans run device s in
+      let bs = run .geometry .blocksize in
+      let off = tailStart bs device in
+      let n = blocksEnd bs device - off in
+      step-missed off n _ _ (λ x a b c d. omega (arith, p .log-tail, s .log-long))
+      ∙ zeros-stay _ _ off n _ (zeros-left off _ off n _ (omega arith) (omega arith))
 
   unfinished-chunk : (d : Device) → read (applied (unfinished run device) d) (chunkAt run) (chunkSize run)
       ≡ chunkBytes (run .geometry) (rootChunk (run .geometry)) (run .uuid) (run .time) (run .seed)
@@ -151,10 +171,32 @@ module _ (run : Run) (device : ℕ) (s : Sound run device) where
 
   list-log : (d : Device) → read (applied (listOf run device) d) (logOffset (run .geometry)) (logSize run)
       ≡ logBlock (run .geometry) (run .uuid) ++ zeros (logSize run - run .geometry .blocksize)
-  list-log d = let p = spans run device s in list-same (logOffset (run .geometry)) (logSize run) (omega arith) d ∙ unfinished-log d
+  list-log d =
+      let p = spans run device s in
+      after-opening (logOffset (run .geometry)) (logSize run) d (λ k x c a b e f. log-apart run device s k x e f a b) (λ x a b e f. omega (arith, p .log-chunk)) (omega arith)
+      ∙ opening-log d
+
+  list-start : (off n : ℕ) (d : Device) → headSize run ≤ off → off + n ≤ whackSize → (off + n ≤ chunkAt run) ⊎ (chunkAt run + chunkSize run ≤ off)
+      → read (applied (listOf run device) d) off n ≡ zeros n
+  list-start off n d h k c =
+      let p = spans run device s in
+      after-opening off n d heads (λ x a b e f. ⊎-elim (λ (l : off + n ≤ chunkAt run). omega arith) (λ (l : chunkAt run + chunkSize run ≤ off). omega arith) c) (omega arith)
+      ∙ opening-start off n d k
+    where
+      heads : (j x : ℕ) → j < run .geometry .agcount → off ≤ x → x < off + n → headAt run j ≤ x → x < headAt run j + headSize run → ⊥
+      heads zero x l a b e f = let p = spans run device s in omega (arith, p .first)
+      heads (suc j) x l a b e f = let p = spans run device s in omega (arith, p .start (suc j) (omega arith))
+
+  list-end : (d : Device) → read (applied (listOf run device) d) (tailStart (run .geometry .blocksize) device) (blocksEnd (run .geometry .blocksize) device - tailStart (run .geometry .blocksize) device)
+      ≡ zeros (blocksEnd (run .geometry .blocksize) device - tailStart (run .geometry .blocksize) device)
+  list-end d =
+      let p = spans run device s in
+      let tail = p .end 1 (omega (arith, s .two)) in
+      after-opening _ _ d (λ k x c a b e f. omega (arith, p .end k c)) (λ x a b e f. omega (arith, p .chunk-heads 1 (omega arith))) (omega arith)
+      ∙ opening-end d
 
   -- WHAT A RUN LEAVES, WHATEVER STOOD THERE
-  pub left : (d : Device) → Left run (applied (listOf run device) d)
+  pub left : (d : Device) → Left run device (applied (listOf run device) d)
   left d =
       let p = spans run device s in
       let off = logOffset (run .geometry) in
@@ -166,4 +208,6 @@ module _ (run : Run) (device : ℕ) (s : Sound run device) where
         log = read-first _ off bs (logSize run) (p .log-some) ∙ ap (take bs) (list-log d) ∙ take-at block rest bs (s .log-long);
         log-rest = read-behind _ off bs (logSize run) (p .log-some) ∙ ap (drop bs) (list-log d) ∙ drop-at block rest bs (s .log-long);
         chunk = list-same (chunkAt run) (chunkSize run) (omega arith) d ∙ unfinished-chunk d;
+        start = λ o n h k c. list-start o n d h k c;
+        end = list-end d;
       }

@@ -30,6 +30,7 @@ pub record Spans (run : Run) (device : ℕ) : Type 0 where
   pub end : (k : ℕ) → k < run .geometry .agcount → headAt run k + headSize run ≤ tailStart (run .geometry .blocksize) device
   pub tail-ends : tailStart (run .geometry .blocksize) device ≤ blocksEnd (run .geometry .blocksize) device
   pub blocks-end : blocksEnd (run .geometry .blocksize) device ≤ device
+  pub log-tail : logOffset (run .geometry) + run .geometry .blocksize ≤ tailStart (run .geometry .blocksize) device
   pub log-ends : logOffset (run .geometry) + logSize run ≤ device
 
 -- over plain numbers: s blocks of bs bytes a group, heads of h blocks
@@ -81,6 +82,7 @@ module _ (run : Run) (device : ℕ) (s : Sound run device) where
       let log : g .«log_agbno» * bs + logSize run ≤ n * bs = omega (arith, mul-le-mul-right bs (s .log-room)) in
       let zero-group : 0 * n * bs ≡ 0 = omega arith in
       let later : (k : ℕ) → 0 < k → n * bs ≤ k * n * bs = λ k h. omega (arith, apart 0 k h) in
+      let log-inside : byteOf bs n (g .logagno) (g .«log_agbno») + logSize run ≤ device = omega (arith, at (g .logagno) (g .«log_agbno»), mul-le-mul-right bs (s .log-inside), s .inside) in
       record {
         first = omega (arith, at 0 0);
         heads = λ j k h. omega (arith, at j 0, at k 0, apart j k h);
@@ -96,7 +98,8 @@ module _ (run : Run) (device : ℕ) (s : Sound run device) where
         end = λ k h. ends k h;
         tail-ends = tail-low bs device;
         blocks-end = end-low bs device;
-        log-ends = omega (arith, at (g .logagno) (g .«log_agbno»), mul-le-mul-right bs (s .log-inside), s .inside);
+        log-tail = omega (arith, log-inside, tail-high bs device (omega (arith, s .block-least)), s .block-most, s .log-least);
+        log-ends = log-inside;
       }
     where
       log-behind : (k : ℕ) → k ≤ run .geometry .logagno → headAt run k + headSize run ≤ byteOf (run .geometry .blocksize) (run .geometry .agsize) (run .geometry .logagno) (run .geometry .«log_agbno»)

@@ -3,7 +3,7 @@
 use mathlib.Core.Path.{_≡_}
 use mathlib.Core.List.{List, _++_}
 use mathlib.Core.Logic.{_⊎_}
-use Prim.Native.Nat.{ℕ, _+_, _*_, _-_, _<_}
+use Prim.Native.Nat.{ℕ, _+_, _*_, _-_, _<_, _≤_}
 use lib.ListN.{take, drop}
 use Rattle.layout.specs.Places.{byteOf}
 use Rattle.places.specs.Answers.{rootChunk}
@@ -12,7 +12,7 @@ use Rattle.rootchunk.specs.Chunk.{chunkBytes}
 use Rattle.run.specs.declared.Run.{Run}
 use Rattle.records.specs.Records.{Record, All}
 use Rattle.device.specs.Device.{Device, read, Misses}
-use Rattle.written.specs.Listing.{headBlocks, headerBlocks, chunkBlocks, logOffset, logBlock, headWritten, headLeft, opening, headRecords, headsTo, chunkRecords, closing}
+use Rattle.written.specs.Listing.{whackSize, blocksEnd, tailStart, headBlocks, headerBlocks, chunkBlocks, logOffset, logBlock, headWritten, headLeft, opening, headRecords, headsTo, chunkRecords, closing}
 
 -- ---- where the parts lie, in bytes
 
@@ -35,7 +35,7 @@ abbrev pub chunkSize : Run → ℕ
 chunkSize run = chunkBlocks (run .geometry) * run .geometry .blocksize
 
 -- ---- what stands on the device after the whole list
-pub record Left (run : Run) (d : Device) : Type 0 where
+pub record Left (run : Run) (device : ℕ) (d : Device) : Type 0 where
   -- in every group its head: group 0's with the finished superblock
   pub head : (k : ℕ) → k < run .geometry .agcount → read d (headAt run k) (headSize run) ≡ headLeft (run .geometry) (run .uuid) k
   -- the log's first block, and zeros behind it
@@ -43,6 +43,10 @@ pub record Left (run : Run) (d : Device) : Type 0 where
   pub log-rest : read d (logOffset (run .geometry) + run .geometry .blocksize) (logSize run - run .geometry .blocksize) ≡ zeros (logSize run - run .geometry .blocksize)
   -- the root chunk
   pub chunk : read d (chunkAt run) (chunkSize run) ≡ chunkBytes (run .geometry) (rootChunk (run .geometry)) (run .uuid) (run .time) (run .seed)
+  -- zeros at the start of the device, where neither group 0's head nor the root chunk lies, and at its end
+  pub start : (off n : ℕ) → headSize run ≤ off → off + n ≤ whackSize → (off + n ≤ chunkAt run) ⊎ (chunkAt run + chunkSize run ≤ off) → read d off n ≡ zeros n
+  pub end : read d (tailStart (run .geometry .blocksize) device) (blocksEnd (run .geometry .blocksize) device - tailStart (run .geometry .blocksize) device)
+      ≡ zeros (blocksEnd (run .geometry .blocksize) device - tailStart (run .geometry .blocksize) device)
 
 -- ---- which records touch group k's head: its own alone, and in group 0 also the first zeros and the finished header blocks
 pub record Alone (run : Run) (device k : ℕ) : Type 0 where
