@@ -208,6 +208,7 @@ sound r a =
       head-most = z .places .head-most;
       group-least = z .groups .group-least;
       last-least = z .groups .last-least;
+      log-least = z .places .log-bytes;
       head-long = λ k h. head-long g uuid l p k h (stateOf g uuid k);
       finished-long = head-long g uuid l p 0 (omega arith) (finishedState g uuid);
       log-long = log-long g z uuid;
