@@ -1,7 +1,6 @@
 -- The geometry that bytes name is an answer of the geometry step.
 -- Assumes nothing.
-use mathlib.Core.Path.{_≡_, refl, ap, sym, _∙_}
-use mathlib.Core.Bool.{true}
+use mathlib.Core.Path.{_≡_, ap, sym, _∙_}
 use mathlib.Core.List.{List}
 use Prim.Native.Nat.{ℕ, _*_, _^_, _≤_}
 use native.Mathlib.Omega.{arith}
@@ -10,7 +9,6 @@ use lib.Dec.{ltb}
 use lib.ListN.{length}
 use Rattle.arith.proofs.Both.{left-true}
 use Rattle.geometry.specs.declared.Computed.{Computed}
-use Rattle.geometry.specs.Compute.{computeDef}
 use Rattle.answers.specs.declared.Named.{Named}
 use Rattle.answers.specs.Named.{namedOptions, namedOn, namedFits, namedAnswer}
 use Rattle.naming.specs.Answers.{Answered}

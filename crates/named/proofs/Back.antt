@@ -1,6 +1,6 @@
 -- Bytes that begin with a superblock name its geometry and UUID, whatever its state is and whatever stands behind it.
 -- Assumes nothing.
-use mathlib.Core.Path.{_≡_, ap, _∙_}
+use mathlib.Core.Path.{_≡_, ap, ap₂, _∙_}
 use mathlib.Core.Bool.{true}
 use mathlib.Core.List.{List}
 use Prim.Native.Nat.{ℕ, _+_, _≤_, _<_, _^_}
@@ -19,7 +19,7 @@ use Rattle.layout.proofs.Inside.{few-blocks}
 use Rattle.sb.specs.declared.SbState.{SbState}
 use Rattle.sb.specs.Superblock.{sbBytes}
 use Rattle.sb.proofs.Read as read
-use Rattle.named.specs.Named.{namesAt, namedBy, uuidAt}
+use Rattle.named.specs.Named.{featuresAt, namesAt, namedBy, uuidAt}
 use Rattle.named.proofs.Inside.{same-at, part-first}
 use Rattle.named.proofs.Features.{ro-small, in-small, features-back}
 
@@ -72,18 +72,27 @@ module _ (g : Geometry) (s : SbState) (u : length (s .uuid) ≡ 16) (l : length 
   pub names-back : namesAt xs ≡ namesOf g
   unfolding namesAt namesOf
   names-back =
-      rw (
-        number-is 8 8 (lit≤ tt) ∙ read.dblocks-back g s u l (lent g) room (fits .dblocks),
-        number-is 4 84 (lit≤ tt) ∙ read.agblocks-back g s u l (lent g) room (fits .agsize),
-        number-is 4 4 (lit≤ tt) ∙ read.blocksize-back g s u l (lent g) room (fits .blocksize),
-        number-is 2 102 (lit≤ tt) ∙ read.sectsize-back g s u l (lent g) room (fits .sectsize),
-        number-is 2 104 (lit≤ tt) ∙ read.inodesize-back g s u l (lent g) room (fits .inodesize),
-        number-is 1 127 (lit≤ tt) ∙ read.imaxpct-back g s u l (lent g) room (fits .imaxpct),
-        number-is 4 212 (lit≤ tt) ∙ read.ro-compat-back g s u l (lent g) room (ro-small (g .features)),
-        number-is 4 216 (lit≤ tt) ∙ read.incompat-back g s u l (lent g) room (in-small (g .features)),
-        features-back (g .features),
-        bytes-are 108 12 (lit≤ tt) ∙ read.label-back g s u l (lent g) room,
-      )
+      let d = number-is 8 8 (lit≤ tt) ∙ read.dblocks-back g s u l (lent g) room (fits .dblocks) in
+      let n = number-is 4 84 (lit≤ tt) ∙ read.agblocks-back g s u l (lent g) room (fits .agsize) in
+      let block = number-is 4 4 (lit≤ tt) ∙ read.blocksize-back g s u l (lent g) room (fits .blocksize) in
+      let sector = number-is 2 102 (lit≤ tt) ∙ read.sectsize-back g s u l (lent g) room (fits .sectsize) in
+      let inode = number-is 2 104 (lit≤ tt) ∙ read.inodesize-back g s u l (lent g) room (fits .inodesize) in
+      let percent = number-is 1 127 (lit≤ tt) ∙ read.imaxpct-back g s u l (lent g) room (fits .imaxpct) in
+      let ro = number-is 4 212 (lit≤ tt) ∙ read.ro-compat-back g s u l (lent g) room (ro-small (g .features)) in
+      let incompat = number-is 4 216 (lit≤ tt) ∙ read.incompat-back g s u l (lent g) room (in-small (g .features)) in
+      let on = ap₂ featuresAt ro incompat ∙ features-back (g .features) in
+      let label = bytes-are 108 12 (lit≤ tt) ∙ read.label-back g s u l (lent g) room in
+      λ i.
+      record {
+        dblocks = d i;
+        agsize = n i;
+        blocksize = block i;
+        sectsize = sector i;
+        inodesize = inode i;
+        imaxpct = percent i;
+        features = on i;
+        label = label i;
+      }
 
   -- WHICH IS ITS GEOMETRY
   pub named-back : namedBy xs ≡ record { number = 0; geometry = g }
