@@ -1,19 +1,15 @@
 -- What the reader needs of a head and a log block that an accepted run leaves: their lengths, and what group 0's names.
 -- Assumes nothing.
-use mathlib.Core.Path.{_≡_, refl, ap, sym, _∙_}
-use mathlib.Core.Bool.{Bool, true, false}
+use mathlib.Core.Path.{_≡_}
+use mathlib.Core.Bool.{true}
 use mathlib.Core.List.{List}
-use Prim.Native.Nat.{ℕ, _*_, _^_, _<_, _≤_}
+use Prim.Native.Nat.{ℕ, _^_, _<_, _≤_}
 use native.Mathlib.Nat.{pow-le-pow-right, mul-le-mul-right}
 use native.Mathlib.Omega.{arith}
-use borrow.Author.Tests.{eqb-true}
 use lib.Dec.{eqb, lit<}
 use lib.ListN.{length}
-use Rattle.seqs.specs.Lists.{choose}
 use Rattle.seqs.proofs.Laws.{choose-elim}
 use Rattle.geometry.specs.declared.Geometry.{Geometry}
-use Rattle.geometry.specs.declared.Computed.{Computed}
-use Rattle.geometry.specs.Log.{preallocOf}
 use Rattle.naming.specs.Answers.{TypedGeometry}
 use Rattle.answers.specs.Named.{namesOf, isAnswer}
 use Rattle.layout.specs.Bounds.{Bounds}
@@ -22,7 +18,7 @@ use Rattle.counts.proofs.Room.{prealloc-pos}
 use Rattle.plan.specs.Plan.{planned}
 use Rattle.sameplan.specs.Same.{isPlan}
 use Rattle.sameplan.proofs.Planners.{planned-is-plan}
-use Rattle.head.specs.Head.{headBytes, headLength}
+use Rattle.head.specs.Head.{headLength}
 use Rattle.head.proofs.Bytes.{head-first, head-length}
 use Rattle.states.specs.States.{finishedState, stateOf}
 use Rattle.written.specs.Listing.{logBlock, headWritten, headFinished, headLeft}

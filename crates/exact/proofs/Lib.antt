@@ -7,3 +7,4 @@ pub mod Recovery
 pub mod Whole
 pub mod Numbers
 pub mod Refused
+pub mod Example

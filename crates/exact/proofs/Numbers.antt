@@ -5,14 +5,13 @@ use mathlib.Core.List.{List, [], _∷_}
 use Prim.Native.Nat.{ℕ}
 use lib.Dec.{T, eqb, leb}
 use Rattle.arith.specs.Choice.{when}
-use Rattle.endian.specs.Answer.{wrongLength}
 use Rattle.endian.proofs.Fields.{and-left, and-right}
 use Rattle.refusals.specs.Table.{Refusal, _if_, first}
 use Rattle.geometry.specs.declared.Geometry.{Geometry}
 use Rattle.head.specs.Head.{headLength}
 use Rattle.written.specs.Listing.{logBlock, headLeft}
 use Rattle.named.specs.Named.{namedBy, uuidAt}
-use Rattle.exact.specs.Read.{noGroup, notLeft, noAnswer, firstTests, placeTests, readGroup0, groupNumber, readGroup, readLog}
+use Rattle.exact.specs.Read.{firstTests, placeTests, readGroup0, groupNumber, readGroup, readLog}
 use Rattle.exact.proofs.First.{number-found}
 use Rattle.exact.proofs.Others.{number-read}
 
@@ -38,13 +37,13 @@ first-of ms ((n if false) ∷ ts) t z = first-of ms ts (and-right (oneOf ms n ||
 -- ---- what each can answer
 
 abbrev pub firstNumbers : List ℕ
-firstNumbers = 0 ∷ wrongLength ∷ notLeft ∷ []
+firstNumbers = 0 ∷ 27 ∷ 30 ∷ []
 
 abbrev pub groupNumbers : List ℕ
-groupNumbers = 0 ∷ wrongLength ∷ noGroup ∷ notLeft ∷ noAnswer ∷ []
+groupNumbers = 0 ∷ 27 ∷ 29 ∷ 30 ∷ 31 ∷ []
 
 abbrev pub logNumbers : List ℕ
-logNumbers = 0 ∷ wrongLength ∷ notLeft ∷ noAnswer ∷ []
+logNumbers = 0 ∷ 27 ∷ 30 ∷ 31 ∷ []
 
 pub first-numbers : (xs : List ℕ) → T (oneOf firstNumbers (readGroup0 xs .number))
 unfolding readGroup0 firstTests

@@ -4,7 +4,6 @@ use mathlib.Core.Path.{_≡_, refl, ap, sym, _∙_}
 use mathlib.Core.List.{List}
 use Prim.Native.Nat.{ℕ, _<_}
 use Rattle.geometry.specs.declared.Geometry.{Geometry}
-use Rattle.plan.specs.declared.Planned.{Planned}
 use Rattle.plan.specs.Plan.{planned}
 use Rattle.request.specs.declared.Request.{Request}
 use Rattle.run.specs.Runs.{runOf}
@@ -12,7 +11,6 @@ use Rattle.written.specs.Listing.{logBlock, headLeft}
 use Rattle.accepted.specs.Accepted.{AcceptedRun, Source}
 use Rattle.accepted.proofs.Runs.{source-of}
 use Rattle.exact.specs.Read.{Found, found, readGroup0, readGroup, readLog}
-use Rattle.exact.specs.Left.{Left}
 use Rattle.exact.proofs.Heads.{source-handed}
 use Rattle.exact.proofs.First.{complete-first}
 use Rattle.exact.proofs.Others.{complete-group, exact-log}

@@ -1,15 +1,15 @@
 -- Which bytes are refused, by number: an unfinished group 0 above all.
 -- Assumes nothing.
-use mathlib.Core.Path.{_≡_, refl, ap, sym, _∙_}
-use mathlib.Core.Bool.{Bool, true, false, not}
-use mathlib.Core.List.{List, [], _∷_}
+use mathlib.Core.Path.{_≡_, refl, ap, _∙_}
+use mathlib.Core.Bool.{Bool, true, false}
+use mathlib.Core.List.{List}
 use Prim.Native.Nat.{ℕ, _<_, _≤_}
 use native.Mathlib.Omega.{arith}
 use borrow.Author.Tests.{eq-eqb, ne-eqb, lt-ltb, le-ltb, le-leb, lt-leb}
-use lib.Dec.{eqb, ltb, leb}
+use lib.Dec.{eqb}
 use lib.ListN.{length, getD}
 use Rattle.arith.specs.Choice.{when}
-use Rattle.refusals.specs.Table.{first, _if_}
+use Rattle.refusals.specs.Table.{first}
 use Rattle.geometry.specs.declared.Geometry.{Geometry}
 use Rattle.geometry.specs.declared.Computed.{Computed}
 use Rattle.answers.specs.Named.{isAnswer}
@@ -19,7 +19,7 @@ use Rattle.sameplan.specs.Same.{eqList}
 use Rattle.head.specs.Head.{headLength}
 use Rattle.head.proofs.Bytes.{head-first}
 use Rattle.states.specs.States.{unfinishedState, stateOf}
-use Rattle.written.specs.Listing.{logBlock, headWritten, headFinished, headLeft}
+use Rattle.written.specs.Listing.{headWritten, headFinished, headLeft}
 use Rattle.accepted.specs.Accepted.{Source}
 use Rattle.accepted.specs.Superblocks.{markAt}
 use Rattle.accepted.proofs.Runs.{source-plans, source-answer, source-label, source-uuid}

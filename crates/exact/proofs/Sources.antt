@@ -1,15 +1,12 @@
 -- Every answer of the geometry step whose plans are accepted is the geometry of an accepted run, with any UUID.
 -- Assumes nothing.
-use mathlib.Core.Path.{_≡_, refl, ap, sym, _∙_}
+use mathlib.Core.Path.{_≡_, refl, ap, _∙_}
 use mathlib.Core.Bool.{Bool, true, false}
 use mathlib.Core.List.{List}
-use Prim.Native.Nat.{ℕ, _^_, _<_, _≤_}
-use native.Mathlib.Nat.{pow-le-pow-right, le-trans}
-use native.Mathlib.Omega.{arith}
+use Prim.Native.Nat.{ℕ}
 use borrow.Author.Tests.{eq-eqb}
 use lib.Dec.{lit<}
 use lib.IntN.{pos}
-use lib.ListN.{length, getD}
 use Rattle.params.specs.declared.OptU64.the-variants.{Absent}
 use Rattle.params.specs.declared.OptTime.the-variants.{Absent as AbsentTime}
 use Rattle.params.specs.declared.Presence.the-variants.{Given}
@@ -20,19 +17,15 @@ use Rattle.geometry.specs.declared.Geometry.{Geometry}
 use Rattle.geometry.specs.declared.Computed.{Computed}
 use Rattle.geometry.specs.Compute.{withGroups, withSizes, chosenOf, refusals, refusalOf, geometryOf, computeDef}
 use Rattle.answers.specs.Named.{isAnswer}
-use Rattle.naming.specs.Answers.{TypedOptions, TypedGeometry, TypedAnswer}
+use Rattle.naming.specs.Answers.{TypedOptions, TypedAnswer}
 use Rattle.naming.proofs.Exact.{exact}
 use Rattle.inode.specs.Time.{timeInside, notEarly, shifted, timeNumber}
 use Rattle.request.specs.declared.Request.{Request}
 use Rattle.request.specs.Defaults.{uuidOf, timeOf, seedOf}
 use Rattle.totals.specs.Totals.{plansNumber}
 use Rattle.run.specs.Runs.{stepOf, timeRefusal, runNumber, runOf}
-use Rattle.layout.specs.Bounds.{Bounds}
-use Rattle.layout.proofs.Bounding.{answer-bounds}
-use Rattle.accepted.specs.Accepted.{TypedRequest, AcceptedRun, Source}
-use Rattle.accepted.proofs.Bytes.{below-at}
-use Rattle.accepted.proofs.Runs.{source-answer, source-label, source-label-bytes, source-uuid, source-uuid-bytes}
-use Rattle.exact.specs.Left.{Octets, Handed}
+use Rattle.accepted.specs.Accepted.{TypedRequest, Source}
+use Rattle.exact.specs.Left.{Handed}
 
 -- the options with this UUID, and with neither time nor seed
 abbrev withUuidAlone : Params → List ℕ → Params

@@ -15,7 +15,7 @@ use Rattle.written.specs.Listing.{logBlock, headLeft}
 use Rattle.accepted.specs.Accepted.{Source}
 use Rattle.accepted.proofs.Runs.{source-of}
 use Rattle.exact.specs.Read.{Found, found, readGroup0, readGroup, readLog}
-use Rattle.exact.specs.Left.{Octets, Left, OneRun, ReadWhole}
+use Rattle.exact.specs.Left.{Octets, OneRun, ReadWhole}
 use Rattle.exact.proofs.Heads.{source-handed, some-group}
 use Rattle.exact.proofs.First.{complete-first, exact-first}
 use Rattle.exact.proofs.Others.{group-sound, complete-group, exact-log}

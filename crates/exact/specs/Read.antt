@@ -34,6 +34,13 @@ noAnswer = 31
 abbrev pub leastSector : ℕ
 leastSector = 512
 
+-- 30 if planning refuses some group of the geometry, and 30 unless the bytes are those that are left here
+abbrev pub leftTests : Geometry → List ℕ → List ℕ → List Refusal
+leftTests g left xs =
+    notLeft if not (eqb (plansNumber g) 0)
+    ∷ notLeft if not (eqList eqb xs left)
+    ∷ []
+
 -- ---- group 0
 
 -- what group 0's head gives: the number 0 with geometry, UUID and plan, or a refusal with zeros
@@ -49,15 +56,13 @@ notFound n = record { number = n; geometry = zeroGeometry; uuid = replicate 16 0
 abbrev pub found : Geometry → List ℕ → AgPlan → Found
 found g u p = record { number = 0; geometry = g; uuid = u; plan = p }
 
--- 27 under 512 bytes, then 30 if the superblock names no geometry that the geometry step accepts, then 27, then 30 if planning refuses it or other bytes are left
+-- 27 under 512 bytes, then 30 if the superblock names no geometry that the geometry step accepts, then 27 unless the bytes have its head's length, then 30
 unfoldable pub firstTests : List ℕ → Geometry → List ℕ → List Refusal
 firstTests xs g u =
     wrongLength if ltb (length xs) leastSector
     ∷ notLeft if not (eqb (namedBy xs .number) 0)
     ∷ wrongLength if not (eqb (length xs) (headLength g))
-    ∷ notLeft if not (eqb (plansNumber g) 0)
-    ∷ notLeft if not (eqList eqb xs (headLeft g u 0))
-    ∷ []
+    ∷ leftTests g (headLeft g u 0) xs
 
 unfoldable pub foundAs : ℕ → Geometry → List ℕ → Found
 foundAs n g u = choose (eqb n 0) (found g u (planned g 0 .plan)) (notFound n)
@@ -67,15 +72,13 @@ readGroup0 xs = foundAs (first (firstTests xs (namedBy xs .geometry) (uuidAt xs)
 
 -- ---- any group and the log, with the geometry and the UUID that group 0 gave
 
--- 31, then 29 where the group is not there, 27 unless the bytes have the place's length, then 30 if planning refuses the geometry or other bytes are left
+-- 31, then 29 where the group is not there, then 27 unless the bytes have the place's length, then 30
 unfoldable pub placeTests : Geometry → Bool → ℕ → List ℕ → List ℕ → List Refusal
 placeTests g past size left xs =
     noAnswer if not (isAnswer g)
     ∷ noGroup if past
     ∷ wrongLength if not (eqb (length xs) size)
-    ∷ notLeft if not (eqb (plansNumber g) 0)
-    ∷ notLeft if not (eqList eqb xs left)
-    ∷ []
+    ∷ leftTests g left xs
 
 -- the head of group k: the number 0 with its plan, or a refusal with zeros
 unfoldable pub groupNumber : Geometry → List ℕ → ℕ → List ℕ → ℕ
