@@ -29,7 +29,8 @@ use Rattle.accepted.proofs.Runs.{source-plans}
 use Rattle.named.specs.Named.{namesAt, namedBy, uuidAt}
 use Rattle.named.proofs.Inside.{part-length, part-below}
 use Rattle.named.proofs.Answer.{named-answered, named-label}
-use Rattle.exact.specs.Read.{Found, found, firstTests, foundAs, readGroup0}
+use Rattle.exact.specs.declared.Found.{Found}
+use Rattle.exact.specs.Read.{found, firstTests, foundAs, readGroup0}
 use Rattle.exact.specs.Left.{Octets, Handed, Left}
 use Rattle.exact.proofs.Lists.{same-bytes, own-bytes}
 use Rattle.exact.proofs.Sources.{source}

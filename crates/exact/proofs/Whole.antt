@@ -14,7 +14,8 @@ use Rattle.run.specs.Runs.{runOf}
 use Rattle.written.specs.Listing.{logBlock, headLeft}
 use Rattle.accepted.specs.Accepted.{Source}
 use Rattle.accepted.proofs.Runs.{source-of}
-use Rattle.exact.specs.Read.{Found, found, readGroup0, readGroup, readLog}
+use Rattle.exact.specs.declared.Found.{Found}
+use Rattle.exact.specs.Read.{found, readGroup0, readGroup, readLog}
 use Rattle.exact.specs.Left.{Octets, OneRun, ReadWhole}
 use Rattle.exact.proofs.Heads.{source-handed, some-group}
 use Rattle.exact.proofs.First.{complete-first, exact-first}
