@@ -1,13 +1,17 @@
 -- The geometry that bytes name is an answer of the geometry step.
 -- Assumes nothing.
-use mathlib.Core.Path.{_≡_, ap, sym, _∙_}
+use mathlib.Core.Path.{_≡_, refl, ap, sym, _∙_}
+use mathlib.Core.Bool.{Bool, true, false, _&&_}
 use mathlib.Core.List.{List}
-use Prim.Native.Nat.{ℕ, _*_, _^_, _≤_}
+use Prim.Native.Nat.{ℕ, _*_, _^_, _≤_, _<_}
+use native.Mathlib.Nat.{mul-le-mul-right}
 use native.Mathlib.Omega.{arith}
-use borrow.Author.Tests.{ltb-true}
+use borrow.Author.Tests.{ltb-true, lt-ltb}
 use lib.Dec.{ltb}
-use lib.ListN.{length}
+use lib.ListN.{length, getD}
 use Rattle.arith.proofs.Both.{left-true}
+use Rattle.endian.specs.Bytes.{beAt}
+use Rattle.endian.proofs.Laws.{at-bound}
 use Rattle.geometry.specs.declared.Computed.{Computed}
 use Rattle.answers.specs.declared.Named.{Named}
 use Rattle.answers.specs.Named.{namedOptions, namedOn, namedFits, namedAnswer}
@@ -57,3 +61,21 @@ module _ (xs : List ℕ) (h : 120 ≤ length xs) (z : namedBy xs .number ≡ 0) 
   pub named-label : length (namedBy xs .geometry .label) ≡ 12
   unfolding namedBy
   named-label = label-size (namesAt xs) label-room z
+
+-- ---- bytes that pass 64 bits
+
+product-small : (a b : ℕ) → a < 256 ^ 4 → b < 256 ^ 4 → a * b < 2 ^ 64
+product-small a b h k =
+    let s : a ≤ 4294967295 = omega arith in
+    omega (arith, mul-le-mul-right b s)
+
+and-true : (a b : Bool) → b ≡ true → (a && b) ≡ a
+and-true true b e = e
+and-true false b e = refl
+
+-- of bytes only the block count's can: the geometry step is asked exactly where they don't
+pub fits-by-count : (xs : List ℕ) → ((i : ℕ) → getD xs i 0 < 256) → namedFits (namesAt xs) ≡ ltb (beAt 8 8 xs * beAt 4 4 xs) (2 ^ 64)
+unfolding namedFits namesAt
+fits-by-count xs o =
+    and-true (ltb (beAt 8 8 xs * beAt 4 4 xs) (2 ^ 64)) (ltb (beAt 4 84 xs * beAt 4 4 xs) (2 ^ 64))
+    (lt-ltb (beAt 4 84 xs * beAt 4 4 xs) (2 ^ 64) (product-small (beAt 4 84 xs) (beAt 4 4 xs) (at-bound 4 84 xs o) (at-bound 4 4 xs o)))
