@@ -7,3 +7,4 @@ pub mod Reading
 pub mod Superblocks
 pub mod Sound
 pub mod Heads
+pub mod Stations
