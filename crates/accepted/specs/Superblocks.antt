@@ -39,9 +39,16 @@ marked inprogress s =
 abbrev pub markAt : ℕ
 markAt = 126
 
+-- where sb_crc begins, and where it ends
+abbrev pub crcStart : ℕ
+crcStart = 224
+
+abbrev pub crcEnd : ℕ
+crcEnd = 228
+
 -- the bytes that finishing a run changes: sb_inprogress, and the four of sb_crc
 unfoldable pub changedByte : ℕ → Bool
-changedByte i = eqb i markAt || (leb 224 i && ltb i 228)
+changedByte i = eqb i markAt || (leb crcStart i && ltb i crcEnd)
 
 -- ---- what a run leaves
 
