@@ -8,3 +8,4 @@ pub mod Superblocks
 pub mod Sound
 pub mod Heads
 pub mod Stations
+pub mod Parsed

@@ -41,6 +41,11 @@ pub number-zero : (r : Request) → r .number ≡ 0 → stepOf r .number ≡ 0 �
 unfolding runNumber
 number-zero r e f g h = all-none (r .number) (stepOf r .number) (plansNumber (stepOf r .geometry)) (timeRefusal (stepOf r .geometry) (timeOf (r .params))) e f g h
 
+-- and its records are well-formed
+pub request-zero : (r : Request) → runNumber r ≡ 0 → r .number ≡ 0
+unfolding runNumber
+request-zero r e = none (r .number) _ e .0
+
 module _ (r : Request) (a : AcceptedRun r) where
   -- ---- its numbers
 
