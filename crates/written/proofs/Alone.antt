@@ -1,30 +1,21 @@
 -- No record but those named touches a head.
 -- Assumes nothing.
 use mathlib.Core.Path.{_≡_, refl, sym, ap, _∙_}
-use mathlib.Core.Bool.{Bool, true, false}
 use mathlib.Core.List.{List, [], _∷_, _++_}
-use mathlib.Core.Logic.{_⊎_, inl, inr, ⊎-elim}
+use mathlib.Core.Logic.{⊎-elim}
 use Prim.Native.Nat.{ℕ, zero, suc, _+_, _-_, _*_, _≤_, _<_, min}
 use native.Mathlib.Omega.{arith}
-use borrow.Author.Tests.{ltb-true, ltb-false}
-use lib.Dec.{ltb}
-use lib.ListN.{length, take, drop}
+use lib.ListN.{length}
+use Rattle.seqs.proofs.Laws.{lt-or-le}
 use Rattle.run.specs.declared.Run.{Run}
 use Rattle.records.specs.Records.{Record, WZ, WB, FL, All, blocks}
 use Rattle.records.proofs.Blocks.{all-append}
 use Rattle.device.specs.Device.{at, len, Misses}
 use Rattle.device.proofs.Applying.{blocks-miss}
-use Rattle.written.specs.Listing.{opening, headRecords, headsTo, chunkRecords, closing, logOffset, tailStart, blocksEnd, headBlocks, headerBlocks, chunkBlocks, headFinished}
+use Rattle.written.specs.Listing.{opening, headRecords, chunkRecords, closing, logOffset, tailStart, blocksEnd, headBlocks, headerBlocks, chunkBlocks, headFinished}
 use Rattle.written.specs.Sound.{Sound}
 use Rattle.written.specs.Left.{headAt, headSize, headerSize, logSize, chunkAt, chunkSize, Alone}
 use Rattle.written.proofs.Spans.{Spans, spans}
-
-lt-or-le-at : (a b : ℕ) (t : Bool) → ltb a b ≡ t → (a < b) ⊎ (b ≤ a)
-lt-or-le-at a b true e = inl (ltb-true a b e)
-lt-or-le-at a b false e = inr (ltb-false a b e)
-
-pub lt-or-le : (a b : ℕ) → (a < b) ⊎ (b ≤ a)
-lt-or-le a b = lt-or-le-at a b (ltb a b) refl
 
 -- ---- parts of the list that miss some bytes
 
@@ -33,12 +24,6 @@ module _ (run : Run) (off n : ℕ) where
   pub head-miss : (k : ℕ) → ((x : ℕ) → off ≤ x → x < off + n → headAt run k ≤ x → x < headAt run k + headSize run → ⊥) → All (Misses off n) (headRecords run k)
   unfolding headRecords
   head-miss k f = blocks-miss (run .geometry .blocksize) off n (headAt run k) (headBlocks (run .geometry)) _ f
-
-  -- the heads of the first groups
-  pub heads-miss : (m : ℕ) → ((k : ℕ) → k < m → All (Misses off n) (headRecords run k)) → All (Misses off n) (headsTo run m)
-  unfolding headsTo
-  heads-miss zero f = tt
-  heads-miss (suc m) f = all-append (Misses off n) (headsTo run m) (headRecords run m) (heads-miss m (λ k h. f k (omega arith))) (f m (omega arith))
 
   -- the root chunk
   pub chunk-miss : ((x : ℕ) → off ≤ x → x < off + n → chunkAt run ≤ x → x < chunkAt run + chunkSize run → ⊥) → All (Misses off n) (chunkRecords run)

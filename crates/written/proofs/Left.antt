@@ -1,7 +1,7 @@
 -- What a run leaves on a device, whatever stood there.
 -- Assumes nothing.
 use mathlib.Core.Path.{_≡_, refl, sym, ap, ap₂, _∙_}
-use mathlib.Core.List.{List, [], _∷_, _++_, append-assoc}
+use mathlib.Core.List.{List, [], _∷_, _++_}
 use mathlib.Core.Logic.{_⊎_, ⊎-elim}
 use Prim.Native.Nat.{ℕ, zero, suc, _+_, _-_, _*_, _≤_, _<_}
 use native.Mathlib.Omega.{arith}
@@ -12,6 +12,7 @@ use lib.Seq.{take-all, take-at, drop-at}
 use Rattle.places.specs.Answers.{rootChunk}
 use Rattle.head.specs.Head.{zeros}
 use Rattle.rootchunk.specs.Chunk.{chunkBytes}
+use Rattle.seqs.proofs.Laws.{lt-or-le}
 use Rattle.run.specs.declared.Run.{Run}
 use Rattle.records.specs.Records.{Record, WZ, WB, FL, All, blocks}
 use Rattle.records.proofs.Blocks.{all-append}
@@ -22,12 +23,8 @@ use Rattle.written.specs.Listing.{whackSize, blocksEnd, tailStart, openi
 use Rattle.written.specs.Sound.{Sound}
 use Rattle.written.specs.Left.{headAt, headSize, headerSize, logSize, chunkAt, chunkSize, Left, unfinished}
 use Rattle.written.proofs.Spans.{Spans, spans}
-use Rattle.written.proofs.Alone.{lt-or-le, head-miss, heads-miss, chunk-miss, closing-miss, log-apart, alone}
-
--- the list is what stands before the first flush, and the closing
-pub list-parts : (run : Run) (device : ℕ) → listOf run device ≡ unfinished run device ++ closing run
-unfolding listOf unfinished
-list-parts run device = simp append-assoc
+use Rattle.written.proofs.Parts.{list-parts, heads-all}
+use Rattle.written.proofs.Alone.{head-miss, chunk-miss, closing-miss, log-apart, alone}
 
 module _ (run : Run) (device : ℕ) (s : Sound run device) where
   -- ---- before the first flush
@@ -74,7 +71,7 @@ module _ (run : Run) (device : ℕ) (s : Sound run device) where
       let groups = run .geometry .agcount in
       missed-after off n (opening run device) (headsTo run groups ++ (chunkRecords run ++ closing run)) d
       (all-append (Misses off n) (headsTo run groups) (chunkRecords run ++ closing run)
-      (heads-miss run off n groups (λ k c. head-miss run off n k (λ x. heads k x c)))
+      (heads-all (Misses off n) run groups (λ k c. head-miss run off n k (λ x. heads k x c)))
       (all-append (Misses off n) (chunkRecords run) (closing run) (chunk-miss run off n chunk) (closing-miss run off n h)))
 
   opening-log : (d : Device) → read (applied (opening run device) d) (logOffset (run .geometry)) (logSize run)
