@@ -1,22 +1,21 @@
 -- Until the finished superblock is written, group 0's first block is zeros or the unfinished one.
 -- Assumes nothing.
-use mathlib.Core.Path.{_≡_, refl, sym, ap, _∙_}
+use mathlib.Core.Path.{_≡_, sym, subst, _∙_}
 use mathlib.Core.List.{List, [], _∷_, _++_}
-use mathlib.Core.Logic.{_⊎_, inl, inr, ⊎-elim}
-use Prim.Native.Nat.{ℕ, zero, suc, _+_, _-_, _*_, _≤_, _<_, min}
+use mathlib.Core.Logic.{inl, inr, ⊎-elim}
+use Prim.Native.Nat.{ℕ, zero, suc, _+_, _<_}
 use native.Mathlib.Omega.{arith}
 use lib.ListN.{length, take, drop}
 use lib.Seq.{length-take-le}
-use Rattle.head.specs.Head.{zeros}
 use Rattle.run.specs.declared.Run.{Run}
-use Rattle.records.specs.Records.{Record, WZ, WB, FL, All, blocks}
+use Rattle.records.specs.Records.{Record, FL, All, blocks}
 use Rattle.records.proofs.Blocks.{all-append, all-front, all-map}
-use Rattle.device.specs.Device.{Device, at, len, step, applied, read, Misses}
+use Rattle.device.specs.Device.{Device, step, applied, Misses}
 use Rattle.device.proofs.Applying.{step-missed, zeros-left, bytes-left, blocks-miss, Keeps, kept}
-use Rattle.written.specs.Listing.{whackSize, blocksEnd, tailStart, logOffset, headBlocks, headWritten, opening, headRecords, headsTo, chunkRecords}
+use Rattle.written.specs.Listing.{headBlocks, headWritten, opening, headRecords, headsTo, chunkRecords}
 use Rattle.written.specs.Sound.{Sound}
-use Rattle.written.specs.Left.{headAt, headSize, logSize, unfinished, Early}
-use Rattle.written.proofs.Spans.{Spans, spans}
+use Rattle.written.specs.Left.{headAt, headSize, unfinished, Early}
+use Rattle.written.proofs.Spans.{spans}
 use Rattle.written.proofs.Parts.{heads-all}
 use Rattle.written.proofs.Alone.{alone}
 
@@ -62,16 +61,17 @@ module _ (run : Run) (device : ℕ) (s : Sound run device) where
       (all-append (Keeps (Early run)) hs (chunkRecords run) (heads-all (Keeps (Early run)) run (run .geometry .agcount) heads-keep) (missed-keep (chunkRecords run) (o .chunk)))
       (keep FL (λ x a b c d. omega arith), tt))
 
-  first-early : (d : Device) → Early run (step (WZ 0 (min whackSize (blocksEnd (run .geometry .blocksize) device))) d)
+  first-early : (d : Device) → Early run (applied (take 1 (opening run device)) d)
+  unfolding opening applied
   first-early d =
       let p = spans run device s in
-      inl (zeros-left 0 _ 0 (run .geometry .blocksize) d (omega arith) (omega (arith, s .block-most, p .end 0 (omega (arith, s .two)), p .header-some, p .header-head, p .tail-ends)))
+      inl (zeros-left _ _ 0 (run .geometry .blocksize) d (omega arith) (omega (arith, s .block-most, p .end 0 (omega (arith, s .two)), p .header-some, p .header-head, p .tail-ends)))
 
   -- AFTER EVERY CUT UP TO THE FIRST FLUSH
   pub early : (cut rest : List Record) → cut ++ rest ≡ unfinished run device ++ (FL ∷ []) → 0 < length cut → (d : Device) → Early run (applied cut d)
   unfolding unfinished opening applied
   early [] rest e h d = absurd (omega arith)
   early (r ∷ cut) rest e h d =
-      let first : r ≡ WZ 0 (min whackSize (blocksEnd (run .geometry .blocksize) device)) = cc in
+      let first : r ∷ [] ≡ take 1 (opening run device) = cc in
       let same : cut ++ rest ≡ drop 1 (opening run device) ++ ((headsTo run (run .geometry .agcount) ++ chunkRecords run) ++ (FL ∷ [])) = cc in
-      kept (Early run) cut (step r d) (all-front (Keeps (Early run)) cut rest (rw same rest-keep)) (rw first (first-early d))
+      kept (Early run) cut (step r d) (all-front (Keeps (Early run)) cut rest (rw same rest-keep)) (subst (λ (rs : List Record). Early run (applied rs d)) (sym first) (first-early d))

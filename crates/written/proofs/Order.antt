@@ -1,27 +1,26 @@
 -- The form of a run's list.
 -- Assumes nothing.
-use mathlib.Core.Path.{_≡_, refl, sym, ap, _∙_}
+use mathlib.Core.Path.{_≡_, refl, ap, _∙_}
 use mathlib.Core.List.{List, [], _∷_, _++_}
-use Prim.Native.Nat.{ℕ, zero, suc, _+_, _-_, _*_, _/_, _%_, _≤_, _<_, min}
+use Prim.Native.Nat.{ℕ, zero, suc, _+_, _*_, _≤_, _<_}
 use native.Mathlib.Omega.{arith}
 use native.Mathlib.Nat.{mul-mod-left, zero-mod}
 use lib.ListN.{length}
-use Rattle.layout.specs.Places.{before, byteOf}
+use Rattle.layout.specs.Places.{byteOf}
 use Rattle.places.specs.Answers.{rootChunk}
 use Rattle.rootchunk.specs.Chunk.{chunkBytes}
 use Rattle.run.specs.declared.Run.{Run}
-use Rattle.records.specs.Records.{Record, WZ, WB, FL, All, OneBlock, listBytes}
+use Rattle.records.specs.Records.{WZ, WB, FL, All, OneBlock, listBytes}
 use Rattle.records.proofs.Blocks.{blocks-whole}
 use Rattle.records.proofs.Sizes.{zeros-bytes, block-bytes, flush-bytes, list-nil, list-cons, list-append, blocks-bytes}
-use Rattle.device.specs.Device.{Fits, Rising}
+use Rattle.device.specs.Device.{Fits}
 use Rattle.device.proofs.Applying.{blocks-fit, blocks-rising}
-use Rattle.written.specs.Listing.{whackSize, blocksEnd, tailStart, logOffset, logBlock, headBlocks, headerBlocks, chunkBlocks, headWritten, headFinished, opening, headRecords, headsTo, chunkRecords, headerRecords, closing, listOf, listLength}
+use Rattle.written.specs.Listing.{tailStart, logOffset, headBlocks, headerBlocks, chunkBlocks, headWritten, headFinished, opening, headRecords, headsTo, chunkRecords, headerRecords, closing, listOf, listLength}
 use Rattle.written.specs.Sound.{Sound}
-use Rattle.written.specs.Left.{headAt, headSize, headerSize, logSize, chunkAt, chunkSize}
 use Rattle.written.specs.Order.{Ordered}
 use Rattle.written.proofs.Counts.{list-count}
 use Rattle.written.proofs.Parts.{list-all}
-use Rattle.written.proofs.Spans.{Spans, spans}
+use Rattle.written.proofs.Spans.{spans}
 
 -- three records of zeros and a block's
 zeros-and-block : (a b c d l m n : ℕ) (bytes : List ℕ) → length (listBytes (WZ a l ∷ WZ b m ∷ WZ c n ∷ WB d bytes ∷ [])) ≡ 3 * 18 + (18 + length bytes)
@@ -70,14 +69,14 @@ module _ (run : Run) (device : ℕ) (s : Sound run device) where
       (λ k h. blocks-fit bs device _ _ _ _ refl (omega (arith, p .end k h)))
       (blocks-fit bs device _ _ _ _ refl (omega (arith, p .chunk-heads 1 (omega arith))))
       (zero-mod bs, omega arith)
-      (blocks-fit bs device 0 0 _ _ (omega arith) (omega arith))
+      (blocks-fit bs device 0 _ _ _ (omega arith) (omega arith))
 
   list-whole : All (OneBlock (run .geometry .blocksize)) (listOf run device)
   unfolding opening headRecords chunkRecords
   list-whole =
       let bs = run .geometry .blocksize in
       list-all (OneBlock bs) run device (tt, (tt, (tt, (s .log-long, tt)))) (λ k h. blocks-whole bs _ _ _ (head-room k h)) (blocks-whole bs _ _ _ chunk-room) tt
-      (blocks-whole bs 0 _ _ header-room)
+      (blocks-whole bs _ _ _ header-room)
 
   -- ---- the bytes of the list
 
@@ -85,21 +84,27 @@ module _ (run : Run) (device : ℕ) (s : Sound run device) where
   unfolding opening
   opening-bytes = zeros-and-block _ _ _ _ _ _ _ _ ∙ ap (λ (n : ℕ). 3 * 18 + (18 + n)) (s .log-long)
 
+  head-bytes : (k : ℕ) → k < run .geometry .agcount → length (listBytes (headRecords run k)) ≡ headBlocks (run .geometry) * (18 + run .geometry .blocksize)
+  unfolding headRecords
+  head-bytes k h = blocks-bytes (run .geometry .blocksize) _ _ _ (head-room k h)
+
+  chunk-bytes : length (listBytes (chunkRecords run)) ≡ chunkBlocks (run .geometry) * (18 + run .geometry .blocksize)
+  unfolding chunkRecords
+  chunk-bytes = blocks-bytes (run .geometry .blocksize) _ _ _ chunk-room
+
+  header-bytes : length (listBytes (headerRecords run)) ≡ headerBlocks (run .geometry) * (18 + run .geometry .blocksize)
+  header-bytes = blocks-bytes (run .geometry .blocksize) _ _ _ header-room
+
   heads-bytes : (n : ℕ) → n ≤ run .geometry .agcount → length (listBytes (headsTo run n)) ≡ n * headBlocks (run .geometry) * (18 + run .geometry .blocksize)
-  unfolding headsTo headRecords
+  unfolding headsTo
   heads-bytes zero h = omega (arith, list-nil)
-  heads-bytes (suc n) h =
-      let bytes = headWritten (run .geometry) (run .uuid) n in
-      omega (arith, list-append (headsTo run n) (headRecords run n), heads-bytes n (omega arith), blocks-bytes (run .geometry .blocksize) (headAt run n) (headBlocks (run .geometry)) bytes (head-room n h))
+  heads-bytes (suc n) h = omega (arith, list-append (headsTo run n) (headRecords run n), heads-bytes n (omega arith), head-bytes n h)
 
   list-bytes : length (listBytes (listOf run device)) ≡ listLength (run .geometry)
-  unfolding listOf chunkRecords closing listLength
+  unfolding listOf closing listLength
   list-bytes =
-      let bs = run .geometry .blocksize in
       let hs = headsTo run (run .geometry .agcount) in
       let header = headerRecords run in
-      let chunk = chunkBytes (run .geometry) (rootChunk (run .geometry)) (run .uuid) (run .time) (run .seed) in
-      let finished = headFinished (run .geometry) (run .uuid) in
       omega (
         arith,
         list-append (opening run device) (hs ++ (chunkRecords run ++ closing run)),
@@ -112,8 +117,8 @@ module _ (run : Run) (device : ℕ) (s : Sound run device) where
         flush-bytes,
         opening-bytes,
         heads-bytes (run .geometry .agcount) (omega arith),
-        blocks-bytes bs (chunkAt run) (chunkBlocks (run .geometry)) chunk chunk-room,
-        blocks-bytes bs 0 (headerBlocks (run .geometry)) finished header-room,
+        chunk-bytes,
+        header-bytes,
       )
 
   -- THE FORM OF THE LIST
