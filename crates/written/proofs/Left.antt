@@ -125,7 +125,7 @@ module _ (run : Run) (device : ℕ) (s : Sound run device) where
   closing-header d =
       let p = spans run device s in
       missed-after 0 (headerSize run) (headerRecords run) (FL ∷ []) (step FL d) ((λ x a b c d. omega arith), tt)
-      ∙ blocks-left (run .geometry .blocksize) 0 (headerBlocks (run .geometry)) _ (step FL d) (omega (arith, s .finished-long, p .header-head))
+      ∙ blocks-left (run .geometry .blocksize) 0 (headerBlocks (run .geometry)) _ (step FL d) (omega (arith, s .finished-long, s .head-long 0 (omega (arith, s .two)), p .header-head))
 
   -- behind them the head stays, and the finished head has the same bytes there
   closing-behind : (d : Device) → read d 0 (headSize run) ≡ headWritten (run .geometry) (run .uuid) 0
