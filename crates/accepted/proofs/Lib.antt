@@ -9,3 +9,4 @@ pub mod Sound
 pub mod Heads
 pub mod Stations
 pub mod Parsed
+pub mod Rewritten
