@@ -23,7 +23,7 @@ below-at m [] p b i = p
 below-at m (x ∷ xs) p b zero = b .0
 below-at m (x ∷ xs) p b (suc i) = below-at m xs p (b .1) i
 
-below-take : (m n : ℕ) (xs : List ℕ) → below m xs → below m (take n xs)
+pub below-take : (m n : ℕ) (xs : List ℕ) → below m xs → below m (take n xs)
 below-take m zero xs b = tt
 below-take m (suc n) [] b = tt
 below-take m (suc n) (x ∷ xs) b = (b .0, below-take m n xs (b .1))

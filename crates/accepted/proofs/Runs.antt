@@ -33,6 +33,19 @@ none-at a b false e z = absurd (eqb-false a 0 e z)
 none : (a b : ℕ) → orNext a b ≡ 0 → (a ≡ 0) × (b ≡ 0)
 none a b z = none-at a b (eqb a 0) refl z
 
+all-none : (a b c d : ℕ) → a ≡ 0 → b ≡ 0 → c ≡ 0 → d ≡ 0 → orNext a (orNext b (orNext c d)) ≡ 0
+all-none a b c d e f g h = rw (e, f, g, h) refl
+
+-- what makes a run accepted
+pub number-zero : (r : Request) → r .number ≡ 0 → stepOf r .number ≡ 0 → plansNumber (stepOf r .geometry) ≡ 0 → timeRefusal (stepOf r .geometry) (timeOf (r .params)) ≡ 0 → runNumber r ≡ 0
+unfolding runNumber
+number-zero r e f g h = all-none (r .number) (stepOf r .number) (plansNumber (stepOf r .geometry)) (timeRefusal (stepOf r .geometry) (timeOf (r .params))) e f g h
+
+-- and its records are well-formed
+pub request-zero : (r : Request) → runNumber r ≡ 0 → r .number ≡ 0
+unfolding runNumber
+request-zero r e = none (r .number) _ e .0
+
 module _ (r : Request) (a : AcceptedRun r) where
   -- ---- its numbers
 

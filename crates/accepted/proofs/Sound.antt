@@ -8,7 +8,7 @@ use native.Mathlib.Omega.{arith}
 use native.Mathlib.Nat.{mul-le-mul-right, one-mul}
 use borrow.Author.Tests.{eq-eqb, ltb-false, ne-eqb, le-leb, le-ltb}
 use lib.Dec.{ltb, eqb}
-use lib.Pow.{pow-mono, pow-add}
+use lib.Pow.{pow-add}
 use lib.ListN.{length, replicate, length-append, length-replicate}
 use Rattle.arith.specs.Choice.{when}
 use Rattle.endian.proofs.Fields.{write-length}
@@ -40,36 +40,9 @@ use Rattle.written.specs.Sound.{Sound}
 use Rattle.written.proofs.Whole.{group-planned}
 use Rattle.accepted.specs.Accepted.{AcceptedRun}
 use Rattle.accepted.specs.Superblocks.{changedByte}
+use Rattle.accepted.proofs.Sizes.{block-least, block-most}
 use Rattle.accepted.proofs.Runs.{run-plans, run-bounds, run-label, run-inside}
 use Rattle.accepted.proofs.Finished.{finished-same}
-
--- ---- sizes
-
-module _ (g : Geometry) (z : Bounds g) where
-  block-least : 1024 ≤ g .blocksize
-  block-least =
-      let w : 2 ^ 10 ≤ 2 ^ g .blocklog = pow-mono {i = 10} (z .sizes .block-least) in
-      let e = z .sizes .block-power in
-      omega arith
-
-  block-most : g .blocksize ≤ 16384
-  block-most =
-      let w : 2 ^ g .blocklog ≤ 2 ^ 14 = pow-mono {j = 14} (z .sizes .block-most) in
-      let e = z .sizes .block-power in
-      omega arith
-
-  sector-least : 512 ≤ g .sectsize
-  sector-least =
-      let w : 2 ^ 9 ≤ 2 ^ g .sectlog = pow-mono {i = 9} (z .sizes .sector-least) in
-      let e = z .sizes .sector-power in
-      omega arith
-
-  sector-most : g .sectsize ≤ g .blocksize
-  sector-most =
-      let w : 2 ^ g .sectlog ≤ 2 ^ g .blocklog = pow-mono (z .sizes .sector-block) in
-      let e = z .sizes .sector-power in
-      let f = z .sizes .block-power in
-      omega arith
 
 -- ---- the log's first record
 

@@ -1,18 +1,17 @@
--- The superblocks that an accepted run leaves, read back from its heads: the mark of an unfinished run, the root inode, the free count.
+-- What the heads that an accepted run leaves say: which superblocks name the root inode, what they count as free, which is finished.
 -- Assumes nothing.
-use mathlib.Core.Path.{_≡_, refl, sym, ap, _∙_}
+use mathlib.Core.Path.{_≡_, refl, sym, _∙_}
 use mathlib.Core.Bool.{Bool, true, false, _||_}
 use mathlib.Core.List.{List}
 use mathlib.Core.Logic.{_⊎_, inl, inr}
-use Prim.Native.Nat.{ℕ, _+_, _*_, _-_, _/_, _^_, _≤_, _<_}
+use Prim.Native.Nat.{ℕ, _+_, _-_, _/_, _^_, _<_}
 use native.Mathlib.Omega.{arith}
-use borrow.Author.Tests.{eqb-true, eqb-false}
+use borrow.Author.Tests.{eqb-true}
 use lib.Dec.{eqb, lit<}
-use lib.Pow.{pow-mono}
-use lib.ListN.{length, getD, length-replicate}
+use lib.ListN.{length, getD}
 use Rattle.arith.specs.Choice.{when, bit}
 use Rattle.endian.specs.Bytes.{beAt}
-use Rattle.endian.proofs.Consecutive.{at-inside}
+use Rattle.seqs.specs.Lists.{choose}
 use Rattle.structs.specs.Written.{null64}
 use Rattle.geometry.specs.declared.Geometry.{Geometry}
 use Rattle.layout.specs.Places.{chunkOf, initialFree}
@@ -22,126 +21,119 @@ use Rattle.layout.proofs.Inside.{few-blocks}
 use Rattle.places.specs.Answers.{rootIno, initialFdblocks}
 use Rattle.totals.specs.Totals.{freeCount}
 use Rattle.sb.specs.declared.SbState.{SbState}
-use Rattle.sb.specs.Superblock.{sbBytes}
-use Rattle.sb.proofs.Read.{rootino-back, fdblocks-back, inprogress-back}
 use Rattle.plan.specs.declared.AgPlan.{AgPlan}
 use Rattle.plan.specs.Plan.{planned}
-use Rattle.head.specs.Head.{zeros, headBytes}
-use Rattle.head.proofs.Bytes.{head-first}
+use Rattle.sameplan.proofs.Planners.{planned-group}
+use Rattle.head.specs.Head.{headBytes}
 use Rattle.states.specs.States.{namesRoot, secondaryState, unfinishedState, finishedState, stateOf}
 use Rattle.states.proofs.Known.{root-room}
 use Rattle.states.proofs.Naming.{only-these, secondary-free}
-use Rattle.seqs.specs.Lists.{choose}
 use Rattle.written.specs.Listing.{headWritten, headFinished, headLeft}
+use Rattle.written.proofs.Whole.{group-planned}
 use Rattle.accepted.specs.Accepted.{Source}
-use Rattle.accepted.specs.Superblocks.{markAt, rootField, freeField, rootNamed, freeNamed}
+use Rattle.accepted.specs.Superblocks.{markAt, rootField, rootNamed, freeNamed, markNamed, Says}
 use Rattle.accepted.proofs.Runs.{source-plans, source-answer, source-label, source-uuid}
-
--- ---- a head is read where its superblock is
-
-head-at : (g : Geometry) (p : AgPlan) (uuid : List ℕ) (s : SbState) (n off : ℕ) → off + n ≤ g .sectsize
-    → beAt n off (headBytes g p uuid s) ≡ beAt n off (sbBytes g s (zeros (g .sectsize)))
-head-at g p uuid s n off h =
-    let e : 0 + off ≡ off = omega arith in
-    sym (at-inside n 0 (g .sectsize) off (headBytes g p uuid s) h ∙ rw e refl) ∙ ap (beAt n off) (head-first g p uuid s)
+use Rattle.accepted.proofs.Sizes.{sector-least}
+use Rattle.accepted.proofs.Reading.{blocks-of, id-of, root-of, groups-of, mark-of, free-of, group-of}
 
 module _ (g : Geometry) (uuid : List ℕ) (z : Source g uuid) where
   sized : Bounds g
   sized = answer-bounds g (source-label g uuid z) (source-answer g uuid z)
-
-  sector-least : 512 ≤ g .sectsize
-  sector-least =
-      let w : 2 ^ 9 ≤ 2 ^ g .sectlog = pow-mono {i = 9} (sized .sizes .sector-least) in
-      let e = sized .sizes .sector-power in
-      omega arith
-
-  -- the sector that the superblock is written into
-  room : 264 ≤ length (zeros (g .sectsize))
-  room = rw (length-replicate {A = ℕ} (g .sectsize) 0) (let h = sector-least in omega arith)
 
   -- ---- the numbers fit their fields
 
   root-fits : rootIno g + 2 < 2 ^ 64
   root-fits = root-room g (source-label g uuid z) (source-plans g uuid z)
 
+  -- the secondaries' count includes the root chunk
+  initial-is : initialFdblocks g ≡ freeCount g + chunkOf (g .inodesize) (g .blocksize)
+  unfolding stateOf secondaryState finishedState
+  initial-is = secondary-free g uuid (source-label g uuid z) (source-plans g uuid z) 1 (omega arith)
+
   free-fits : freeCount g + chunkOf (g .inodesize) (g .blocksize) < 2 ^ 64
-  unfolding stateOf secondaryState finishedState initialFdblocks initialFree
-  free-fits =
-      let e = secondary-free g uuid (source-label g uuid z) (source-plans g uuid z) 1 (omega arith) in
-      let f = few-blocks g sized in
-      omega arith
-
-  -- ---- a head in any state of this UUID
-
-  module _ (p : AgPlan) (s : SbState) (u : length (s .uuid) ≡ 16) where
-    root-of : s .rootino < 2 ^ 64 → rootField (headBytes g p uuid s) ≡ s .rootino
-    root-of h =
-        let r = sector-least in
-        head-at g p uuid s 8 56 (omega arith) ∙ rootino-back g s u (source-label g uuid z) (zeros (g .sectsize)) room h
-
-    free-of : s .fdblocks < 2 ^ 64 → freeField (headBytes g p uuid s) ≡ s .fdblocks
-    free-of h =
-        let r = sector-least in
-        head-at g p uuid s 8 144 (omega arith) ∙ fdblocks-back g s u (source-label g uuid z) (zeros (g .sectsize)) room h
-
-    mark-of : bit (s .inprogress) < 256 → getD (headBytes g p uuid s) markAt 0 ≡ bit (s .inprogress)
-    unfolding beAt
-    mark-of h =
-        let r = sector-least in
-        let xs = headBytes g p uuid s in
-        let e : beAt 1 126 xs ≡ bit (s .inprogress) = head-at g p uuid s 1 126 (omega arith) ∙ inprogress-back g s u (source-label g uuid z) (zeros (g .sectsize)) room h in
-        let d : beAt 1 126 xs ≡ getD xs 126 0 * 1 + 0 = refl in
-        omega arith
-
-  -- ---- the mark of an unfinished run
-
-  -- A FINISHED RUN'S IS 0, AND 1 UNTIL THEN
-  pub finished-mark : getD (headFinished g uuid) markAt 0 ≡ 0
-  unfolding headFinished finishedState bit
-  finished-mark = mark-of (planned g 0 .plan) (finishedState g uuid) (source-uuid g uuid z) (lit< tt)
-
-  pub written-mark : getD (headWritten g uuid 0) markAt 0 ≡ 1
-  unfolding headWritten stateOf unfinishedState bit
-  written-mark = mark-of (planned g 0 .plan) (stateOf g uuid 0) (source-uuid g uuid z) (lit< tt)
-
-  -- ---- the root inode and the free count
+  unfolding initialFdblocks initialFree
+  free-fits = let e = initial-is in let f = few-blocks g sized in omega arith
 
   one-of : (t : Bool) (a b : ℕ) → a < 2 ^ 64 → b < 2 ^ 64 → when t a b < 2 ^ 64
   unfolding when
   one-of true a b h l = h
   one-of false a b h l = l
 
+  -- ---- group 0 at the end, and until then
+
+  module _ (k : ℕ) (h : k < g .agcount) (s : SbState) (u : length (s .uuid) ≡ 16) where
+    abbrev plan : AgPlan
+    plan = planned g k .plan
+
+    abbrev in-state : List ℕ
+    in-state = headBytes g plan uuid s
+
+    group-at : beAt 4 (g .sectsize + 8) in-state ≡ k
+    group-at =
+        let l = source-label g uuid z in
+        let e : plan .agno ≡ k = planned-group g k (group-planned g l (source-plans g uuid z) k h) in
+        let m = sized .groups .count-most in
+        group-of g l (sector-least g sized) plan uuid s u (source-uuid g uuid z) (omega arith) ∙ e
+
+    -- a state of this UUID, read back
+    says-state : s .uuid ≡ uuid → s .rootino ≡ rootNamed g k → bit (s .inprogress) ≡ markNamed k → s .fdblocks ≡ freeNamed g k → s .rootino < 2 ^ 64 → s .fdblocks < 2 ^ 64 → bit (s .inprogress) < 256
+        → Says g uuid k in-state
+    says-state i r m f rf ff mf =
+        let l = source-label g uuid z in
+        let b = sector-least g sized in
+        let d = few-blocks g sized in
+        let c = sized .groups .count-most in
+        record {
+          blocks = blocks-of g l b plan uuid s u (omega arith);
+          id = id-of g l b plan uuid s u ∙ i;
+          root = root-of g l b plan uuid s u rf ∙ r;
+          groups = groups-of g l b plan uuid s u (omega arith);
+          mark = mark-of g l b plan uuid s u mf ∙ m;
+          free = free-of g l b plan uuid s u ff ∙ f;
+          group = group-at;
+        }
+
+  -- THE FINISHED HEAD OF GROUP 0
+  pub finished-says : 0 < g .agcount → Says g uuid 0 (headFinished g uuid)
+  unfolding headFinished finishedState rootNamed freeNamed markNamed when bit
+  finished-says h =
+      let r = root-fits in
+      let f = free-fits in
+      says-state 0 h (finishedState g uuid) (source-uuid g uuid z) refl refl refl refl (omega arith) (omega arith) (lit< tt)
+
   secondary-is : (k : ℕ) → eqb k 0 ≡ false → stateOf g uuid k ≡ secondaryState g uuid k
   unfolding stateOf
   secondary-is k e = rw e
 
-  root-at : (k : ℕ) (t : Bool) → eqb k 0 ≡ t → rootField (choose t (headFinished g uuid) (headWritten g uuid k)) ≡ when (t || namesRoot (g .agcount) k) (rootIno g) null64
-  unfolding headFinished headWritten finishedState secondaryState when
-  root-at k true e = root-of (planned g 0 .plan) (finishedState g uuid) (source-uuid g uuid z) (let h = root-fits in omega arith)
-  root-at k false e =
-      ap (λ (s : SbState). rootField (headBytes g (planned g k .plan) uuid s)) (secondary-is k e)
-      ∙ root-of (planned g k .plan) (secondaryState g uuid k) (source-uuid g uuid z)
-      (one-of (namesRoot (g .agcount) k) (rootIno g) null64 (let h = root-fits in omega arith) (lit< tt))
+  secondary-named : (k : ℕ) → eqb k 0 ≡ false → (secondaryState g uuid k .rootino ≡ rootNamed g k) × (bit (secondaryState g uuid k .inprogress) ≡ markNamed k) × (secondaryState g uuid k .fdblocks ≡ freeNamed g k)
+  unfolding secondaryState rootNamed freeNamed markNamed when bit
+  secondary-named k e = rw e (refl, refl, initial-is)
 
-  -- WHICH SUPERBLOCKS NAME THE ROOT INODE
-  pub root-left : (k : ℕ) → rootField (headLeft g uuid k) ≡ rootNamed g k
-  unfolding headLeft rootNamed
-  root-left k = root-at k (eqb k 0) refl
+  -- THOSE OF THE OTHER GROUPS
+  secondary-says : (k : ℕ) → k < g .agcount → eqb k 0 ≡ false → Says g uuid k (headBytes g (planned g k .plan) uuid (secondaryState g uuid k))
+  unfolding secondaryState bit
+  secondary-says k h e =
+      let n = secondary-named k e in
+      let r = root-fits in
+      let f = free-fits in
+      let i = initial-is in
+      says-state k h (secondaryState g uuid k) (source-uuid g uuid z) refl (n .0) (n .1) (n .2)
+      (one-of (namesRoot (g .agcount) k) (rootIno g) null64 (omega arith) (lit< tt)) (omega arith) (lit< tt)
 
-  free-at : (k : ℕ) (t : Bool) → eqb k 0 ≡ t → freeField (choose t (headFinished g uuid) (headWritten g uuid k)) ≡ when t (freeCount g) (freeCount g + chunkOf (g .inodesize) (g .blocksize))
-  unfolding headFinished headWritten finishedState secondaryState when
-  free-at k true e = free-of (planned g 0 .plan) (finishedState g uuid) (source-uuid g uuid z) (let h = free-fits in omega arith)
-  free-at k false e =
-      let n = eqb-false k 0 e in
-      let d : initialFdblocks g ≡ freeCount g + chunkOf (g .inodesize) (g .blocksize) = ap (λ (s : SbState). s .fdblocks) (sym (secondary-is k e)) ∙ secondary-free g uuid (source-label g uuid z) (source-plans g uuid z) k (omega arith) in
-      ap (λ (s : SbState). freeField (headBytes g (planned g k .plan) uuid s)) (secondary-is k e)
-      ∙ free-of (planned g k .plan) (secondaryState g uuid k) (source-uuid g uuid z) (let h = free-fits in omega arith)
-      ∙ d
+  left-at : (k : ℕ) → k < g .agcount → (t : Bool) → eqb k 0 ≡ t → Says g uuid k (choose t (headFinished g uuid) (headWritten g uuid k))
+  unfolding headWritten
+  left-at k h true e = let d = eqb-true k 0 e in rw d (finished-says (omega arith))
+  left-at k h false e = rw (secondary-is k e) (secondary-says k h e)
 
-  -- WHAT THEY COUNT AS FREE: THE SECONDARIES' COUNT INCLUDES THE ROOT CHUNK
-  pub free-left : (k : ℕ) → freeField (headLeft g uuid k) ≡ freeNamed g k
-  unfolding headLeft freeNamed
-  free-left k = free-at k (eqb k 0) refl
+  -- WHAT THE HEAD SAYS THAT IS LEFT IN EACH GROUP
+  pub says : (k : ℕ) → k < g .agcount → Says g uuid k (headLeft g uuid k)
+  unfolding headLeft
+  says k h = left-at k h (eqb k 0) refl
+
+  -- until the run is finished, group 0's superblock is marked as unfinished
+  pub written-mark : 0 < g .agcount → getD (headWritten g uuid 0) markAt 0 ≡ 1
+  unfolding headWritten stateOf unfinishedState bit
+  written-mark h = mark-of g (source-label g uuid z) (sector-least g sized) (planned g 0 .plan) uuid (unfinishedState g uuid) (source-uuid g uuid z) (lit< tt)
 
   -- ---- no other group's superblock names the root inode
 
@@ -152,6 +144,7 @@ module _ (g : Geometry) (uuid : List ℕ) (z : Source g uuid) where
   named-at k false true e h r = inr (only-these (g .agcount) k h)
   named-at k false false e h r = absurd (let f = root-fits in omega arith)
 
-  pub only-named : (k : ℕ) → rootField (headLeft g uuid k) ≡ rootIno g → (k ≡ 0) ⊎ ((k ≡ g .agcount - 1) ⊎ ((2 < g .agcount) × (k ≡ (g .agcount - 1) / 2)))
+  pub only-named : (k : ℕ) → k < g .agcount → rootField (headLeft g uuid k) ≡ rootIno g
+      → (k ≡ 0) ⊎ ((k ≡ g .agcount - 1) ⊎ ((2 < g .agcount) × (k ≡ (g .agcount - 1) / 2)))
   unfolding rootNamed
-  only-named k r = named-at k (eqb k 0) (namesRoot (g .agcount) k) refl refl (sym (root-left k) ∙ r)
+  only-named k h r = named-at k (eqb k 0) (namesRoot (g .agcount) k) refl refl (sym (says k h .root) ∙ r)

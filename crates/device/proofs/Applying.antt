@@ -3,7 +3,7 @@
 use mathlib.Core.Path.{_≡_, refl, sym, ap, _∙_}
 use mathlib.Core.Bool.{Bool, true, false}
 use mathlib.Core.List.{List, [], _∷_, _++_}
-use Prim.Native.Nat.{ℕ, zero, suc, _+_, _-_, _*_, _%_, _≤_, _<_}
+use Prim.Native.Nat.{ℕ, zero, suc, _+_, _-_, _*_, _≤_, _<_}
 use native.Mathlib.Omega.{arith}
 use native.Mathlib.Nat.{mul-mod-left}
 use borrow.Author.Tests.{leb-true, ltb-true, le-leb, lt-ltb}
@@ -11,15 +11,20 @@ use lib.Dec.{leb, ltb}
 use lib.ListN.{length, take, drop, getD, replicate, length-replicate, getD-replicate, length-take, length-drop}
 use lib.Seq.{length-take-le, take-add}
 use Rattle.seqs.specs.Lists.{choose, both}
-use Rattle.records.specs.Records.{Record, WZ, WB, FL, All, blocks}
+use Rattle.records.specs.Records.{Record, WZ, WB, All, blocks}
 use Rattle.device.specs.Device.{Device, at, len, byte, step, applied, read, Misses, Fits, Rising}
 use Rattle.device.proofs.Reading.{getD-read, read-is, read-same, read-append}
 
 -- ---- one record
 
+hit : (s t : Bool) (u v : ℕ) → s ≡ true → t ≡ true → choose (both s t) u v ≡ u
+hit true true u v p q = refl
+hit true false u v p q = let z : _≡_ {A = ℕ} 0 1 = cc in absurd (omega arith)
+hit false t u v p q = let z : _≡_ {A = ℕ} 0 1 = cc in absurd (omega arith)
+
 pub step-hit : (r : Record) (d : Device) (x : ℕ) → at r ≤ x → x < at r + len r → step r d x ≡ byte r (x - at r)
 unfolding step
-step-hit r d x h k = rw (le-leb (at r) x h, lt-ltb x (at r + len r) k)
+step-hit r d x h k = hit (leb (at r) x) (ltb x (at r + len r)) (byte r (x - at r)) (d x) (le-leb (at r) x h) (lt-ltb x (at r + len r) k)
 
 pick : (s t : Bool) (u v : ℕ) → (s ≡ true → t ≡ true → ⊥) → choose (both s t) u v ≡ v
 pick true true u v f = absurd (f refl refl)

@@ -4,14 +4,14 @@ use mathlib.Core.Path.{_≡_, refl, sym, ap, _∙_}
 use mathlib.Core.List.{List, [], _∷_, _++_}
 use Prim.Native.Nat.{ℕ, zero, suc, _+_, _-_, _≤_, _<_}
 use native.Mathlib.Omega.{arith}
-use lib.ListN.{length, take, drop, getD, take-append-drop, length-drop}
+use lib.ListN.{length, take, drop, getD, length-drop}
 use lib.Seq.{take-at, drop-at, ext-getD, getD-drop}
 use Rattle.device.specs.Device.{Device, read}
 
 pub length-read : (d : Device) (off n : ℕ) → length (read d off n) ≡ n
 unfolding read
 length-read d off zero = refl
-length-read d off (suc n) = ap suc (length-read d (suc off) n)
+length-read d off (suc n) = ap suc (length-read d _ n)
 
 pub getD-read : (d : Device) (off n i : ℕ) → i < n → getD (read d off n) i 0 ≡ d (off + i)
 unfolding read

@@ -1,30 +1,20 @@
 -- No record but those named touches a head.
 -- Assumes nothing.
-use mathlib.Core.Path.{_≡_, refl, sym, ap, _∙_}
-use mathlib.Core.Bool.{Bool, true, false}
-use mathlib.Core.List.{List, [], _∷_, _++_}
-use mathlib.Core.Logic.{_⊎_, inl, inr, ⊎-elim}
-use Prim.Native.Nat.{ℕ, zero, suc, _+_, _-_, _*_, _≤_, _<_, min}
+use mathlib.Core.Path.{_≡_}
+use mathlib.Core.List.{[], _∷_}
+use mathlib.Core.Logic.{⊎-elim}
+use Prim.Native.Nat.{ℕ, zero, suc, _+_, _≤_, _<_}
 use native.Mathlib.Omega.{arith}
-use borrow.Author.Tests.{ltb-true, ltb-false}
-use lib.Dec.{ltb}
-use lib.ListN.{length, take, drop}
+use Rattle.seqs.proofs.Laws.{lt-or-le}
 use Rattle.run.specs.declared.Run.{Run}
-use Rattle.records.specs.Records.{Record, WZ, WB, FL, All, blocks}
+use Rattle.records.specs.Records.{FL, All}
 use Rattle.records.proofs.Blocks.{all-append}
-use Rattle.device.specs.Device.{at, len, Misses}
+use Rattle.device.specs.Device.{Misses}
 use Rattle.device.proofs.Applying.{blocks-miss}
-use Rattle.written.specs.Listing.{opening, headRecords, headsTo, chunkRecords, closing, logOffset, tailStart, blocksEnd, headBlocks, headerBlocks, chunkBlocks, headFinished}
+use Rattle.written.specs.Listing.{opening, headRecords, chunkRecords, headerRecords, closing, logOffset}
 use Rattle.written.specs.Sound.{Sound}
 use Rattle.written.specs.Left.{headAt, headSize, headerSize, logSize, chunkAt, chunkSize, Alone}
-use Rattle.written.proofs.Spans.{Spans, spans}
-
-lt-or-le-at : (a b : ℕ) (t : Bool) → ltb a b ≡ t → (a < b) ⊎ (b ≤ a)
-lt-or-le-at a b true e = inl (ltb-true a b e)
-lt-or-le-at a b false e = inr (ltb-false a b e)
-
-pub lt-or-le : (a b : ℕ) → (a < b) ⊎ (b ≤ a)
-lt-or-le a b = lt-or-le-at a b (ltb a b) refl
+use Rattle.written.proofs.Spans.{spans}
 
 -- ---- parts of the list that miss some bytes
 
@@ -32,27 +22,20 @@ module _ (run : Run) (off n : ℕ) where
   -- the head of a group whose head is elsewhere
   pub head-miss : (k : ℕ) → ((x : ℕ) → off ≤ x → x < off + n → headAt run k ≤ x → x < headAt run k + headSize run → ⊥) → All (Misses off n) (headRecords run k)
   unfolding headRecords
-  head-miss k f = blocks-miss (run .geometry .blocksize) off n (headAt run k) (headBlocks (run .geometry)) _ f
-
-  -- the heads of the first groups
-  pub heads-miss : (m : ℕ) → ((k : ℕ) → k < m → All (Misses off n) (headRecords run k)) → All (Misses off n) (headsTo run m)
-  unfolding headsTo
-  heads-miss zero f = tt
-  heads-miss (suc m) f = all-append (Misses off n) (headsTo run m) (headRecords run m) (heads-miss m (λ k h. f k (omega arith))) (f m (omega arith))
+  head-miss k f = blocks-miss (run .geometry .blocksize) off n _ _ _ f
 
   -- the root chunk
   pub chunk-miss : ((x : ℕ) → off ≤ x → x < off + n → chunkAt run ≤ x → x < chunkAt run + chunkSize run → ⊥) → All (Misses off n) (chunkRecords run)
   unfolding chunkRecords
-  chunk-miss f = blocks-miss (run .geometry .blocksize) off n (chunkAt run) (chunkBlocks (run .geometry)) _ f
+  chunk-miss f = blocks-miss (run .geometry .blocksize) off n _ _ _ f
 
   -- the finished header blocks and the flushes
   pub closing-miss : headerSize run ≤ off → All (Misses off n) (closing run)
   unfolding closing
-  closing-miss h =
-      let again = blocks (run .geometry .blocksize) 0 (headerBlocks (run .geometry)) (headFinished (run .geometry) (run .uuid)) in (
-        λ x a b c d. omega arith,
-        all-append (Misses off n) again (FL ∷ []) (blocks-miss (run .geometry .blocksize) off n 0 (headerBlocks (run .geometry)) _ (λ x a b c d. omega arith)) ((λ x a b c d. omega arith), tt),
-      )
+  closing-miss h = (
+    λ x a b c d. omega arith,
+    all-append (Misses off n) (headerRecords run) (FL ∷ []) (blocks-miss (run .geometry .blocksize) off n _ _ _ (λ x a b c d. omega arith)) ((λ x a b c d. omega arith), tt),
+  )
 
 -- ---- a head
 
@@ -86,7 +69,7 @@ module _ (run : Run) (device : ℕ) (s : Sound run device) where
         opening-first = λ o. ((λ x a b c d. omega (arith, p .start k o)), tt);
         opening-rest = (
           λ x a b c d. omega (arith, p .end k h),
-          (λ x a b c d. log-apart k x a b c d, (λ x a b c d. log-apart k x a b c (omega (arith, s .log-long, p .log-some)), tt)),
+          (λ x a b c d. log-apart k x a b c (omega (arith, s .log-long, p .log-some)), (λ x a b c d. log-apart k x a b c (omega (arith, s .log-long, p .log-some)), tt)),
         );
         heads = λ j o. head-miss run (headAt run k) (headSize run) j (λ x a b c d. heads-apart j k x o a b c d);
         chunk = chunk-miss run (headAt run k) (headSize run) (λ x a b c d. chunk-apart k x a b c d);

@@ -1,33 +1,29 @@
 -- What a run leaves on a device, whatever stood there.
 -- Assumes nothing.
-use mathlib.Core.Path.{_≡_, refl, sym, ap, ap₂, _∙_}
-use mathlib.Core.List.{List, [], _∷_, _++_, append-assoc}
+use mathlib.Core.Path.{_≡_, sym, ap, ap₂, _∙_}
+use mathlib.Core.List.{List, [], _∷_, _++_}
 use mathlib.Core.Logic.{_⊎_, ⊎-elim}
-use Prim.Native.Nat.{ℕ, zero, suc, _+_, _-_, _*_, _≤_, _<_}
+use Prim.Native.Nat.{ℕ, zero, suc, _+_, _-_, _≤_, _<_}
 use native.Mathlib.Omega.{arith}
 use borrow.Author.Tests.{ne-eqb}
-use lib.Dec.{eqb}
-use lib.ListN.{length, take, drop, take-append-drop, length-append, length-replicate}
+use lib.ListN.{length, take, drop, take-append-drop}
 use lib.Seq.{take-all, take-at, drop-at}
 use Rattle.places.specs.Answers.{rootChunk}
 use Rattle.head.specs.Head.{zeros}
 use Rattle.rootchunk.specs.Chunk.{chunkBytes}
+use Rattle.seqs.proofs.Laws.{lt-or-le}
 use Rattle.run.specs.declared.Run.{Run}
-use Rattle.records.specs.Records.{Record, WZ, WB, FL, All, blocks}
+use Rattle.records.specs.Records.{FL}
 use Rattle.records.proofs.Blocks.{all-append}
 use Rattle.device.specs.Device.{Device, step, applied, read, Misses}
 use Rattle.device.proofs.Reading.{read-split, read-first, read-behind, drop-agree}
 use Rattle.device.proofs.Applying.{applied-append, missed, missed-after, step-missed, zeros-left, zeros-stay, bytes-left, blocks-left}
-use Rattle.written.specs.Listing.{whackSize, blocksEnd, tailStart, opening, headRecords, headsTo, chunkRecords, closing, listOf, logOffset, logBlock, headBlocks, headerBlocks, chunkBlocks, headWritten, headFinished, headLeft}
+use Rattle.written.specs.Listing.{whackSize, blocksEnd, tailStart, opening, headRecords, headsTo, chunkRecords, headerRecords, closing, listOf, logOffset, logBlock, headBlocks, headerBlocks, chunkBlocks, headWritten, headFinished, headLeft}
 use Rattle.written.specs.Sound.{Sound}
 use Rattle.written.specs.Left.{headAt, headSize, headerSize, logSize, chunkAt, chunkSize, Left, unfinished}
-use Rattle.written.proofs.Spans.{Spans, spans}
-use Rattle.written.proofs.Alone.{lt-or-le, head-miss, heads-miss, chunk-miss, closing-miss, log-apart, alone}
-
--- the list is what stands before the first flush, and the closing
-pub list-parts : (run : Run) (device : ℕ) → listOf run device ≡ unfinished run device ++ closing run
-unfolding listOf unfinished
-list-parts run device = simp append-assoc
+use Rattle.written.proofs.Spans.{spans}
+use Rattle.written.proofs.Parts.{list-parts, heads-all}
+use Rattle.written.proofs.Alone.{head-miss, chunk-miss, closing-miss, log-apart, alone}
 
 module _ (run : Run) (device : ℕ) (s : Sound run device) where
   -- ---- before the first flush
@@ -74,7 +70,7 @@ module _ (run : Run) (device : ℕ) (s : Sound run device) where
       let groups = run .geometry .agcount in
       missed-after off n (opening run device) (headsTo run groups ++ (chunkRecords run ++ closing run)) d
       (all-append (Misses off n) (headsTo run groups) (chunkRecords run ++ closing run)
-      (heads-miss run off n groups (λ k c. head-miss run off n k (λ x. heads k x c)))
+      (heads-all (Misses off n) run groups (λ k c. head-miss run off n k (λ x. heads k x c)))
       (all-append (Misses off n) (chunkRecords run) (closing run) (chunk-miss run off n chunk) (closing-miss run off n h)))
 
   opening-log : (d : Device) → read (applied (opening run device) d) (logOffset (run .geometry)) (logSize run)
@@ -96,8 +92,8 @@ module _ (run : Run) (device : ℕ) (s : Sound run device) where
       let one = p .start 1 (omega arith) in
       let tail = p .end 1 (omega (arith, s .two)) in
       let log = p .log-after 1 (omega (arith, s .log-not-first)) in
-      step-missed off n _ _ (λ x a b c d. omega arith)
-      ∙ zeros-stay _ _ off n _ (zeros-stay _ _ off n _ (zeros-left 0 _ off n d (omega arith) (omega (arith, p .tail-ends))))
+      missed off n (drop 1 (opening run device)) _ (λ x a b c d. omega arith, (λ x a b c d. omega (arith, s .log-long), (λ x a b c d. omega (arith, s .log-long), tt)))
+      ∙ zeros-left _ _ off n d (omega arith) (omega (arith, p .tail-ends))
 
   opening-end : (d : Device) → read (applied (opening run device) d) (tailStart (run .geometry .blocksize) device) (blocksEnd (run .geometry .blocksize) device - tailStart (run .geometry .blocksize) device)
       ≡ zeros (blocksEnd (run .geometry .blocksize) device - tailStart (run .geometry .blocksize) device)
@@ -128,10 +124,8 @@ module _ (run : Run) (device : ℕ) (s : Sound run device) where
   unfolding closing applied
   closing-header d =
       let p = spans run device s in
-      let bytes = headFinished (run .geometry) (run .uuid) in
-      let again = blocks (run .geometry .blocksize) 0 (headerBlocks (run .geometry)) bytes in
-      missed-after 0 (headerSize run) again (FL ∷ []) (step FL d) ((λ x a b c d. omega arith), tt)
-      ∙ blocks-left (run .geometry .blocksize) 0 (headerBlocks (run .geometry)) bytes (step FL d) (omega (arith, s .finished-long, p .header-head))
+      missed-after 0 (headerSize run) (headerRecords run) (FL ∷ []) (step FL d) ((λ x a b c d. omega arith), tt)
+      ∙ blocks-left (run .geometry .blocksize) 0 (headerBlocks (run .geometry)) _ (step FL d) (omega (arith, s .finished-long, s .head-long 0 (omega (arith, s .two)), p .header-head))
 
   -- behind them the head stays, and the finished head has the same bytes there
   closing-behind : (d : Device) → read d 0 (headSize run) ≡ headWritten (run .geometry) (run .uuid) 0

@@ -3,5 +3,8 @@ pub mod Chunks
 pub mod Whole
 pub mod Example
 pub mod Spans
+pub mod Parts
 pub mod Alone
 pub mod Left
+pub mod Order
+pub mod Early

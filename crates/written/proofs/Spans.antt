@@ -1,13 +1,13 @@
 -- The bounds of a sound run in bytes: which part lies before which.
 -- Assumes nothing.
-use mathlib.Core.Path.{_≡_, refl, sym, ap, _∙_}
-use Prim.Native.Nat.{ℕ, zero, suc, _+_, _-_, _*_, _/_, _≤_, _<_}
+use mathlib.Core.Path.{_≡_}
+use Prim.Native.Nat.{ℕ, _+_, _-_, _*_, _/_, _≤_, _<_}
 use native.Mathlib.Omega.{arith}
-use native.Mathlib.Nat.{mul-le-mul-right, lt-div-mul-add, div-mul-le-self, le-div-iff-mul-le}
+use native.Mathlib.Nat.{mul-le-mul-right, lt-div-mul-add, div-mul-le-self}
 use Rattle.layout.specs.Places.{before, byteOf}
 use Rattle.places.specs.Answers.{rootChunk}
 use Rattle.run.specs.declared.Run.{Run}
-use Rattle.written.specs.Listing.{whackSize, blocksEnd, tailStart, headBlocks, logOffset}
+use Rattle.written.specs.Listing.{whackSize, blocksEnd, tailStart, logOffset}
 use Rattle.written.specs.Sound.{Sound}
 use Rattle.written.specs.Left.{headAt, headSize, headerSize, logSize, chunkAt, chunkSize}
 
@@ -91,7 +91,7 @@ module _ (run : Run) (device : ℕ) (s : Sound run device) where
         chunk-after = omega (arith, at 0 (rootChunk g), mul-le-mul-right bs (s .chunk-after));
         chunk-heads = λ k h. omega (arith, at 0 (rootChunk g), at k 0, later k h);
         log-some = omega (arith, mul-le-mul-right bs (s .log-some));
-        log-chunk = omega (arith, at 0 (rootChunk g), at (g .logagno) (g .«log_agbno»), later (g .logagno) (s .log-not-first));
+        log-chunk = omega (arith, at 0 (rootChunk g), at (g .logagno) (g .«log_agbno»), later (g .logagno) (omega (arith, s .log-not-first)));
         log-after = λ k h. log-behind k h;
         log-before = λ k h. omega (arith, at (g .logagno) (g .«log_agbno»), at k 0, apart (g .logagno) k h);
         start = λ k h. omega (arith, at k 0, later k h, s .group-least);
@@ -114,5 +114,5 @@ module _ (run : Run) (device : ℕ) (s : Sound run device) where
           let bs = g .blocksize in
           let last = (g .agcount - 1) * g .agsize in
           let m : k * g .agsize * bs ≤ last * bs = mul-le-mul-right bs (mul-le-mul-right (g .agsize) (omega arith)) in
-          let room : last * bs + 16777216 ≤ g .dblocks * bs = from-block last (g .dblocks) bs 16777216 (omega (arith, s .last-room)) (s .last-least) in
+          let room = from-block last (g .dblocks) bs _ (omega (arith, s .last-room)) (s .last-least) in
           omega (arith, m, room, byte-sum bs (g .agsize) k 0, s .inside, mul-le-mul-right bs (s .head-most), tail-high bs device (omega (arith, s .block-least)), s .block-most)
