@@ -4,7 +4,8 @@ use mathlib.Core.Path.{_≡_}
 use mathlib.Core.Bool.{true}
 use mathlib.Core.List.{List}
 use Prim.Native.Nat.{ℕ, _^_, _<_, _≤_}
-use native.Mathlib.Nat.{pow-le-pow-right, mul-le-mul-right}
+use native.Mathlib.Nat.{mul-le-mul-right}
+use lib.Pow.{pow-mono}
 use native.Mathlib.Omega.{arith}
 use lib.Dec.{eqb, lit<}
 use lib.ListN.{length}
@@ -25,35 +26,43 @@ use Rattle.written.specs.Listing.{logBlock, headWritten, headFinished, headLeft
 use Rattle.written.proofs.Whole.{group-planned}
 use Rattle.accepted.specs.Accepted.{Source}
 use Rattle.accepted.proofs.Bytes.{below-at}
+use Rattle.accepted.proofs.Sizes.{block-least, block-most}
 use Rattle.accepted.proofs.Runs.{source-plans, source-answer, source-label, source-label-bytes, source-uuid, source-uuid-bytes}
 use Rattle.accepted.proofs.Sound.{sound}
 use Rattle.named.specs.Named.{namesAt, namedBy, uuidAt}
 use Rattle.named.proofs.Back.{names-back, named-back, uuid-back}
 use Rattle.exact.specs.Left.{Octets, Handed}
 
+-- a sector is at most a block
+pub sector-most : (g : Geometry) → Bounds g → g .sectsize ≤ g .blocksize
+sector-most g b =
+    let w : 2 ^ g .sectlog ≤ 2 ^ g .blocklog = pow-mono (b .sizes .sector-block) in
+    omega (arith, b .sizes .sector-power, b .sizes .block-power)
+
 -- a geometry with the bounds of an answer has its types
 pub typed : (g : Geometry) → Bounds g → length (g .label) ≡ 12 → Octets (g .label) → TypedGeometry g
 typed g b l o =
     let s = b .sizes in
-    let block : 2 ^ g .blocklog ≤ 2 ^ 14 = pow-le-pow-right (lit< tt) (s .block-most) in
-    let sector : 2 ^ g .sectlog ≤ 2 ^ g .blocklog = pow-le-pow-right (lit< tt) (s .sector-block) in
-    let inode : 2 ^ g .inodelog ≤ 2 ^ 11 = pow-le-pow-right (lit< tt) (s .inode-most) in
+    let block = block-most g b in
+    let sector = sector-most g b in
+    let inode : 2 ^ g .inodelog ≤ 2 ^ 11 = pow-mono {j = 11} (s .inode-most) in
     record {
-      blocksize = omega (arith, s .block-power);
-      sectsize = omega (arith, s .sector-power);
+      blocksize = omega arith;
+      sectsize = omega arith;
       inodesize = omega (arith, s .inode-power);
       imaxpct = omega (arith, s .imaxpct-most);
       label-size = l;
       label-bytes = o;
     }
 
--- a head is longer than a sector of 512 bytes
-pub head-least : (g : Geometry) → Bounds g → 512 ≤ headLength g
+-- a head has a block at least
+pub head-block : (g : Geometry) → g .blocksize ≤ headLength g
 unfolding headLength
-head-least g b =
-    let s = b .sizes in
-    let block : 2 ^ 10 ≤ 2 ^ g .blocklog = pow-le-pow-right (lit< tt) (s .block-least) in
-    omega (arith, s .block-power, mul-le-mul-right (g .blocksize) (prealloc-pos (g .features) (g .sectsize) (g .blocksize)))
+head-block g = omega (arith, mul-le-mul-right (g .blocksize) (prealloc-pos (g .features) (g .sectsize) (g .blocksize)))
+
+-- which is longer than a sector of 512 bytes
+pub head-least : (g : Geometry) → Bounds g → 512 ≤ headLength g
+head-least g b = omega (arith, head-block g, block-least g b)
 
 module _ (g : Geometry) (u : List ℕ) (s : Source g u) where
   pub source-bounds : Bounds g

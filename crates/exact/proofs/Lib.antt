@@ -7,5 +7,6 @@ pub mod Recovery
 pub mod Whole
 pub mod Numbers
 pub mod Refused
+pub mod Zeros
 pub mod Disk
 pub mod Example

@@ -1,14 +1,15 @@
 -- Which bytes are refused, by number: an unfinished group 0 above all.
 -- Assumes nothing.
-use mathlib.Core.Path.{_≡_, refl, ap, _∙_}
+use mathlib.Core.Path.{_≡_, refl, ap, sym, _∙_}
 use mathlib.Core.Bool.{Bool, true, false}
 use mathlib.Core.List.{List}
 use Prim.Native.Nat.{ℕ, _<_, _≤_}
 use native.Mathlib.Omega.{arith}
 use borrow.Author.Tests.{eq-eqb, ne-eqb, lt-ltb, le-ltb, le-leb, lt-leb}
 use lib.Dec.{eqb}
-use lib.ListN.{length, getD}
-use Rattle.arith.specs.Choice.{when}
+use lib.ListN.{length, take, getD}
+use lib.Seq.{getD-take}
+use Rattle.arith.specs.Choice.{when, bit}
 use Rattle.refusals.specs.Table.{first}
 use Rattle.geometry.specs.declared.Geometry.{Geometry}
 use Rattle.geometry.specs.declared.Computed.{Computed}
@@ -16,14 +17,16 @@ use Rattle.answers.specs.Named.{isAnswer}
 use Rattle.plan.specs.Plan.{planned}
 use Rattle.totals.specs.Totals.{plansNumber}
 use Rattle.sameplan.specs.Same.{eqList}
-use Rattle.head.specs.Head.{headLength}
+use Rattle.sb.specs.Superblock.{sbBytes}
+use Rattle.head.specs.Head.{zeros, headLength}
 use Rattle.head.proofs.Bytes.{head-first}
 use Rattle.states.specs.States.{unfinishedState, stateOf}
-use Rattle.written.specs.Listing.{headWritten, headFinished, headLeft}
+use Rattle.written.specs.Listing.{headWritten, headLeft}
 use Rattle.accepted.specs.Accepted.{Source}
-use Rattle.accepted.specs.Superblocks.{markAt}
+use Rattle.accepted.specs.Superblocks.{markAt, markNamed}
 use Rattle.accepted.proofs.Runs.{source-plans, source-answer, source-label, source-uuid}
-use Rattle.accepted.proofs.Superblocks.{finished-mark, written-mark}
+use Rattle.accepted.proofs.Sizes.{sector-least}
+use Rattle.accepted.proofs.Superblocks.{says, written-mark}
 use Rattle.named.specs.Named.{namedBy, uuidAt}
 use Rattle.named.proofs.Back.{named-back, uuid-back}
 use Rattle.exact.specs.Read.{firstTests, foundAs, readGroup0, placeTests, groupNumber, readGroup, readLog}
@@ -51,48 +54,64 @@ differs : (xs ys : List ℕ) (t : Bool) → eqList eqb xs ys ≡ t → (xs ≡ y
 differs xs ys true e n = absurd (n (same-bytes xs ys e))
 differs xs ys false e n = e
 
-module _ (g : Geometry) (u : List ℕ) (s : Source g u) where
-  abbrev unfinished : List ℕ
-  unfinished = headWritten g u 0
-
-  written-named : namedBy unfinished ≡ record { number = 0; geometry = g }
-  unfolding headWritten stateOf unfinishedState
-  written-named =
-      named-back g (stateOf g u 0) (source-uuid g u s) (source-label g u s) (source-answer g u s) unfinished (head-first g (planned g 0 .plan) u (stateOf g u 0))
-
-  written-uuid : uuidAt unfinished ≡ u
-  unfolding headWritten stateOf unfinishedState
-  written-uuid =
-      uuid-back g (stateOf g u 0) (source-uuid g u s) (source-label g u s) (source-answer g u s) unfinished (head-first g (planned g 0 .plan) u (stateOf g u 0))
-
-  other-bytes : unfinished ≡ headLeft g u 0 → ⊥
-  unfolding headLeft
-  other-bytes e =
-      let m : getD unfinished markAt 0 ≡ getD (headFinished g u) markAt 0 = ap (λ (xs : List ℕ). getD xs markAt 0) e in
-      omega (arith, m, finished-mark g u s, written-mark g u s)
-
-  -- the tests, with what the unfinished head names
-  last-refuses : first (firstTests unfinished g u) 0 ≡ 30
+-- bytes that name the geometry of an accepted run and have its head's length, but are not those that a run leaves
+module _ (g : Geometry) (u : List ℕ) (s : Source g u) (xs : List ℕ) where
+  last-refuses : namedBy xs ≡ record { number = 0; geometry = g } → length xs ≡ headLength g → (xs ≡ headLeft g u 0 → ⊥) → first (firstTests xs g u) 0 ≡ 30
   unfolding firstTests when
-  last-refuses =
-      let n = written-length g u s 0 (some-group g u s) in
+  last-refuses e n d =
       let l = head-least g (source-bounds g u s) in
       rw (
-        le-ltb (length unfinished) 512 (omega arith),
-        written-named,
-        eq-eqb (length unfinished) (headLength g) n,
+        le-ltb (length xs) 512 (omega arith),
+        e,
+        eq-eqb (length xs) (headLength g) n,
         source-plans g u s,
-        differs unfinished (headLeft g u 0) (eqList eqb unfinished (headLeft g u 0)) refl other-bytes,
+        differs xs (headLeft g u 0) (eqList eqb xs (headLeft g u 0)) refl d,
       )
 
-  -- AN UNFINISHED GROUP 0 IS REFUSED
-  pub unfinished-refused : readGroup0 (headWritten g u 0) .number ≡ 30
+  pub other-refused : namedBy xs ≡ record { number = 0; geometry = g } → uuidAt xs ≡ u → length xs ≡ headLength g → (xs ≡ headLeft g u 0 → ⊥) → readGroup0 xs .number ≡ 30
   unfolding readGroup0
-  unfinished-refused =
-      ap (λ (c : Computed). foundAs (first (firstTests unfinished (c .geometry) (uuidAt unfinished)) 0) (c .geometry) (uuidAt unfinished) .number) written-named
-      ∙ ap (λ (v : List ℕ). foundAs (first (firstTests unfinished g v) 0) g v .number) written-uuid
-      ∙ number-found (first (firstTests unfinished g u) 0) g u
-      ∙ last-refuses
+  other-refused e v n d =
+      ap (λ (c : Computed). foundAs (first (firstTests xs (c .geometry) (uuidAt xs)) 0) (c .geometry) (uuidAt xs) .number) e
+      ∙ ap (λ (w : List ℕ). foundAs (first (firstTests xs g w) 0) g w .number) v
+      ∙ number-found (first (firstTests xs g u) 0) g u
+      ∙ last-refuses e n d
+
+  -- AN UNFINISHED GROUP 0 IS REFUSED: bytes whose first sector is the unfinished superblock
+  module _ (b : take (g .sectsize) xs ≡ take (g .sectsize) (headWritten g u 0)) where
+    begins : take (g .sectsize) xs ≡ sbBytes g (stateOf g u 0) (zeros (g .sectsize))
+    unfolding headWritten
+    begins = b ∙ head-first g (planned g 0 .plan) u (stateOf g u 0)
+
+    unfinished-named : namedBy xs ≡ record { number = 0; geometry = g }
+    unfolding stateOf unfinishedState
+    unfinished-named = named-back g (stateOf g u 0) (source-uuid g u s) (source-label g u s) (source-answer g u s) xs begins
+
+    unfinished-uuid : uuidAt xs ≡ u
+    unfolding stateOf unfinishedState
+    unfinished-uuid = uuid-back g (stateOf g u 0) (source-uuid g u s) (source-label g u s) (source-answer g u s) xs begins
+
+    -- the byte of sb_inprogress
+    marked : getD xs markAt 0 ≡ 1
+    marked =
+        let l = sector-least g (source-bounds g u s) in
+        sym (getD-take (g .sectsize) xs markAt 0 (omega arith))
+        ∙ ap (λ (ys : List ℕ). getD ys markAt 0) b
+        ∙ getD-take (g .sectsize) (headWritten g u 0) markAt 0 (omega arith)
+        ∙ written-mark g u s (some-group g u s)
+
+    other-bytes : xs ≡ headLeft g u 0 → ⊥
+    unfolding markNamed bit
+    other-bytes e =
+        let m : getD xs markAt 0 ≡ getD (headLeft g u 0) markAt 0 = ap (λ (ys : List ℕ). getD ys markAt 0) e in
+        let n : getD (headLeft g u 0) markAt 0 ≡ 0 = says g u s 0 (some-group g u s) .mark in
+        omega (arith, m, n, marked)
+
+    pub begun-refused : length xs ≡ headLength g → readGroup0 xs .number ≡ 30
+    begun-refused n = other-refused unfinished-named unfinished-uuid n other-bytes
+
+-- the whole head before the finished superblock is written
+pub unfinished-refused : (g : Geometry) (u : List ℕ) → Source g u → readGroup0 (headWritten g u 0) .number ≡ 30
+unfinished-refused g u s = begun-refused g u s (headWritten g u 0) refl (written-length g u s 0 (some-group g u s))
 
 -- ---- the other heads and the log
 
