@@ -23,7 +23,7 @@ use Rattle.head.specs.Head.{zeros, behindBytes, headBytes}
 use Rattle.head.proofs.Lending.{sb-length}
 use Rattle.states.specs.States.{unfinishedState, finishedState, stateOf}
 use Rattle.written.specs.Listing.{headWritten, headFinished}
-use Rattle.accepted.specs.Superblocks.{marked, markAt, crcStart, crcEnd, changedByte}
+use Rattle.accepted.specs.Superblocks.{marked, markAt, crcEnd, changedByte}
 use Rattle.accepted.proofs.Alike.{Away, patch-away, append-alike, one-differs}
 
 -- ---- the bytes that are not changed
@@ -37,15 +37,15 @@ from-mark : (i : ℕ) (t : Bool) → ltb i 126 ≡ t → (i ≡ markAt → ⊥) 
 from-mark i true h n = inl (ltb-true i 126 h)
 from-mark i false h n = let b = ltb-false i 126 h in inr (omega arith)
 
-from-crc : (i : ℕ) → (leb crcStart i ≡ false) ⊎ (ltb i crcEnd ≡ false) → Away i crcAt 4
-from-crc i (inl e) = let b = leb-false crcStart i e in inl (omega arith)
+from-crc : (i : ℕ) → (leb crcAt i ≡ false) ⊎ (ltb i crcEnd ≡ false) → Away i crcAt 4
+from-crc i (inl e) = let b = leb-false crcAt i e in inl (omega arith)
 from-crc i (inr e) = let b = ltb-false i crcEnd e in inr (omega arith)
 
 -- away from the mark and from the checksum
 kept : (i : ℕ) → changedByte i ≡ false → Away i 126 1 × Away i crcAt 4
 unfolding changedByte
 kept i e =
-    let a = apart (eqb i markAt) (leb crcStart i) (ltb i crcEnd) e in
+    let a = apart (eqb i markAt) (leb crcAt i) (ltb i crcEnd) e in
     (from-mark i (ltb i 126) refl (eqb-false i markAt (a .0)), from-crc i (a .1))
 
 -- ---- the superblock

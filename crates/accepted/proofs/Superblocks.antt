@@ -59,7 +59,7 @@ module _ (g : Geometry) (uuid : List ℕ) (z : Source g uuid) where
   one-of true a b h l = h
   one-of false a b h l = l
 
-  -- ---- group 0 at the end, and until then
+  -- ---- the head of a group in any state
 
   module _ (k : ℕ) (h : k < g .agcount) (s : SbState) (u : length (s .uuid) ≡ 16) where
     abbrev plan : AgPlan
@@ -131,9 +131,9 @@ module _ (g : Geometry) (uuid : List ℕ) (z : Source g uuid) where
   says k h = left-at k h (eqb k 0) refl
 
   -- until the run is finished, group 0's superblock is marked as unfinished
-  pub written-mark : 0 < g .agcount → getD (headWritten g uuid 0) markAt 0 ≡ 1
+  pub written-mark : getD (headWritten g uuid 0) markAt 0 ≡ 1
   unfolding headWritten stateOf unfinishedState bit
-  written-mark h = mark-of g (source-label g uuid z) (sector-least g sized) (planned g 0 .plan) uuid (unfinishedState g uuid) (source-uuid g uuid z) (lit< tt)
+  written-mark = mark-of g (source-label g uuid z) (sector-least g sized) (planned g 0 .plan) uuid (unfinishedState g uuid) (source-uuid g uuid z) (lit< tt)
 
   -- ---- no other group's superblock names the root inode
 

@@ -15,6 +15,7 @@ use Rattle.layout.specs.Places.{chunkOf}
 use Rattle.places.specs.Answers.{rootIno}
 use Rattle.totals.specs.Totals.{freeCount}
 use Rattle.sb.specs.declared.SbState.{SbState}
+use Rattle.sb.specs.Superblock.{crcAt}
 use Rattle.states.specs.States.{namesRoot}
 use Rattle.run.specs.declared.Run.{Run}
 use Rattle.written.specs.Listing.{headLeft}
@@ -39,16 +40,13 @@ marked inprogress s =
 abbrev pub markAt : ℕ
 markAt = 126
 
--- where sb_crc begins, and where it ends
-abbrev pub crcStart : ℕ
-crcStart = 224
-
+-- where sb_crc ends
 abbrev pub crcEnd : ℕ
-crcEnd = 228
+crcEnd = crcAt + 4
 
 -- the bytes that finishing a run changes: sb_inprogress, and the four of sb_crc
 unfoldable pub changedByte : ℕ → Bool
-changedByte i = eqb i markAt || (leb crcStart i && ltb i crcEnd)
+changedByte i = eqb i markAt || (leb crcAt i && ltb i crcEnd)
 
 -- ---- what a run leaves
 
@@ -56,7 +54,7 @@ changedByte i = eqb i markAt || (leb crcStart i && ltb i crcEnd)
 unfoldable pub leftIn : Run → ℕ → List ℕ
 leftIn run k = headLeft (run .geometry) (run .uuid) k
 
--- the root inode is named by group 0's superblock and by those of the groups of `namesRoot`; the others name none
+-- the root inode is named by the superblocks of group 0, of the last group and, above 2 groups, of group (agcount − 1) / 2; the others name none
 unfoldable pub rootNamed : Geometry → ℕ → ℕ
 rootNamed g k = when (eqb k 0 || namesRoot (g .agcount) k) (rootIno g) null64
 

@@ -1,6 +1,6 @@
 -- What records leave on a device: the last one that covers a byte decides it.
 -- Assumes nothing.
-use mathlib.Core.Path.{_≡_, refl, sym, ap, _∙_}
+use mathlib.Core.Path.{_≡_, refl, sym, ap, fun-ext, _∙_}
 use mathlib.Core.Bool.{Bool, true, false}
 use mathlib.Core.List.{List, [], _∷_, _++_}
 use Prim.Native.Nat.{ℕ, zero, suc, _+_, _-_, _*_, _≤_, _<_}
@@ -9,7 +9,7 @@ use native.Mathlib.Nat.{mul-mod-left}
 use borrow.Author.Tests.{leb-true, ltb-true, le-leb, lt-ltb}
 use lib.Dec.{leb, ltb}
 use lib.ListN.{length, take, drop, getD, replicate, length-replicate, getD-replicate, length-take, length-drop}
-use lib.Seq.{length-take-le, take-add}
+use lib.Seq.{length-take-le, take-add, getD-take, getD-drop}
 use Rattle.seqs.specs.Lists.{choose, both}
 use Rattle.records.specs.Records.{Record, WZ, WB, All, blocks}
 use Rattle.device.specs.Device.{Device, at, len, byte, step, applied, read, Misses, Fits, Rising}
@@ -26,14 +26,18 @@ pub step-hit : (r : Record) (d : Device) (x : ℕ) → at r ≤ x → x < at r +
 unfolding step
 step-hit r d x h k = hit (leb (at r) x) (ltb x (at r + len r)) (byte r (x - at r)) (d x) (le-leb (at r) x h) (lt-ltb x (at r + len r) k)
 
-pick : (s t : Bool) (u v : ℕ) → (s ≡ true → t ≡ true → ⊥) → choose (both s t) u v ≡ v
-pick true true u v f = absurd (f refl refl)
-pick true false u v f = refl
-pick false t u v f = refl
+same : (s t : Bool) (u v : ℕ) → (s ≡ true → t ≡ true → u ≡ v) → choose (both s t) u v ≡ v
+same true true u v f = f refl refl
+same true false u v f = refl
+same false t u v f = refl
+
+-- a record that covers x only with the byte that stands there changes nothing there
+pub step-same : (r : Record) (d : Device) (x : ℕ) → (at r ≤ x → x < at r + len r → byte r (x - at r) ≡ d x) → step r d x ≡ d x
+unfolding step
+step-same r d x f = same (leb (at r) x) (ltb x (at r + len r)) (byte r (x - at r)) (d x) (λ h k. f (leb-true _ _ h) (ltb-true _ _ k))
 
 pub step-miss : (r : Record) (d : Device) (x : ℕ) → (at r ≤ x → x < at r + len r → ⊥) → step r d x ≡ d x
-unfolding step
-step-miss r d x f = pick (leb (at r) x) (ltb x (at r + len r)) (byte r (x - at r)) (d x) (λ h k. f (leb-true _ _ h) (ltb-true _ _ k))
+step-miss r d x f = step-same r d x (λ h k. absurd (f h k))
 
 -- zeros, and bytes, stand where they were written
 pub zeros-left : (at n off m : ℕ) (d : Device) → at ≤ off → off + m ≤ at + n → read (step (WZ at n) d) off m ≡ replicate m 0
@@ -41,17 +45,12 @@ zeros-left at n off m d h k =
     read-is _ off m (replicate m 0) (length-replicate m 0)
     (λ i l. step-hit (WZ at n) d (off + i) (omega arith) (omega arith) ∙ sym (getD-replicate m i 0 0 l))
 
-stay-zero : (t : Bool) (v : ℕ) → v ≡ 0 → choose t 0 v ≡ 0
-stay-zero true v e = refl
-stay-zero false v e = e
-
 pub zeros-stay : (at m off n : ℕ) (d : Device) → read d off n ≡ replicate n 0 → read (step (WZ at m) d) off n ≡ replicate n 0
-unfolding step
 zeros-stay at m off n d e =
     read-is _ off n (replicate n 0) (length-replicate n 0)
     (λ i h.
-    let z : getD (replicate n 0) i 0 ≡ 0 = getD-replicate n i 0 0 h in
-    stay-zero (both (leb at (off + i)) (ltb (off + i) (at + m))) (d (off + i)) (sym (getD-read d off n i h) ∙ ap (λ (xs : List ℕ). getD xs i 0) e ∙ z) ∙ sym z)
+    let z : d (off + i) ≡ getD (replicate n 0) i 0 = sym (getD-read d off n i h) ∙ ap (λ (xs : List ℕ). getD xs i 0) e in
+    step-same (WZ at m) d (off + i) (λ p q. sym (z ∙ getD-replicate n i 0 0 h)) ∙ z)
 
 pub bytes-left : (off n : ℕ) (bytes : List ℕ) (d : Device) → length bytes ≡ n → read (step (WB off bytes) d) off n ≡ bytes
 bytes-left off n bytes d e =
@@ -87,6 +86,15 @@ unfolding applied
 kept p [] d a h = h
 kept p (r ∷ rs) d a h = kept p rs (step r d) (a .1) (a .0 d h)
 
+-- records that change nothing where a fact of the device holds change nothing, one after the other
+abbrev pub Idle : (Device → Type 0) → Record → Type 0
+Idle p r = (d : Device) → p d → step r d ≡ d
+
+pub idle : (p : Device → Type 0) (rs : List Record) (d : Device) → All (Idle p) rs → p d → applied rs d ≡ d
+unfolding applied
+idle p [] d a h = refl
+idle p (r ∷ rs) d a h = ap (applied rs) (a .0 d h) ∙ idle p rs d (a .1) h
+
 -- ---- a write split into blocks
 
 module _ (bs : ℕ) where
@@ -114,6 +122,19 @@ module _ (bs : ℕ) where
         blocks-left (off + bs) n (drop bs bytes) d' (omega (arith, length-drop bs bytes)),
         take-add,
       ))
+
+  -- where its bytes stand already it changes nothing
+  pub blocks-idle : (p : Device → Type 0) (off n : ℕ) (bytes : List ℕ) → ((d : Device) → p d → (x : ℕ) → off ≤ x → x < off + n * bs → d x ≡ getD bytes (x - off) 0)
+      → All (Idle p) (blocks bs off n bytes)
+  unfolding blocks
+  blocks-idle p off zero bytes f = tt
+  blocks-idle p off (suc n) bytes f = (
+    λ d h. fun-ext (λ x.
+        step-same (WB off (take bs bytes)) d x
+        (λ a b. getD-take bs bytes (x - off) 0 (omega (arith, length-take bs bytes)) ∙ sym (f d h x a (omega (arith, length-take bs bytes))))),
+    blocks-idle p (off + bs) n (drop bs bytes)
+        (λ d h x a b. let e : bs + (x - (off + bs)) ≡ x - off = omega arith in f d h x (omega arith) (omega arith) ∙ sym (getD-drop bs bytes (x - (off + bs)) 0 ∙ ap (λ (i : ℕ). getD bytes i 0) e)),
+  )
 
   -- its records lie at multiples of the block size, each where the one before it ends
   pub blocks-fit : (device q off n : ℕ) (bytes : List ℕ) → off ≡ q * bs → off + n * bs ≤ device → All (Fits bs device) (blocks bs off n bytes)

@@ -132,7 +132,6 @@ module _ (run : Run) (device : ℕ) (s : Sound run device) where
       → read (applied (closing run) d) (0 + headerSize run) (headSize run - headerSize run) ≡ drop (headerSize run) (headFinished (run .geometry) (run .uuid))
   closing-behind d e =
       let p = spans run device s in
-      let z : 0 + headerSize run ≡ headerSize run = omega arith in
       missed (0 + headerSize run) (headSize run - headerSize run) (closing run) d (closing-miss run (0 + headerSize run) (headSize run - headerSize run) (omega arith))
       ∙ read-behind d 0 (headerSize run) (headSize run) (p .header-head)
       ∙ ap (drop (headerSize run)) e

@@ -8,3 +8,4 @@ pub mod Alone
 pub mod Left
 pub mod Order
 pub mod Early
+pub mod After
