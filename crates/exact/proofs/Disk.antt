@@ -16,12 +16,12 @@ use Rattle.device.specs.Device.{Device, applied, read}
 use Rattle.device.proofs.Reading.{length-read, read-first}
 use Rattle.written.specs.Listing.{logBlock, headWritten, headLeft}
 use Rattle.written.specs.Left.{unfinished, Early}
-use Rattle.written.proofs.Left.{left}
 use Rattle.written.proofs.Early.{early}
 use Rattle.accepted.specs.Accepted.{AcceptedRun}
 use Rattle.accepted.proofs.Runs.{run-bounds, source-of}
 use Rattle.accepted.proofs.Sizes.{block-least}
 use Rattle.accepted.proofs.Sound.{sound}
+use Rattle.accepted.proofs.Heads.{run-left}
 use Rattle.exact.specs.Read.{readGroup0}
 use Rattle.exact.specs.Left.{Octets, OneRun, ReadWhole}
 use Rattle.exact.specs.Disk.{headOn, logOn, formatted, ByRecords}
@@ -33,11 +33,11 @@ use Rattle.exact.proofs.Refused.{unnamed-refused, begun-refused}
 module _ (r : Request) (a : AcceptedRun r) (old : Device) where
   pub head-formatted : (k : ℕ) → k < runOf r .geometry .agcount → headOn (runOf r .geometry) (formatted r old) k ≡ headLeft (runOf r .geometry) (runOf r .uuid) k
   unfolding headOn formatted headLength
-  head-formatted k h = left (runOf r) (r .device) (sound r a) old .head k h
+  head-formatted k h = run-left r a old .head k h
 
   pub log-formatted : logOn (runOf r .geometry) (formatted r old) ≡ logBlock (runOf r .geometry) (runOf r .uuid)
   unfolding logOn formatted
-  log-formatted = left (runOf r) (r .device) (sound r a) old .log
+  log-formatted = run-left r a old .log
 
   -- what a run's records leave is accepted whole
   pub formatted-read : ReadWhole (headOn (runOf r .geometry) (formatted r old)) (logOn (runOf r .geometry) (formatted r old))

@@ -9,6 +9,8 @@ use lib.Pow.{pow-mono}
 use native.Mathlib.Omega.{arith}
 use lib.Dec.{eqb, lit<}
 use lib.ListN.{length}
+use Rattle.arith.specs.Choice.{bit}
+use Rattle.endian.specs.Bytes.{beAt}
 use Rattle.seqs.proofs.Laws.{choose-elim}
 use Rattle.geometry.specs.declared.Geometry.{Geometry}
 use Rattle.naming.specs.Answers.{TypedGeometry}
@@ -30,7 +32,7 @@ use Rattle.accepted.proofs.Sizes.{block-least, block-most}
 use Rattle.accepted.proofs.Runs.{source-plans, source-answer, source-label, source-label-bytes, source-uuid, source-uuid-bytes}
 use Rattle.accepted.proofs.Sound.{sound}
 use Rattle.named.specs.Named.{namesAt, namedBy, uuidAt}
-use Rattle.named.proofs.Back.{names-back, named-back, uuid-back}
+use Rattle.named.proofs.Back.{names-back, named-back, uuid-back, progress-back}
 use Rattle.exact.specs.Left.{Octets, Handed}
 
 -- a sector is at most a block
@@ -110,6 +112,12 @@ module _ (g : Geometry) (u : List ℕ) (s : Source g u) where
   unfolding headLeft headFinished finishedState
   left-uuid =
       uuid-back g (finishedState g u) (source-uuid g u s) (source-label g u s) (source-answer g u s) (headLeft g u 0) (head-first g (planned g 0 .plan) u (finishedState g u))
+
+  -- AND IS FINISHED
+  pub left-progress : beAt 1 126 (headLeft g u 0) ≡ 0
+  unfolding headLeft headFinished finishedState bit
+  left-progress =
+      progress-back g (finishedState g u) (source-uuid g u s) (source-label g u s) (source-answer g u s) (headLeft g u 0) (head-first g (planned g 0 .plan) u (finishedState g u))
 
 -- what an answer's head in group 0 names, whether its plans are accepted or not
 pub left-names : (g : Geometry) (u : List ℕ) → length (g .label) ≡ 12 → isAnswer g ≡ true → length u ≡ 16 → namesAt (headLeft g u 0) ≡ namesOf g

@@ -1,15 +1,15 @@
 -- Which bytes are refused, by number: an unfinished group 0 above all.
 -- Assumes nothing.
-use mathlib.Core.Path.{_≡_, refl, ap, sym, _∙_}
+use mathlib.Core.Path.{_≡_, refl, ap, _∙_}
 use mathlib.Core.Bool.{Bool, true, false}
 use mathlib.Core.List.{List}
 use Prim.Native.Nat.{ℕ, _<_, _≤_}
 use native.Mathlib.Omega.{arith}
 use borrow.Author.Tests.{eq-eqb, ne-eqb, lt-ltb, le-ltb, le-leb, lt-leb}
 use lib.Dec.{eqb}
-use lib.ListN.{length, take, getD}
-use lib.Seq.{getD-take}
+use lib.ListN.{length, take}
 use Rattle.arith.specs.Choice.{when, bit}
+use Rattle.endian.specs.Bytes.{beAt}
 use Rattle.refusals.specs.Table.{first}
 use Rattle.geometry.specs.declared.Geometry.{Geometry}
 use Rattle.geometry.specs.declared.Computed.{Computed}
@@ -23,15 +23,12 @@ use Rattle.head.proofs.Bytes.{head-first}
 use Rattle.states.specs.States.{unfinishedState, stateOf}
 use Rattle.written.specs.Listing.{headWritten, headLeft}
 use Rattle.accepted.specs.Accepted.{Source}
-use Rattle.accepted.specs.Superblocks.{markAt, markNamed}
 use Rattle.accepted.proofs.Runs.{source-plans, source-answer, source-label, source-uuid}
-use Rattle.accepted.proofs.Sizes.{sector-least}
-use Rattle.accepted.proofs.Superblocks.{says, written-mark}
 use Rattle.named.specs.Named.{namedBy, uuidAt}
-use Rattle.named.proofs.Back.{named-back, uuid-back}
+use Rattle.named.proofs.Back.{named-back, uuid-back, progress-back}
 use Rattle.exact.specs.Read.{firstTests, foundAs, readGroup0, placeTests, groupNumber, readGroup, readLog}
 use Rattle.exact.proofs.Lists.{same-bytes}
-use Rattle.exact.proofs.Heads.{head-least, source-bounds, some-group, written-length}
+use Rattle.exact.proofs.Heads.{head-least, source-bounds, some-group, written-length, left-progress}
 use Rattle.exact.proofs.First.{number-found}
 use Rattle.exact.proofs.Others.{number-read}
 
@@ -90,21 +87,13 @@ module _ (g : Geometry) (u : List ℕ) (s : Source g u) (xs : List ℕ) where
     unfolding stateOf unfinishedState
     unfinished-uuid = uuid-back g (stateOf g u 0) (source-uuid g u s) (source-label g u s) (source-answer g u s) xs begins
 
-    -- the byte of sb_inprogress
-    marked : getD xs markAt 0 ≡ 1
-    marked =
-        let l = sector-least g (source-bounds g u s) in
-        sym (getD-take (g .sectsize) xs markAt 0 (omega arith))
-        ∙ ap (λ (ys : List ℕ). getD ys markAt 0) b
-        ∙ getD-take (g .sectsize) (headWritten g u 0) markAt 0 (omega arith)
-        ∙ written-mark g u s (some-group g u s)
-
+    -- sb_inprogress is still set
     other-bytes : xs ≡ headLeft g u 0 → ⊥
-    unfolding markNamed bit
+    unfolding stateOf unfinishedState bit
     other-bytes e =
-        let m : getD xs markAt 0 ≡ getD (headLeft g u 0) markAt 0 = ap (λ (ys : List ℕ). getD ys markAt 0) e in
-        let n : getD (headLeft g u 0) markAt 0 ≡ 0 = says g u s 0 (some-group g u s) .mark in
-        omega (arith, m, n, marked)
+        let m : beAt 1 126 xs ≡ 1 = progress-back g (stateOf g u 0) (source-uuid g u s) (source-label g u s) (source-answer g u s) xs begins in
+        let n : beAt 1 126 xs ≡ beAt 1 126 (headLeft g u 0) = ap (beAt 1 126) e in
+        omega (arith, m, n, left-progress g u s)
 
     pub begun-refused : length xs ≡ headLength g → readGroup0 xs .number ≡ 30
     begun-refused n = other-refused unfinished-named unfinished-uuid n other-bytes

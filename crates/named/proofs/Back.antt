@@ -8,6 +8,8 @@ use native.Mathlib.Nat.{pow-le-pow-right, le-trans}
 use native.Mathlib.Omega.{arith}
 use lib.Dec.{lit<, lit≤}
 use lib.ListN.{length, take, replicate, length-replicate}
+use Rattle.arith.specs.Choice.{bit}
+use Rattle.arith.proofs.Laws.{bit-le}
 use Rattle.endian.specs.Bytes.{beAt}
 use Rattle.endian.specs.Fields.{part}
 use Rattle.geometry.specs.declared.Geometry.{Geometry}
@@ -103,3 +105,7 @@ module _ (g : Geometry) (s : SbState) (u : length (s .uuid) ≡ 16) (l : length 
   pub uuid-back : uuidAt xs ≡ s .uuid
   unfolding uuidAt
   uuid-back = bytes-are 32 16 (lit≤ tt) ∙ read.uuid-back g s u l (lent g) room
+
+  -- sb_inprogress, which is not read for naming
+  pub progress-back : beAt 1 126 xs ≡ bit (s .inprogress)
+  progress-back = number-is 1 126 (lit≤ tt) ∙ read.inprogress-back g s u l (lent g) room (omega (arith, bit-le (s .inprogress)))
