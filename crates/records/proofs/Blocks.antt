@@ -18,6 +18,15 @@ pub all-append : (q : Record → Type 0) (xs ys : List Record) → All q xs → 
 all-append q [] ys a b = b
 all-append q (x ∷ xs) ys a b = (a .0, all-append q xs ys (a .1) b)
 
+pub all-map : (p q : Record → Type 0) (xs : List Record) → ((r : Record) → p r → q r) → All p xs → All q xs
+all-map p q [] f a = tt
+all-map p q (x ∷ xs) f a = (f x (a .0), all-map p q xs f (a .1))
+
+-- of a list, all before a cut
+pub all-front : (q : Record → Type 0) (xs ys : List Record) → All q (xs ++ ys) → All q xs
+all-front q [] ys a = tt
+all-front q (x ∷ xs) ys a = (a .0, all-front q xs ys (a .1))
+
 -- bytes enough for n blocks
 pub blocks-whole : (bs offset n : ℕ) (bytes : List ℕ) → n * bs ≤ length bytes → All (OneBlock bs) (blocks bs offset n bytes)
 unfolding blocks

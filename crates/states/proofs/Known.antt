@@ -1,17 +1,17 @@
 -- Numbers of a geometry whose plans are accepted: they are answers, and the root inode has room behind it.
 -- Assumes nothing.
-use mathlib.Core.Path.{_≡_, refl, sym, ap, _∙_}
+use mathlib.Core.Path.{_≡_, refl}
 use mathlib.Core.Bool.{Bool, true, false}
-use Prim.Native.Nat.{ℕ, _+_, _*_, _^_, _<_}
+use Prim.Native.Nat.{ℕ, _+_, _^_, _≤_, _<_}
 use native.Mathlib.Omega.{arith}
-use borrow.Author.Tests.{eqb-true}
+use borrow.Author.Tests.{eqb-true, eq-eqb, le-leb, lt-leb}
 use lib.Dec.{leb, eqb}
 use Rattle.arith.specs.Choice.{when}
 use lib.ListN.{length}
 use Rattle.seqs.specs.Lists.{choose}
 use Rattle.geometry.specs.declared.Geometry.{Geometry}
 use Rattle.answers.specs.Named.{isAnswer}
-use Rattle.layout.specs.Places.{groupBlocks, fsbOf, inoOf, rootChunkOf}
+use Rattle.layout.specs.Places.{fsbOf, inoOf, rootChunkOf}
 use Rattle.layout.specs.Bounds.{Bounds}
 use Rattle.layout.proofs.Bounding.{answer-bounds}
 use Rattle.layout.proofs.Inside.{blocks-least, fitting}
@@ -64,3 +64,12 @@ there-at n m false e z = z
 pub plans-there : (g : Geometry) (k : ℕ) → stateNumber g k ≡ 0 → plansNumber g ≡ 0
 unfolding stateNumber
 plans-there g k e = there-at (plansNumber g) (when (leb (g .agcount) k) 29 0) (eqb (plansNumber g) 0) refl e
+
+-- its number, of accepted plans: 29 for a group that is not there
+pub no-group : (g : Geometry) (k n : ℕ) → n ≡ plansNumber g → n ≡ 0 → g .agcount ≤ k → stateNumber g k ≡ 29
+unfolding stateNumber when
+no-group g k n p e h = rw (← p, eq-eqb n 0 e, le-leb (g .agcount) k h)
+
+pub some-state : (g : Geometry) (k n : ℕ) → n ≡ plansNumber g → n ≡ 0 → k < g .agcount → stateNumber g k ≡ 0
+unfolding stateNumber when
+some-state g k n p e h = rw (← p, eq-eqb n 0 e, lt-leb (g .agcount) k h)

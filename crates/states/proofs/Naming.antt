@@ -1,38 +1,47 @@
 -- Which superblocks name the root inode, and what the secondaries count as free.
 -- Assumes nothing.
-use mathlib.Core.Path.{_≡_, refl, sym, ap, _∙_}
+use mathlib.Core.Path.{_≡_, refl, _∙_}
 use mathlib.Core.Bool.{Bool, true, false, _&&_, _||_}
 use mathlib.Core.List.{List}
 use mathlib.Core.Logic.{_⊎_, inl, inr}
-use Prim.Native.Nat.{ℕ, _+_, _-_, _/_, _<_}
+use Prim.Native.Nat.{ℕ, _+_, _-_, _/_, _<_, _≤_}
 use native.Mathlib.Omega.{arith}
-use borrow.Author.Tests.{eq-eqb, ne-eqb, eqb-true, lt-ltb, ltb-true}
+use borrow.Author.Tests.{eq-eqb, ne-eqb, eqb-true, lt-ltb, le-ltb, ltb-true}
 use lib.Dec.{ltb, eqb}
 use lib.ListN.{length}
 use Rattle.arith.specs.Choice.{when}
 use Rattle.structs.specs.Written.{null64}
-use Rattle.seqs.specs.Lists.{choose}
 use Rattle.geometry.specs.declared.Geometry.{Geometry}
 use Rattle.layout.specs.Places.{chunkOf}
-use Rattle.places.specs.Answers.{rootIno, initialFdblocks}
-use Rattle.totals.specs.Totals.{plansNumber, freeCount}
+use Rattle.places.specs.Answers.{rootIno}
+use Rattle.totals.specs.Totals.{plansNumber}
 use Rattle.totals.proofs.Whole.{all-planned, initial-count}
-use Rattle.sb.specs.declared.SbState.{SbState}
 use Rattle.states.specs.States.{namesRoot, secondaryState, unfinishedState, finishedState, stateOf}
 
+-- ---- which groups
+
 -- the last group
-pub last-names : (n : ℕ) → namesRoot n (n - 1) ≡ true
+pub last-names : (n k : ℕ) → k ≡ n - 1 → namesRoot n k ≡ true
 unfolding namesRoot
-last-names n = rw (eq-eqb (n - 1) (n - 1) refl)
+last-names n k e = rw (eq-eqb k (n - 1) e)
 
-or-true : (t : Bool) → (t || true) ≡ true
-or-true true = refl
-or-true false = refl
+pick : (a b c : Bool) → a ≡ false → b ≡ true → (a || (b && c)) ≡ c
+pick a b c e f = rw (e, f)
 
--- above 2 groups group (n − 1) / 2
+none : (a b c : Bool) → a ≡ false → b ≡ false → (a || (b && c)) ≡ false
+none a b c e f = rw (e, f)
+
+-- of the others, above 2 groups group (n − 1) / 2, and else none
+pub middle-is : (n k : ℕ) → (k ≡ n - 1 → ⊥) → 2 < n → namesRoot n k ≡ eqb k ((n - 1) / 2)
+unfolding namesRoot
+middle-is n k l h = pick (eqb k (n - 1)) (ltb 2 n) (eqb k ((n - 1) / 2)) (ne-eqb k (n - 1) l) (lt-ltb 2 n h)
+
+pub none-of-two : (n k : ℕ) → (k ≡ n - 1 → ⊥) → n ≤ 2 → namesRoot n k ≡ false
+unfolding namesRoot
+none-of-two n k l h = none (eqb k (n - 1)) (ltb 2 n) (eqb k ((n - 1) / 2)) (ne-eqb k (n - 1) l) (le-ltb 2 n h)
+
 pub middle-names : (n : ℕ) → 2 < n → namesRoot n ((n - 1) / 2) ≡ true
-unfolding namesRoot
-middle-names n h = rw (lt-ltb 2 n h, eq-eqb ((n - 1) / 2) ((n - 1) / 2) refl) (or-true (eqb ((n - 1) / 2) (n - 1)))
+middle-names n h = middle-is n ((n - 1) / 2) (λ e. omega arith) h ∙ eq-eqb ((n - 1) / 2) ((n - 1) / 2) refl
 
 only-at : (n k : ℕ) (a b c : Bool) → eqb k (n - 1) ≡ a → ltb 2 n ≡ b → eqb k ((n - 1) / 2) ≡ c → (a || (b && c)) ≡ true
     → (k ≡ n - 1) ⊎ ((2 < n) × (k ≡ (n - 1) / 2))

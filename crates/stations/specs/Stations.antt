@@ -4,6 +4,7 @@ use mathlib.Core.Bool.{Bool, true, false, _&&_, cond}
 use mathlib.Core.List.{List, [], _∷_, _++_}
 use Prim.Native.Nat.{ℕ, zero, suc, _+_, _*_}
 use lib.Dec.{eqb}
+use lib.ListN.{replicate}
 use Rattle.params.specs.declared.Features.{Features}
 use Rattle.params.specs.declared.OptU64.{OptU64}
 use Rattle.params.specs.declared.OptU64.the-variants.{Absent, Given}
@@ -20,7 +21,9 @@ use Rattle.plan.specs.Plan.{planned}
 use Rattle.closed.specs.Closed.{freeBlocks}
 use Rattle.totals.specs.declared.Row.{Row}
 use Rattle.totals.specs.declared.Total.{Total}
-use Rattle.totals.specs.Totals.{plansNumber, freeCount, rowOf, totalOf}
+use Rattle.totals.specs.Totals.{plansNumber, rowOf, totalOf}
+use Rattle.sb.specs.declared.SbState.{SbState}
+use Rattle.states.specs.States.{finishedState}
 
 pub record Case : Type 0 where
   pub options : Params
@@ -51,10 +54,14 @@ chunkAt (Given at) = at
 abbrev pub planIn : Geometry → ℕ → AgPlan
 planIn g k = planned g k .plan
 
--- of the plans: free count, first block of the chunk, free records of group 0 and of the log group
+-- the superblock's state at the end; no number of it depends on the UUID
+abbrev pub finishedOf : Geometry → SbState
+finishedOf g = finishedState g (replicate 16 0)
+
+-- of the plans: the finished superblock's root inode and free count, first block of the chunk, free records of group 0 and of the log group
 unfoldable pub acceptedPlans : Geometry → List ℕ
 acceptedPlans g =
-    0 ∷ freeCount g ∷ chunkAt (planIn g 0 .chunk) ∷ planIn g 0 .free .len ∷ planIn g (g .logagno) .free .len ∷ []
+    0 ∷ finishedOf g .rootino ∷ finishedOf g .fdblocks ∷ chunkAt (planIn g 0 .chunk) ∷ planIn g 0 .free .len ∷ planIn g (g .logagno) .free .len ∷ []
 
 -- of a refusal the number, and the blocks that are left in the log group
 unfoldable pub plansBy : ℕ → Geometry → List ℕ
@@ -106,24 +113,24 @@ noRmapbt =
 unfoldable pub stations : List Case
 stations =
     -- K1
-    case noOptions (1024 * mib) (0 ∷ 262144 ∷ 65536 ∷ 4 ∷ 16384 ∷ 7 ∷ 128 ∷ []) (0 ∷ 245724 ∷ 16 ∷ 2 ∷ 1 ∷ [])
+    case noOptions (1024 * mib) (0 ∷ 262144 ∷ 65536 ∷ 4 ∷ 16384 ∷ 7 ∷ 128 ∷ []) (0 ∷ 128 ∷ 245724 ∷ 16 ∷ 2 ∷ 1 ∷ [])
     -- K2
     ∷ refused noOptions (299 * mib) 21
-    ∷ case noOptions (300 * mib) (0 ∷ 76800 ∷ 19200 ∷ 4 ∷ 16384 ∷ 7 ∷ 128 ∷ []) (0 ∷ 60380 ∷ 16 ∷ 2 ∷ 1 ∷ [])
+    ∷ case noOptions (300 * mib) (0 ∷ 76800 ∷ 19200 ∷ 4 ∷ 16384 ∷ 7 ∷ 128 ∷ []) (0 ∷ 128 ∷ 60380 ∷ 16 ∷ 2 ∷ 1 ∷ [])
     -- K3, K4, K5
     ∷ refused (withAgcount noOptions 5) (5 * 16395 * block) 22
     ∷ case (withAgcount noOptions 5) (5 * 16396 * block) (0 ∷ 81980 ∷ 16396 ∷ 5 ∷ 16384 ∷ 7 ∷ 128 ∷ []) (short 5)
-    ∷ case (withAgcount noOptions 5) (5 * 16397 * block) (0 ∷ 81985 ∷ 16397 ∷ 5 ∷ 16384 ∷ 7 ∷ 128 ∷ []) (0 ∷ 65558 ∷ 16 ∷ 2 ∷ 0 ∷ [])
+    ∷ case (withAgcount noOptions 5) (5 * 16397 * block) (0 ∷ 81985 ∷ 16397 ∷ 5 ∷ 16384 ∷ 7 ∷ 128 ∷ []) (0 ∷ 128 ∷ 65558 ∷ 16 ∷ 2 ∷ 0 ∷ [])
     -- K6, K7
     ∷ case (withAgsize noOptions (76800 * block)) (80896 * block) (0 ∷ 80896 ∷ 76800 ∷ 2 ∷ 16384 ∷ 7 ∷ 128 ∷ []) (short 0)
     ∷ refused (withAgsize noOptions (76800 * block)) (80895 * block) 23
     -- K8
-    ∷ case (withAgsize noOptions (87000 * block)) (1024 * mib) (0 ∷ 261000 ∷ 87000 ∷ 3 ∷ 16384 ∷ 7 ∷ 128 ∷ []) (0 ∷ 244587 ∷ 16 ∷ 2 ∷ 1 ∷ [])
+    ∷ case (withAgsize noOptions (87000 * block)) (1024 * mib) (0 ∷ 261000 ∷ 87000 ∷ 3 ∷ 16384 ∷ 7 ∷ 128 ∷ []) (0 ∷ 128 ∷ 244587 ∷ 16 ∷ 2 ∷ 1 ∷ [])
     ∷ refused (withAgcount (withAgsize noOptions (87000 * block)) 3) (1024 * mib) 14
     -- K9
     ∷ refused (withFeatures (withAgcount noOptions 20001) noRmapbt) (400000000 * block) 24
     -- K10
-    ∷ case (withSectorSize noOptions 4096) (1024 * mib) (0 ∷ 262144 ∷ 65536 ∷ 4 ∷ 16384 ∷ 10 ∷ 128 ∷ []) (0 ∷ 245712 ∷ 16 ∷ 1 ∷ 1 ∷ [])
+    ∷ case (withSectorSize noOptions 4096) (1024 * mib) (0 ∷ 262144 ∷ 65536 ∷ 4 ∷ 16384 ∷ 10 ∷ 128 ∷ []) (0 ∷ 128 ∷ 245712 ∷ 16 ∷ 1 ∷ 1 ∷ [])
     ∷ []
 
 -- ---- planlist's example

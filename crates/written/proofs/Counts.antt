@@ -1,14 +1,14 @@
 -- How many records a run writes.
 -- Assumes nothing.
-use mathlib.Core.Path.{_≡_, refl, sym, ap, _∙_}
-use mathlib.Core.List.{List, [], _∷_, _++_}
+use mathlib.Core.Path.{_≡_, refl, _∙_}
+use mathlib.Core.List.{[], _∷_, _++_}
 use Prim.Native.Nat.{ℕ, zero, suc, _+_, _*_}
 use native.Mathlib.Omega.{arith}
 use lib.ListN.{length, length-append}
 use Rattle.run.specs.declared.Run.{Run}
-use Rattle.records.specs.Records.{Record, FL, blocks}
+use Rattle.records.specs.Records.{FL}
 use Rattle.records.proofs.Blocks.{blocks-count}
-use Rattle.written.specs.Listing.{headBlocks, headerBlocks, chunkBlocks, headFinished, opening, headRecords, headsTo, chunkRecords, closing, listOf, recordCount}
+use Rattle.written.specs.Listing.{headBlocks, headerBlocks, chunkBlocks, opening, headRecords, headsTo, chunkRecords, headerRecords, closing, listOf, recordCount}
 
 module _ (run : Run) where
   pub opening-count : (device : ℕ) → length (opening run device) ≡ 4
@@ -31,15 +31,12 @@ module _ (run : Run) where
   unfolding chunkRecords
   chunk-count = blocks-count _ _ (chunkBlocks (run .geometry)) _
 
-  again : List Record
-  again = blocks (run .geometry .blocksize) 0 (headerBlocks (run .geometry)) (headFinished (run .geometry) (run .uuid))
-
   pub closing-count : length (closing run) ≡ headerBlocks (run .geometry) + 2
-  unfolding closing again
+  unfolding closing
   closing-count =
-      let b : length again ≡ headerBlocks (run .geometry) = blocks-count _ _ (headerBlocks (run .geometry)) _ in
-      let a : length (again ++ (FL ∷ [])) ≡ length again + 1 = length-append again (FL ∷ []) in
-      let c : suc (length (again ++ (FL ∷ []))) ≡ headerBlocks (run .geometry) + 2 = omega arith in
+      let b : length (headerRecords run) ≡ headerBlocks (run .geometry) = blocks-count _ _ (headerBlocks (run .geometry)) _ in
+      let a : length (headerRecords run ++ (FL ∷ [])) ≡ length (headerRecords run) + 1 = length-append (headerRecords run) (FL ∷ []) in
+      let c : suc (length (headerRecords run ++ (FL ∷ []))) ≡ headerBlocks (run .geometry) + 2 = omega arith in
       c
 
   -- THE WHOLE LIST

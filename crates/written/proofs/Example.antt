@@ -1,4 +1,4 @@
--- A disk of 1 GiB without options has 43 records.
+-- A disk of 1 GiB without options has 43 records, of 156,390 bytes.
 -- Assumes nothing.
 use mathlib.Core.Path.{_≡_, refl}
 use Rattle.arith.specs.Choice.{when, bit}
@@ -11,8 +11,8 @@ use Rattle.geometry.specs.Log.{headerOf, preallocOf, logBlocks, defaultImaxpct,
 use Rattle.geometry.specs.Compute.{withGroups, withSizes, chosenOf, refusals, refusalOf, labelOf, geometryOf, zeroGeometry, computeDef}
 use Rattle.geometry.specs.Compute as compute
 use Rattle.layout.specs.Places.{chunkOf}
-use Rattle.written.specs.Listing.{recordCount}
+use Rattle.written.specs.Listing.{recordCount, listLength}
 
-pub example : recordCount (computeDef noOptions 1073741824 512 512 .geometry) ≡ 43
-unfolding when bit ceilDiv powerIn powerLog leastFrom log2Up defaultSector sizesOf sizesRefusals askedBlocks defaultSize initialGroups isShort trim optionsRefusals groupsRefusals headerOf preallocOf logBlocks defaultImaxpct lastRefusals withGroups withSizes chosenOf refusals refusalOf labelOf geometryOf zeroGeometry compute.answer computeDef chunkOf recordCount
-example = refl
+pub example : (recordCount (computeDef noOptions 1073741824 512 512 .geometry) ≡ 43) × (listLength (computeDef noOptions 1073741824 512 512 .geometry) ≡ 156390)
+unfolding when bit ceilDiv powerIn powerLog leastFrom log2Up defaultSector sizesOf sizesRefusals askedBlocks defaultSize initialGroups isShort trim optionsRefusals groupsRefusals headerOf preallocOf logBlocks defaultImaxpct lastRefusals withGroups withSizes chosenOf refusals refusalOf labelOf geometryOf zeroGeometry compute.answer computeDef chunkOf recordCount listLength
+example = (refl, refl)

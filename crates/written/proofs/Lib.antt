@@ -2,3 +2,10 @@ pub mod Counts
 pub mod Chunks
 pub mod Whole
 pub mod Example
+pub mod Spans
+pub mod Parts
+pub mod Alone
+pub mod Left
+pub mod Order
+pub mod Early
+pub mod After

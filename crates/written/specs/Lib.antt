@@ -1,2 +1,4 @@
 pub mod Listing
 pub mod Sound
+pub mod Left
+pub mod Order

@@ -98,11 +98,13 @@ chunkRecords run =
     blocks (run .geometry .blocksize) (byteOf (run .geometry .blocksize) (run .geometry .agsize) 0 (rootChunk (run .geometry))) (chunkBlocks (run .geometry))
     (chunkBytes (run .geometry) (rootChunk (run .geometry)) (run .uuid) (run .time) (run .seed))
 
--- a flush, the header blocks of group 0 again with the finished superblock, and a flush
+-- the header blocks of group 0 again, with the finished superblock
+abbrev pub headerRecords : Run → List Record
+headerRecords run = blocks (run .geometry .blocksize) 0 (headerBlocks (run .geometry)) (headFinished (run .geometry) (run .uuid))
+
+-- a flush, these, and a flush
 unfoldable pub closing : Run → List Record
-closing run =
-    FL
-    ∷ (blocks (run .geometry .blocksize) 0 (headerBlocks (run .geometry)) (headFinished (run .geometry) (run .uuid)) ++ (FL ∷ []))
+closing run = FL ∷ (headerRecords run ++ (FL ∷ []))
 
 -- the whole list
 unfoldable pub listOf : Run → ℕ → List Record
@@ -127,6 +129,10 @@ chunksTo run device (suc n) = chunksTo run device n ++ listChunk run device n
 -- ---- how many records: three WZ, the log block, two FL, and a WB for each block of heads, root chunk and header blocks
 unfoldable pub recordCount : Geometry → ℕ
 recordCount g = 6 + g .agcount * headBlocks g + chunkBlocks g + headerBlocks g
+
+-- how many bytes: 18 for each WZ, 2 for each FL, and for each WB 18 and a block's
+unfoldable pub listLength : Geometry → ℕ
+listLength g = 3 * 18 + 2 * 2 + (1 + g .agcount * headBlocks g + chunkBlocks g + headerBlocks g) * (18 + g .blocksize)
 
 -- ---- what a finished run leaves
 

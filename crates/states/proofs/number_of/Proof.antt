@@ -1,8 +1,10 @@
 -- `states::number_of` meets its contract.
 -- Assumes nothing.
+use mathlib.Core.Path.{sym}
+use native.Mathlib.Omega.{arith}
 use Rattle.states.specs.States.{stateNumber}
-use Rattle.arith.specs.Choice.{when}
-use borrow.Author.Tests.{eq-eqb, ne-eqb, le-leb, lt-leb}
+use Rattle.states.proofs.Known.{no-group, some-state}
+use borrow.Author.Tests.{ne-eqb}
 use borrow.Author.Needs.{needs}
 use Rattle.states.proofs.number_of.Statement.{statement}
 use Rattle.states.proofs.number_of.Tie as tie
@@ -12,12 +14,10 @@ unfolding stateNumber
 returns c = rw (← c .before .plans-number .ensures, ne-eqb _ 0 (c .if1 .taken))
 
 returns-2 : tie.Need-returns-2
-unfolding stateNumber when
-returns-2 c = rw (← c .before .before .before .plans-number .ensures, eq-eqb _ 0 (c .before .before .if1 .left), le-leb _ _ (c .if2 .taken))
+returns-2 c = sym (no-group _ _ _ (c .before .before .before .plans-number .ensures) (c .before .before .if1 .left) (let h = c .if2 .taken in omega arith))
 
 returns-3 : tie.Need-returns-3
-unfolding stateNumber when
-returns-3 c = rw (← c .before .before .before .plans-number .ensures, eq-eqb _ 0 (c .before .before .if1 .left), lt-leb _ _ (c .if2 .left))
+returns-3 c = sym (some-state _ _ _ (c .before .before .before .plans-number .ensures) (c .before .before .if1 .left) (let h = c .if2 .left in omega arith))
 
 pub number-of-spec : {M : Type 1} → statement M
 number-of-spec = tie.close (tie.spec

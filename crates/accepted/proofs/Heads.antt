@@ -1,0 +1,78 @@
+-- What every accepted run leaves on a device, and that heads and log block depend on geometry, UUID and group alone.
+-- Assumes nothing.
+use mathlib.Core.Path.{_≡_, sym, ap, _∙_}
+use mathlib.Core.List.{List}
+use Prim.Native.Nat.{ℕ, _+_, _<_}
+use Rattle.endian.specs.Bytes.{beAt}
+use Rattle.endian.specs.Fields.{part}
+use Rattle.geometry.specs.declared.Geometry.{Geometry}
+use Rattle.device.specs.Device.{Device, applied, read}
+use Rattle.request.specs.declared.Request.{Request}
+use Rattle.run.specs.Runs.{runOf}
+use Rattle.written.specs.Listing.{logOffset, logBlock, headLeft, listOf}
+use Rattle.written.specs.Left.{headAt, headSize, Left, Alone}
+use Rattle.written.proofs.Left.{left}
+use Rattle.written.proofs.Alone.{alone}
+use Rattle.accepted.specs.Accepted.{AcceptedRun, Source}
+use Rattle.accepted.specs.Superblocks.{leftIn, Says}
+use Rattle.accepted.proofs.Runs.{source-of}
+use Rattle.accepted.proofs.Superblocks.{says}
+use Rattle.accepted.proofs.Sound.{sound}
+
+-- a device after the run of a request, whatever stood there
+abbrev after : Request → Device → Device
+after r d = applied (listOf (runOf r) (r .device)) d
+
+module _ (r : Request) (a : AcceptedRun r) where
+  -- WHAT AN ACCEPTED RUN LEAVES
+  pub run-left : (d : Device) → Left (runOf r) (r .device) (after r d)
+  run-left d = left (runOf r) (r .device) (sound r a) d
+
+  -- no record but those named touches a head
+  pub run-alone : (k : ℕ) → k < runOf r .geometry .agcount → Alone (runOf r) (r .device) k
+  run-alone k h = alone (runOf r) (r .device) (sound r a) k h
+
+  -- WHAT THE HEADS SAY THAT IT LEAVES
+  pub run-says : (k : ℕ) → k < runOf r .geometry .agcount → Says (runOf r .geometry) (runOf r .uuid) k (leftIn (runOf r) k)
+  unfolding leftIn
+  run-says k h = says (runOf r .geometry) (runOf r .uuid) (source-of r a) k h
+
+-- ---- two runs with one geometry and one UUID, whatever their time, seed, device and sectors
+
+module _ (r q : Request) (a : AcceptedRun r) (b : AcceptedRun q) (g : runOf r .geometry ≡ runOf q .geometry) (u : runOf r .uuid ≡ runOf q .uuid) where
+  -- THEY LEAVE THE SAME HEADS
+  pub same-heads : (k : ℕ) → leftIn (runOf r) k ≡ leftIn (runOf q) k
+  unfolding leftIn
+  same-heads k = rw (g, u)
+
+  -- AND THE SAME LOG BLOCK
+  pub same-log : logBlock (runOf r .geometry) (runOf r .uuid) ≡ logBlock (runOf q .geometry) (runOf q .uuid)
+  same-log = rw (g, u)
+
+  count-same : (k : ℕ) → k < runOf r .geometry .agcount → k < runOf q .geometry .agcount
+  count-same k h = rw g at h
+
+  -- on devices of any old contents
+  pub same-on-disk : (d e : Device) (k : ℕ) → k < runOf r .geometry .agcount
+      → read (after r d) (headAt (runOf r) k) (headSize (runOf r)) ≡ read (after q e) (headAt (runOf q) k) (headSize (runOf q))
+  unfolding leftIn
+  same-on-disk d e k h = run-left r a d .head k h ∙ same-heads k ∙ sym (run-left q b e .head k (count-same k h))
+
+  pub same-log-on-disk : (d e : Device)
+      → read (after r d) (logOffset (runOf r .geometry)) (runOf r .geometry .blocksize) ≡ read (after q e) (logOffset (runOf q .geometry)) (runOf q .geometry .blocksize)
+  same-log-on-disk d e = run-left r a d .log ∙ same-log ∙ sym (run-left q b e .log)
+
+-- ---- and one head is not another's
+
+-- two groups of a disk have different heads
+pub groups-apart : (g : Geometry) (uuid : List ℕ) → Source g uuid → (j k : ℕ) → j < g .agcount → k < g .agcount → headLeft g uuid j ≡ headLeft g uuid k → j ≡ k
+groups-apart g uuid z j k h l e =
+    sym (says g uuid z j h .group) ∙ ap (beAt 4 (g .sectsize + 8)) e ∙ says g uuid z k l .group
+
+-- two disks with the same head in some group have one UUID, one block count and one count of groups
+pub disks-apart : (g h : Geometry) (u v : List ℕ) → Source g u → Source h v → (k : ℕ) → k < g .agcount → k < h .agcount → headLeft g u k ≡ headLeft h v k
+    → (u ≡ v) × (g .dblocks ≡ h .dblocks) × (g .agcount ≡ h .agcount)
+disks-apart g h u v y z k i j e =
+    let a = says g u y k i in
+    let b = says h v z k j in
+    (sym (a .id) ∙ ap (λ (xs : List ℕ). part 32 16 xs) e ∙ b .id, sym (a .blocks) ∙ ap (beAt 8 8) e ∙ b .blocks, sym (a .groups) ∙ ap (beAt 4 88) e ∙ b .groups)

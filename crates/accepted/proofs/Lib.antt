@@ -1,0 +1,12 @@
+pub mod Bytes
+pub mod Runs
+pub mod Sizes
+pub mod Alike
+pub mod Finished
+pub mod Reading
+pub mod Superblocks
+pub mod Sound
+pub mod Heads
+pub mod Stations
+pub mod Parsed
+pub mod Rewritten
