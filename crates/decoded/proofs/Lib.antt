@@ -1,0 +1,6 @@
+pub mod Parts
+pub mod Slots
+pub mod Numbers
+pub mod Sectors
+pub mod Trees
+pub mod Super
