@@ -1,0 +1,3 @@
+pub mod Decodings
+pub mod OneUse
+pub mod Totals

@@ -1,0 +1,107 @@
+-- Totals, by the bytes: free records and free-list entries of all groups are the superblock's free count, and all blocks but heads, log and chunk.
+-- Assumes nothing.
+use mathlib.Core.Path.{_≡_, ap, sym, _∙_}
+use mathlib.Core.Bool.{Bool, true, false}
+use mathlib.Core.List.{List, [], _∷_}
+use Prim.Native.Nat.{ℕ, _+_, _*_, _-_, _<_}
+use native.Mathlib.Nat.{one-mul, zero-mul}
+use native.Mathlib.Omega.{arith}
+use lib.Dec.{eqb}
+use lib.ListN.{length}
+use Rattle.seqs.specs.Lists.{choose, fold, total}
+use Rattle.params.specs.declared.OptU64.the-variants.{Absent, Given}
+use Rattle.geometry.specs.declared.Geometry.{Geometry}
+use Rattle.geometry.specs.Log.{preallocOf}
+use Rattle.layout.specs.Places.{chunkOf}
+use Rattle.btree.specs.declared.records.AllocRec.{AllocRec}
+use Rattle.site.specs.Sites.{siteOf}
+use Rattle.free.specs.declared.FreeList.{FreeList}
+use Rattle.free.specs.Free.{freeOf, countOf}
+use Rattle.plan.specs.declared.AgPlan.{AgPlan}
+use Rattle.plan.specs.Plan.{planned}
+use Rattle.closed.specs.Closed.{closedAgPlan}
+use Rattle.totals.specs.Totals.{addCount, freeblksOf, freeOfPlan, freeCount}
+use Rattle.totals.proofs.Sums.{sum-same, sum-plus, only, sum-only}
+use Rattle.totals.proofs.Whole.{disk-adds}
+use Rattle.sameplan.proofs.Planners.{planned-group}
+use Rattle.frame.proofs.Fitting.{plan-closed}
+use Rattle.decoded.specs.Decoded.{LogRun, listIn, freeIn, chunksIn, chunkList, logIn, countIn}
+use Rattle.decoded.proofs.Numbers.{list-length}
+use Rattle.byuse.specs.ByUse.{freeTotal, listTotal, chunkTotal, LeftHeads}
+use Rattle.byuse.proofs.Decodings.{answer, full, first-group, numbered, is-plan, list-is, free-is, chunks-are, log-is, count-is}
+
+-- the records' lengths, added one after the other
+fold-total : (n : ℕ) (rs : List AllocRec) → fold addCount n rs ≡ n + total countOf rs
+unfolding fold total
+fold-total n [] = omega arith
+fold-total n (r ∷ rs) = let e = fold-total (n + r .count) rs in omega arith
+
+records-total : (l : FreeList) → total countOf (freeOf l) ≡ freeblksOf l
+unfolding freeblksOf
+records-total l = let e = fold-total 0 (freeOf l) in omega arith
+
+module _ (g : Geometry) (u : List ℕ) (heads : ℕ → List ℕ) (d : LeftHeads g u heads) where
+  -- ---- one group
+
+  free-of : (k : ℕ) → k < g .agcount → total countOf (freeIn g (heads k)) + length (listIn g (heads k)) ≡ freeOfPlan (planned g k .plan)
+  free-of k i =
+      let a : total countOf (freeIn g (heads k)) ≡ freeblksOf (planned g k .plan .free) =
+      ap (λ (rs : List AllocRec). total countOf rs) (free-is g u heads d k i) ∙ records-total (planned g k .plan .free) in
+      let b : length (listIn g (heads k)) ≡ planned g k .plan .agfl .len =
+      ap (λ (bs : List ℕ). length bs) (list-is g u heads d k i) ∙ list-length g (planned g k .plan) (d .label) (is-plan g u heads d k i) in
+      omega arith
+
+  abbrev chunk : ℕ
+  chunk = chunkOf (g .inodesize) (g .blocksize)
+
+  -- the chunk is group 0's
+  chunk-at : (t : Bool) (c : ℕ) → length (chunkList (choose t (Given c) Absent)) * chunk ≡ choose t chunk 0
+  unfolding chunkList
+  chunk-at true c = one-mul chunk
+  chunk-at false c = zero-mul chunk
+
+  closed-is : (k : ℕ) → k < g .agcount → planned g k .plan ≡ closedAgPlan (siteOf g k)
+  closed-is k i =
+      plan-closed g (planned g k .plan) (d .label) (is-plan g u heads d k i)
+      ∙ ap (λ (n : ℕ). closedAgPlan (siteOf g n)) (planned-group g k (numbered g u heads d k i))
+
+  chunk-of : (k : ℕ) → k < g .agcount → length (chunksIn g (heads k)) * chunk ≡ only 0 chunk k
+  unfolding siteOf
+  chunk-of k i =
+      ap (λ (bs : List ℕ). length bs * chunk) (chunks-are g u heads d k i)
+      ∙ ap (λ (p : AgPlan). length (chunkList (p .chunk)) * chunk) (closed-is k i)
+      ∙ chunk-at (eqb k 0) (siteOf g k .«chunk_at»)
+
+  -- ---- all groups
+
+  pub free-and-list : freeTotal g heads + listTotal g heads ≡ freeCount g
+  unfolding freeTotal listTotal freeCount
+  free-and-list =
+      sym (sum-plus (g .agcount) (λ k. total countOf (freeIn g (heads k))) (λ k. length (listIn g (heads k))))
+      ∙ sum-same (g .agcount) (λ k. total countOf (freeIn g (heads k)) + length (listIn g (heads k))) (λ k. freeOfPlan (planned g k .plan)) free-of
+
+  pub chunk-once : chunkTotal g heads ≡ chunk
+  unfolding chunkTotal
+  chunk-once =
+      sum-same (g .agcount) (λ k. length (chunksIn g (heads k)) * chunk) (only 0 chunk) chunk-of
+      ∙ sum-only 0 chunk (g .agcount) (first-group g u heads d)
+
+  -- THE SUPERBLOCK'S FREE COUNT IS WHAT THE RECORDS AND THE FREE LISTS OF ALL GROUPS HOLD
+  pub free-total : freeTotal g heads + listTotal g heads ≡ countIn (heads 0)
+  free-total = free-and-list ∙ sym (count-is g u heads d)
+
+  log-total : logIn g (heads 0) .blocks ≡ g .logblocks
+  log-total = ap (λ (r : LogRun). r .blocks) (log-is g u heads d)
+
+  -- ALL BLOCKS ARE FREE, ON A FREE LIST, OF THE CHUNK, OF THE LOG OR OF A HEAD
+  pub disk-total : freeTotal g heads + listTotal g heads + chunkTotal g heads + logIn g (heads 0) .blocks + g .agcount * preallocOf (g .features) (g .sectsize) (g .blocksize) ≡ g .dblocks
+  disk-total =
+      let a = free-and-list in
+      let b = chunk-once in
+      let c = log-total in
+      let e = disk-adds g (d .label) (answer g u heads d) (full g u heads d) in
+      omega arith
+
+  -- THE FREE COUNT IS ALL BLOCKS − HEADS − LOG − CHUNK
+  pub count-total : countIn (heads 0) ≡ g .dblocks - g .agcount * preallocOf (g .features) (g .sectsize) (g .blocksize) - logIn g (heads 0) .blocks - chunkTotal g heads
+  count-total = let a = free-total in let b = disk-total in omega arith
