@@ -2,23 +2,25 @@
 -- Assumes nothing.
 use mathlib.Core.Path.{_≡_, refl, ap, sym, _∙_}
 use mathlib.Core.Bool.{Bool, true, false}
-use mathlib.Core.List.{List}
-use Prim.Native.Nat.{ℕ, _^_, _<_}
+use mathlib.Core.List.{List, [], _∷_}
+use Prim.Native.Nat.{ℕ, _+_, _^_, _<_}
 use native.Mathlib.Omega.{arith}
 use borrow.Author.Tests.{eqb-true}
 use lib.Dec.{eqb}
 use lib.ListN.{length}
-use Rattle.seqs.specs.Lists.{choose}
+use Rattle.seqs.specs.Lists.{choose, fold, total}
 use Rattle.geometry.specs.declared.Geometry.{Geometry}
 use Rattle.answers.specs.Named.{isAnswer}
 use Rattle.layout.proofs.Bounding.{answer-bounds}
 use Rattle.layout.proofs.Inside.{few-blocks}
+use Rattle.btree.specs.declared.records.AllocRec.{AllocRec}
 use Rattle.site.specs.Sites.{siteOf}
-use Rattle.free.specs.Free.{freeOf}
+use Rattle.free.specs.declared.FreeList.{FreeList}
+use Rattle.free.specs.Free.{freeOf, countOf}
 use Rattle.plan.specs.declared.AgPlan.{AgPlan}
 use Rattle.plan.specs.Plan.{planned}
 use Rattle.closed.specs.Closed.{short}
-use Rattle.totals.specs.Totals.{freeCount}
+use Rattle.totals.specs.Totals.{addCount, maxCount, freeblksOf, longestOf, freeCount}
 use Rattle.totals.proofs.Whole.{all-planned, disk-adds}
 use Rattle.sameplan.specs.Same.{isPlan}
 use Rattle.sameplan.proofs.Planners.{planned-is-plan}
@@ -28,11 +30,22 @@ use Rattle.head.specs.Head.{headBytes}
 use Rattle.uses.specs.Uses.{listOf}
 use Rattle.written.specs.Listing.{headWritten, headFinished, headLeft}
 use Rattle.written.proofs.Whole.{group-planned}
-use Rattle.decoded.specs.Decoded.{listIn, freeIn, chunksIn, chunkList, logIn, countIn}
-use Rattle.decoded.proofs.Sectors.{list-in}
+use Rattle.decoded.specs.Decoded.{agfIn, listIn, freeIn, chunksIn, chunkList, logIn, countIn}
+use Rattle.decoded.proofs.Numbers.{list-length}
+use Rattle.decoded.proofs.Sectors.{group-in, length-in, list-in}
 use Rattle.decoded.proofs.Trees.{free-in, chunks-in}
 use Rattle.decoded.proofs.Super.{log-in, count-back}
 use Rattle.byuse.specs.ByUse.{LeftHeads}
+
+-- the records' lengths, added one after the other
+fold-total : (n : ℕ) (rs : List AllocRec) → fold addCount n rs ≡ n + total countOf rs
+unfolding fold total
+fold-total n [] = omega arith
+fold-total n (r ∷ rs) = let e = fold-total (n + r .count) rs in omega arith
+
+records-total : (l : FreeList) → total countOf (freeOf l) ≡ freeblksOf l
+unfolding freeblksOf
+records-total l = let e = fold-total 0 (freeOf l) in omega arith
 
 module _ (g : Geometry) (u : List ℕ) (heads : ℕ → List ℕ) (d : LeftHeads g u heads) where
   pub answer : isAnswer g ≡ true
@@ -78,6 +91,24 @@ module _ (g : Geometry) (u : List ℕ) (heads : ℕ → List ℕ) (d : LeftHeads
 
     pub chunks-are : chunksIn g (heads k) ≡ chunkList (its .chunk)
     chunks-are = ap (λ (xs : List ℕ). chunksIn g xs) head-is ∙ chunks-in g its u state (d .label) is-plan (d .uuid)
+
+    -- the group's number and length in its AGF are the plan's
+    pub group-is : agfIn g (heads k) .seqno ≡ its .agno
+    group-is = ap (λ (xs : List ℕ). agfIn g xs .seqno) head-is ∙ group-in g its u state (d .label) is-plan (d .uuid)
+
+    pub length-is : agfIn g (heads k) .length ≡ its .length
+    length-is = ap (λ (xs : List ℕ). agfIn g xs .length) head-is ∙ length-in g its u state (d .label) is-plan (d .uuid)
+
+    -- entries and record lengths are the plan's counts
+    pub entries-are : length (listIn g (heads k)) ≡ its .agfl .len
+    entries-are = ap (λ (bs : List ℕ). length bs) list-is ∙ list-length g its (d .label) is-plan
+
+    pub lengths-are : total countOf (freeIn g (heads k)) ≡ freeblksOf (its .free)
+    lengths-are = ap (λ (rs : List AllocRec). total countOf rs) free-is ∙ records-total (its .free)
+
+    pub longest-is : fold maxCount 0 (freeIn g (heads k)) ≡ longestOf (its .free)
+    unfolding longestOf
+    longest-is = ap (λ (rs : List AllocRec). fold maxCount 0 rs) free-is
 
   -- ---- group 0's superblock
 

@@ -1,3 +1,4 @@
 pub mod Decodings
 pub mod OneUse
 pub mod Totals
+pub mod Table

@@ -2,54 +2,36 @@
 -- Assumes nothing.
 use mathlib.Core.Path.{_≡_, ap, sym, _∙_}
 use mathlib.Core.Bool.{Bool, true, false}
-use mathlib.Core.List.{List, [], _∷_}
+use mathlib.Core.List.{List}
 use Prim.Native.Nat.{ℕ, _+_, _*_, _-_, _<_}
 use native.Mathlib.Nat.{one-mul, zero-mul}
 use native.Mathlib.Omega.{arith}
 use lib.Dec.{eqb}
 use lib.ListN.{length}
-use Rattle.seqs.specs.Lists.{choose, fold, total}
+use Rattle.seqs.specs.Lists.{choose, total}
 use Rattle.params.specs.declared.OptU64.the-variants.{Absent, Given}
 use Rattle.geometry.specs.declared.Geometry.{Geometry}
 use Rattle.geometry.specs.Log.{preallocOf}
 use Rattle.layout.specs.Places.{chunkOf}
-use Rattle.btree.specs.declared.records.AllocRec.{AllocRec}
 use Rattle.site.specs.Sites.{siteOf}
-use Rattle.free.specs.declared.FreeList.{FreeList}
-use Rattle.free.specs.Free.{freeOf, countOf}
+use Rattle.free.specs.Free.{countOf}
 use Rattle.plan.specs.declared.AgPlan.{AgPlan}
 use Rattle.plan.specs.Plan.{planned}
 use Rattle.closed.specs.Closed.{closedAgPlan}
-use Rattle.totals.specs.Totals.{addCount, freeblksOf, freeOfPlan, freeCount}
+use Rattle.totals.specs.Totals.{freeOfPlan, freeCount}
 use Rattle.totals.proofs.Sums.{sum-same, sum-plus, only, sum-only}
 use Rattle.totals.proofs.Whole.{disk-adds}
 use Rattle.sameplan.proofs.Planners.{planned-group}
 use Rattle.frame.proofs.Fitting.{plan-closed}
 use Rattle.decoded.specs.Decoded.{LogRun, listIn, freeIn, chunksIn, chunkList, logIn, countIn}
-use Rattle.decoded.proofs.Numbers.{list-length}
 use Rattle.byuse.specs.ByUse.{freeTotal, listTotal, chunkTotal, LeftHeads}
-use Rattle.byuse.proofs.Decodings.{answer, full, first-group, numbered, is-plan, list-is, free-is, chunks-are, log-is, count-is}
-
--- the records' lengths, added one after the other
-fold-total : (n : ℕ) (rs : List AllocRec) → fold addCount n rs ≡ n + total countOf rs
-unfolding fold total
-fold-total n [] = omega arith
-fold-total n (r ∷ rs) = let e = fold-total (n + r .count) rs in omega arith
-
-records-total : (l : FreeList) → total countOf (freeOf l) ≡ freeblksOf l
-unfolding freeblksOf
-records-total l = let e = fold-total 0 (freeOf l) in omega arith
+use Rattle.byuse.proofs.Decodings.{answer, full, first-group, numbered, is-plan, entries-are, lengths-are, chunks-are, log-is, count-is}
 
 module _ (g : Geometry) (u : List ℕ) (heads : ℕ → List ℕ) (d : LeftHeads g u heads) where
   -- ---- one group
 
   free-of : (k : ℕ) → k < g .agcount → total countOf (freeIn g (heads k)) + length (listIn g (heads k)) ≡ freeOfPlan (planned g k .plan)
-  free-of k i =
-      let a : total countOf (freeIn g (heads k)) ≡ freeblksOf (planned g k .plan .free) =
-      ap (λ (rs : List AllocRec). total countOf rs) (free-is g u heads d k i) ∙ records-total (planned g k .plan .free) in
-      let b : length (listIn g (heads k)) ≡ planned g k .plan .agfl .len =
-      ap (λ (bs : List ℕ). length bs) (list-is g u heads d k i) ∙ list-length g (planned g k .plan) (d .label) (is-plan g u heads d k i) in
-      omega arith
+  free-of k i = let a = lengths-are g u heads d k i in let b = entries-are g u heads d k i in omega arith
 
   abbrev chunk : ℕ
   chunk = chunkOf (g .inodesize) (g .blocksize)

@@ -3,7 +3,7 @@
 use mathlib.Core.Path.{_≡_, refl, ap, sym, _∙_}
 use mathlib.Core.Bool.{true}
 use mathlib.Core.List.{List, [], _∷_, _++_, append-assoc}
-use Prim.Native.Nat.{ℕ, _+_, _*_, _-_, _/_, _≤_}
+use Prim.Native.Nat.{ℕ, _+_, _*_, _-_, _/_, _%_, _≤_}
 use native.Mathlib.Nat.{add-mul, le-div-iff-mul-le}
 use native.Mathlib.Omega.{arith}
 use lib.Dec.{lit<}
@@ -185,6 +185,15 @@ module _ (g : Geometry) (p : AgPlan) (uuid : List ℕ) (s : SbState) (l : length
       ap (λ (zs : List ℕ). agiRead zs) (sector-back 2 _ (agi-there w p g s uuid fine))
       ∙ agi-back (agiOf w) uuid (zeros (w .sector)) u (omega arith) (agi-fits w (fine .header-most) (n .group) (n .blocks) (n .inode))
 
+  -- the group's number and length
+  pub group-in : agfIn g xs .seqno ≡ p .agno
+  unfolding agfOf frameOf
+  group-in = ap (λ (a : Agf). a .seqno) agf-in
+
+  pub length-in : agfIn g xs .length ≡ p .length
+  unfolding agfOf frameOf
+  length-in = ap (λ (a : Agf). a .length) agf-in
+
   -- the slots
   abbrev ringSize : ℕ
   ringSize = slotsOf (length (zeros (w .sector)))
@@ -211,6 +220,13 @@ module _ (g : Geometry) (p : AgPlan) (uuid : List ℕ) (s : SbState) (l : length
   count-in : agfIn g xs .flcount ≡ length (entriesOf p)
   unfolding agfOf
   count-in = ap (λ (a : Agf). a .flcount) agf-in ∙ sym (list-length g p l h)
+
+  -- the AGF's last is the slot of the last entry
+  pub last-in : agfIn g xs .fllast ≡ (agfIn g xs .flfirst + agfIn g xs .flcount - 1) % agflSize (g .sectsize)
+  unfolding agfOf frameOf
+  last-in =
+      let e : p .agfl .len ≡ agfIn g xs .flfirst + agfIn g xs .flcount - 1 = let a = first-in in let b = count-in in let c = list-length g p l h in omega arith in
+      ap (λ (a : Agf). a .fllast) agf-in ∙ ap (λ (n : ℕ). n % agflSize (g .sectsize)) e
 
   -- THE FREE LIST'S ENTRIES IN USE ARE THE PLAN'S
   pub list-in : listIn g xs ≡ take (p .agfl .len) (p .agfl .blocks)
