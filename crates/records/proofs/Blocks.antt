@@ -18,6 +18,11 @@ pub all-append : (q : Record → Type 0) (xs ys : List Record) → All q xs → 
 all-append q [] ys a b = b
 all-append q (x ∷ xs) ys a b = (a .0, all-append q xs ys (a .1) b)
 
+-- of a list, all before a cut
+pub all-front : (q : Record → Type 0) (xs ys : List Record) → All q (xs ++ ys) → All q xs
+all-front q [] ys a = tt
+all-front q (x ∷ xs) ys a = (a .0, all-front q xs ys (a .1))
+
 -- bytes enough for n blocks
 pub blocks-whole : (bs offset n : ℕ) (bytes : List ℕ) → n * bs ≤ length bytes → All (OneBlock bs) (blocks bs offset n bytes)
 unfolding blocks

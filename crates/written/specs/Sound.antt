@@ -3,6 +3,7 @@
 use mathlib.Core.Path.{_≡_}
 use Prim.Native.Nat.{ℕ, _+_, _*_, _-_, _<_, _≤_}
 use lib.ListN.{length, getD}
+use Rattle.geometry.specs.Limits.{minGroupBytes, minLogBytes}
 use Rattle.places.specs.Answers.{rootChunk}
 use Rattle.rootchunk.specs.Chunk.{chunkBytes}
 use Rattle.run.specs.declared.Run.{Run}
@@ -28,6 +29,11 @@ pub record Sound (run : Run) (device : ℕ) : Type 0 where
   pub log-inside : run .geometry .logagno * run .geometry .agsize + run .geometry .«log_agbno» + run .geometry .logblocks ≤ run .geometry .dblocks
   pub first-inside : run .geometry .agsize ≤ run .geometry .dblocks
   pub inside : run .geometry .dblocks * run .geometry .blocksize ≤ device
+  -- a head has at most 10 blocks; every group, the last too, at least 16 MiB, and the log 64
+  pub head-most : headBlocks (run .geometry) ≤ 10
+  pub group-least : minGroupBytes ≤ run .geometry .agsize * run .geometry .blocksize
+  pub last-least : minGroupBytes ≤ (run .geometry .dblocks - (run .geometry .agcount - 1) * run .geometry .agsize) * run .geometry .blocksize
+  pub log-least : minLogBytes ≤ run .geometry .logblocks * run .geometry .blocksize
   -- every part has its blocks
   pub head-long : (k : ℕ) → k < run .geometry .agcount → length (headWritten (run .geometry) (run .uuid) k) ≡ headBlocks (run .geometry) * run .geometry .blocksize
   pub finished-long : length (headFinished (run .geometry) (run .uuid)) ≡ headBlocks (run .geometry) * run .geometry .blocksize

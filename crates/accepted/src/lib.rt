@@ -1,0 +1,1 @@
+// What every accepted run has, and what its superblocks say. No functions: see specs/ and proofs/.

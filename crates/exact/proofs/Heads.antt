@@ -1,0 +1,108 @@
+-- What the reader needs of a head and a log block that an accepted run leaves: their lengths, and what group 0's names.
+-- Assumes nothing.
+use mathlib.Core.Path.{_≡_}
+use mathlib.Core.Bool.{true}
+use mathlib.Core.List.{List}
+use Prim.Native.Nat.{ℕ, _^_, _<_, _≤_}
+use native.Mathlib.Nat.{pow-le-pow-right, mul-le-mul-right}
+use native.Mathlib.Omega.{arith}
+use lib.Dec.{eqb, lit<}
+use lib.ListN.{length}
+use Rattle.seqs.proofs.Laws.{choose-elim}
+use Rattle.geometry.specs.declared.Geometry.{Geometry}
+use Rattle.naming.specs.Answers.{TypedGeometry}
+use Rattle.answers.specs.Named.{namesOf, isAnswer}
+use Rattle.layout.specs.Bounds.{Bounds}
+use Rattle.layout.proofs.Bounding.{answer-bounds}
+use Rattle.counts.proofs.Room.{prealloc-pos}
+use Rattle.plan.specs.Plan.{planned}
+use Rattle.sameplan.specs.Same.{isPlan}
+use Rattle.sameplan.proofs.Planners.{planned-is-plan}
+use Rattle.head.specs.Head.{headLength}
+use Rattle.head.proofs.Bytes.{head-first, head-length}
+use Rattle.states.specs.States.{finishedState, stateOf}
+use Rattle.written.specs.Listing.{logBlock, headWritten, headFinished, headLeft}
+use Rattle.written.proofs.Whole.{group-planned}
+use Rattle.accepted.specs.Accepted.{Source}
+use Rattle.accepted.proofs.Bytes.{below-at}
+use Rattle.accepted.proofs.Runs.{source-plans, source-answer, source-label, source-label-bytes, source-uuid, source-uuid-bytes}
+use Rattle.accepted.proofs.Sound.{sound}
+use Rattle.named.specs.Named.{namesAt, namedBy, uuidAt}
+use Rattle.named.proofs.Back.{names-back, named-back, uuid-back}
+use Rattle.exact.specs.Left.{Octets, Handed}
+
+-- a geometry with the bounds of an answer has its types
+pub typed : (g : Geometry) → Bounds g → length (g .label) ≡ 12 → Octets (g .label) → TypedGeometry g
+typed g b l o =
+    let s = b .sizes in
+    let block : 2 ^ g .blocklog ≤ 2 ^ 14 = pow-le-pow-right (lit< tt) (s .block-most) in
+    let sector : 2 ^ g .sectlog ≤ 2 ^ g .blocklog = pow-le-pow-right (lit< tt) (s .sector-block) in
+    let inode : 2 ^ g .inodelog ≤ 2 ^ 11 = pow-le-pow-right (lit< tt) (s .inode-most) in
+    record {
+      blocksize = omega (arith, s .block-power);
+      sectsize = omega (arith, s .sector-power);
+      inodesize = omega (arith, s .inode-power);
+      imaxpct = omega (arith, s .imaxpct-most);
+      label-size = l;
+      label-bytes = o;
+    }
+
+-- a head is longer than a sector of 512 bytes
+pub head-least : (g : Geometry) → Bounds g → 512 ≤ headLength g
+unfolding headLength
+head-least g b =
+    let s = b .sizes in
+    let block : 2 ^ 10 ≤ 2 ^ g .blocklog = pow-le-pow-right (lit< tt) (s .block-least) in
+    omega (arith, s .block-power, mul-le-mul-right (g .blocksize) (prealloc-pos (g .features) (g .sectsize) (g .blocksize)))
+
+module _ (g : Geometry) (u : List ℕ) (s : Source g u) where
+  pub source-bounds : Bounds g
+  source-bounds = answer-bounds g (source-label g u s) (source-answer g u s)
+
+  pub source-handed : Handed g u
+  source-handed =
+      record {
+        geometry = typed g source-bounds (source-label g u s) (below-at 256 (g .label) (lit< tt) (source-label-bytes g u s));
+        uuid-size = source-uuid g u s;
+        uuid-bytes = below-at 256 u (lit< tt) (source-uuid-bytes g u s);
+      }
+
+  -- group 0 is there
+  pub some-group : 0 < g .agcount
+  some-group = omega (arith, source-bounds .groups .count-least)
+
+  plan-there : (k : ℕ) → k < g .agcount → isPlan g (planned g k .plan) ≡ true
+  plan-there k h = planned-is-plan g k (group-planned g (source-label g u s) (source-plans g u s) k h)
+
+  pub finished-length : length (headFinished g u) ≡ headLength g
+  unfolding headFinished
+  finished-length = head-length g (planned g 0 .plan) u (finishedState g u) (source-label g u s) (plan-there 0 some-group)
+
+  pub written-length : (k : ℕ) → k < g .agcount → length (headWritten g u k) ≡ headLength g
+  unfolding headWritten
+  written-length k h = head-length g (planned g k .plan) u (stateOf g u k) (source-label g u s) (plan-there k h)
+
+  -- EVERY HEAD THAT IS LEFT HAS THE GEOMETRY'S LENGTH
+  pub left-length : (k : ℕ) → k < g .agcount → length (headLeft g u k) ≡ headLength g
+  unfolding headLeft
+  left-length k h = choose-elim (λ (xs : List ℕ). length xs ≡ headLength g) (eqb k 0) (headFinished g u) (headWritten g u k) (λ t. finished-length) (λ t. written-length k h)
+
+  -- THE LOG BLOCK IS ONE BLOCK
+  pub log-length : length (logBlock g u) ≡ g .blocksize
+  log-length = rw (← s .geometry, ← s .uuid) (sound (s .request) (s .accepted) .log-long)
+
+  -- GROUP 0'S NAMES THE GEOMETRY AND THE UUID
+  pub left-named : namedBy (headLeft g u 0) ≡ record { number = 0; geometry = g }
+  unfolding headLeft headFinished finishedState
+  left-named =
+      named-back g (finishedState g u) (source-uuid g u s) (source-label g u s) (source-answer g u s) (headLeft g u 0) (head-first g (planned g 0 .plan) u (finishedState g u))
+
+  pub left-uuid : uuidAt (headLeft g u 0) ≡ u
+  unfolding headLeft headFinished finishedState
+  left-uuid =
+      uuid-back g (finishedState g u) (source-uuid g u s) (source-label g u s) (source-answer g u s) (headLeft g u 0) (head-first g (planned g 0 .plan) u (finishedState g u))
+
+-- what an answer's head in group 0 names, whether its plans are accepted or not
+pub left-names : (g : Geometry) (u : List ℕ) → length (g .label) ≡ 12 → isAnswer g ≡ true → length u ≡ 16 → namesAt (headLeft g u 0) ≡ namesOf g
+unfolding headLeft headFinished finishedState
+left-names g u l a n = names-back g (finishedState g u) n l a (headLeft g u 0) (head-first g (planned g 0 .plan) u (finishedState g u))

@@ -1,0 +1,10 @@
+pub mod Lists
+pub mod Sources
+pub mod Heads
+pub mod First
+pub mod Others
+pub mod Recovery
+pub mod Whole
+pub mod Numbers
+pub mod Refused
+pub mod Example

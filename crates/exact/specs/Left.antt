@@ -1,0 +1,47 @@
+-- What accepted runs leave, in each place and on the whole disk; and disks that are read whole.
+-- Assumes nothing.
+use mathlib.Core.Path.{_≡_}
+use mathlib.Core.List.{List}
+use Prim.Native.Nat.{ℕ, _<_}
+use lib.ListN.{length, getD}
+use Rattle.geometry.specs.declared.Geometry.{Geometry}
+use Rattle.naming.specs.Answers.{TypedGeometry}
+use Rattle.request.specs.declared.Request.{Request}
+use Rattle.run.specs.Runs.{runOf}
+use Rattle.written.specs.Listing.{logBlock, headLeft}
+use Rattle.accepted.specs.Accepted.{AcceptedRun, Source}
+use Rattle.exact.specs.Read.{readGroup0, readGroup, readLog}
+
+-- every number is a byte
+abbrev pub Octets : List ℕ → Type 0
+Octets xs = (i : ℕ) → getD xs i 0 < 256
+
+-- a geometry and a UUID of their types
+pub record Handed (g : Geometry) (u : List ℕ) : Type 0 where
+  pub geometry : TypedGeometry g
+  pub uuid-size : length u ≡ 16
+  pub uuid-bytes : Octets u
+
+-- some accepted run with this geometry and UUID leaves these bytes in group k's head
+pub record Left (g : Geometry) (u : List ℕ) (k : ℕ) (xs : List ℕ) : Type 0 where
+  pub source : Source g u
+  pub group : k < g .agcount
+  pub bytes : xs ≡ headLeft g u k
+
+-- some accepted run with them leaves this log block
+pub record LeftLog (g : Geometry) (u xs : List ℕ) : Type 0 where
+  pub source : Source g u
+  pub bytes : xs ≡ logBlock g u
+
+-- one accepted run leaves all these heads, by their groups, and this log block
+pub record OneRun (heads : ℕ → List ℕ) (log : List ℕ) : Type 0 where
+  pub request : Request
+  pub accepted : AcceptedRun request
+  pub head : (k : ℕ) → k < runOf request .geometry .agcount → heads k ≡ headLeft (runOf request .geometry) (runOf request .uuid) k
+  pub log-block : log ≡ logBlock (runOf request .geometry) (runOf request .uuid)
+
+-- the reader accepts group 0's head, and the other heads and the log block with what it gave
+pub record ReadWhole (heads : ℕ → List ℕ) (log : List ℕ) : Type 0 where
+  pub first : readGroup0 (heads 0) .number ≡ 0
+  pub others : (k : ℕ) → 0 < k → k < readGroup0 (heads 0) .geometry .agcount → readGroup (readGroup0 (heads 0) .geometry) (readGroup0 (heads 0) .uuid) k (heads k) .number ≡ 0
+  pub log-block : readLog (readGroup0 (heads 0) .geometry) (readGroup0 (heads 0) .uuid) log ≡ 0

@@ -1,0 +1,5 @@
+pub mod Inside
+pub mod Features
+pub mod Back
+pub mod Only
+pub mod Answer
