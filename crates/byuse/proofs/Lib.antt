@@ -2,3 +2,4 @@ pub mod Decodings
 pub mod OneUse
 pub mod Totals
 pub mod Table
+pub mod Accepted

@@ -3,21 +3,21 @@
 -- Assumes nothing.
 use mathlib.Core.Path.{_≡_}
 use mathlib.Core.List.{List, [], _∷_}
-use Prim.Native.Nat.{ℕ, _+_, _*_, _<_}
+use Prim.Native.Nat.{ℕ, _+_, _*_, _-_, _≤_, _<_}
 use lib.Dec.{eqb}
 use lib.ListN.{length}
 use Rattle.seqs.specs.Lists.{choose, fold, total}
 use Rattle.seqs.specs.Runs.{weigh, blocks, has}
 use Rattle.geometry.specs.declared.Geometry.{Geometry}
 use Rattle.geometry.specs.Log.{preallocOf}
-use Rattle.layout.specs.Places.{chunkOf}
+use Rattle.layout.specs.Places.{groupBlocks, chunkOf}
 use Rattle.free.specs.Free.{startOf, countOf}
 use Rattle.totals.specs.declared.Row.{Row}
 use Rattle.totals.specs.declared.Total.{Total}
-use Rattle.totals.specs.Totals.{maxCount, plansNumber, sumTo}
+use Rattle.totals.specs.Totals.{maxCount, plansNumber, sumTo, rowOf, totalOf}
 use Rattle.uses.specs.Uses.{self, one}
 use Rattle.written.specs.Listing.{headLeft}
-use Rattle.decoded.specs.Decoded.{agfIn, LogRun, logIn, listIn, chunksIn, freeIn}
+use Rattle.decoded.specs.Decoded.{agfIn, LogRun, logIn, listIn, chunksIn, freeIn, countIn}
 
 -- ---- what each use of a group weighs, for a weight f of runs: f a c is that of the blocks from a up to, not including, c
 
@@ -129,3 +129,16 @@ pub record LeftHeads (g : Geometry) (u : List ℕ) (heads : ℕ → List ℕ) : 
   pub uuid : length u ≡ 16
   pub plans : plansNumber g ≡ 0
   pub bytes : (k : ℕ) → k < g .agcount → heads k ≡ headLeft g u k
+
+-- ---- what the heads of a disk say of it, g being the geometry that group 0's superblock names
+pub record Used (g : Geometry) (heads : ℕ → List ℕ) : Type 0 where
+  -- each block of each group has exactly one use, and none past the group has one
+  pub one-use : (k b : ℕ) → k < g .agcount → b < groupBlocks (g .dblocks) (g .agsize) (g .agcount) k → Once (usesIn g (heads 0) (heads k) k b)
+  pub no-use : (k b : ℕ) → k < g .agcount → groupBlocks (g .dblocks) (g .agsize) (g .agcount) k ≤ b → (v : Use) → usesIn g (heads 0) (heads k) k b v ≡ 0
+  -- free blocks and free-list blocks are the superblock's free count
+  pub free-total : freeTotal g heads + listTotal g heads ≡ countIn (heads 0)
+  -- which is all blocks less heads, log and chunk
+  pub count-total : countIn (heads 0) ≡ g .dblocks - g .agcount * preallocOf (g .features) (g .sectsize) (g .blocksize) - logIn g (heads 0) .blocks - chunkTotal g heads
+  -- the table is planlist's
+  pub rows : (k : ℕ) → k < g .agcount → rowIn g (heads 0) (heads k) k ≡ rowOf g k
+  pub last-line : totalIn g heads ≡ totalOf g
