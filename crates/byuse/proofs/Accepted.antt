@@ -13,6 +13,7 @@ use Rattle.accepted.proofs.Runs.{source-plans, source-label, source-uuid, sourc
 use Rattle.named.specs.Named.{namedBy}
 use Rattle.exact.specs.Left.{Octets, ReadWhole}
 use Rattle.exact.proofs.Heads.{some-group, left-named}
+use Rattle.exact.proofs.Example.{disk, disk-accepted}
 use Rattle.exact.proofs.Whole.{exact-whole}
 use Rattle.byuse.specs.ByUse.{LeftHeads, Used}
 use Rattle.byuse.proofs.OneUse.{one-use, no-use}
@@ -50,3 +51,7 @@ whole-used heads log o r =
     let s = source-of (w .request) (w .accepted) in
     let e : namedBy (heads 0) .geometry ≡ g = ap (λ (xs : List ℕ). namedBy xs .geometry) (w .head 0 (some-group g u s)) ∙ ap (λ (c : Computed). c .geometry) (left-named g u s) in
     subst (λ (x : Geometry). Used x heads) (sym e) (used g u heads (left g u heads s (w .head)))
+
+-- an accepted run, so that nothing here is said of nothing
+pub example-used : Used (runOf disk .geometry) (headLeft (runOf disk .geometry) (runOf disk .uuid))
+example-used = run-used disk disk-accepted

@@ -3,7 +3,7 @@
 use mathlib.Core.Path.{_≡_, ap, sym, _∙_}
 use mathlib.Core.Bool.{Bool, true, false}
 use mathlib.Core.List.{List}
-use Prim.Native.Nat.{ℕ, _+_, _*_, _-_, _<_}
+use Prim.Native.Nat.{ℕ, _+_, _*_, _<_}
 use native.Mathlib.Nat.{one-mul, zero-mul}
 use native.Mathlib.Omega.{arith}
 use lib.Dec.{eqb}
@@ -24,7 +24,7 @@ use Rattle.totals.proofs.Whole.{disk-adds}
 use Rattle.sameplan.proofs.Planners.{planned-group}
 use Rattle.frame.proofs.Fitting.{plan-closed}
 use Rattle.decoded.specs.Decoded.{LogRun, listIn, freeIn, chunksIn, chunkList, logIn, countIn}
-use Rattle.byuse.specs.ByUse.{freeTotal, listTotal, chunkTotal, LeftHeads}
+use Rattle.byuse.specs.ByUse.{freeTotal, listTotal, chunkTotal, restTotal, LeftHeads}
 use Rattle.byuse.proofs.Decodings.{answer, full, first-group, numbered, is-plan, entries-are, lengths-are, chunks-are, log-is, count-is}
 
 module _ (g : Geometry) (u : List ℕ) (heads : ℕ → List ℕ) (d : LeftHeads g u heads) where
@@ -85,5 +85,6 @@ module _ (g : Geometry) (u : List ℕ) (heads : ℕ → List ℕ) (d : LeftHeads
       omega arith
 
   -- THE FREE COUNT IS ALL BLOCKS − HEADS − LOG − CHUNK
-  pub count-total : countIn (heads 0) ≡ g .dblocks - g .agcount * preallocOf (g .features) (g .sectsize) (g .blocksize) - logIn g (heads 0) .blocks - chunkTotal g heads
+  pub count-total : countIn (heads 0) ≡ restTotal g heads
+  unfolding restTotal
   count-total = let a = free-total in let b = disk-total in omega arith

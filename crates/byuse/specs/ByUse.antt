@@ -96,6 +96,11 @@ listTotal g heads = sumTo (g .agcount) (λ k. length (listIn g (heads k)))
 unfoldable pub chunkTotal : Geometry → (ℕ → List ℕ) → ℕ
 chunkTotal g heads = sumTo (g .agcount) (λ k. length (chunksIn g (heads k)) * chunkOf (g .inodesize) (g .blocksize))
 
+-- what is left of all blocks without heads, log and chunks
+unfoldable pub restTotal : Geometry → (ℕ → List ℕ) → ℕ
+restTotal g heads =
+    g .dblocks - g .agcount * preallocOf (g .features) (g .sectsize) (g .blocksize) - logIn g (heads 0) .blocks - chunkTotal g heads
+
 -- ---- planlist's table: a row for each group, and the last line
 
 -- group and length by the AGF, log by the superblock, and the rest by entries and records
@@ -138,7 +143,7 @@ pub record Used (g : Geometry) (heads : ℕ → List ℕ) : Type 0 where
   -- free blocks and free-list blocks are the superblock's free count
   pub free-total : freeTotal g heads + listTotal g heads ≡ countIn (heads 0)
   -- which is all blocks less heads, log and chunk
-  pub count-total : countIn (heads 0) ≡ g .dblocks - g .agcount * preallocOf (g .features) (g .sectsize) (g .blocksize) - logIn g (heads 0) .blocks - chunkTotal g heads
+  pub count-total : countIn (heads 0) ≡ restTotal g heads
   -- the table is planlist's
   pub rows : (k : ℕ) → k < g .agcount → rowIn g (heads 0) (heads k) k ≡ rowOf g k
   pub last-line : totalIn g heads ≡ totalOf g
