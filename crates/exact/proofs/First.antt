@@ -29,7 +29,8 @@ use Rattle.accepted.proofs.Runs.{source-plans}
 use Rattle.named.specs.Named.{namesAt, namedBy, uuidAt}
 use Rattle.named.proofs.Inside.{part-length, part-below}
 use Rattle.named.proofs.Answer.{named-answered, named-label}
-use Rattle.exact.specs.Read.{Found, notFound, found, firstTests, foundAs, readGroup0}
+use Rattle.exact.specs.declared.Found.{Found}
+use Rattle.exact.specs.Read.{found, firstTests, foundAs, readGroup0}
 use Rattle.exact.specs.Left.{Octets, Handed, Left}
 use Rattle.exact.proofs.Lists.{same-bytes, own-bytes}
 use Rattle.exact.proofs.Sources.{source}
@@ -40,7 +41,7 @@ use Rattle.exact.proofs.Heads.{typed, head-least, source-bounds, some-g
 pub number-found : (n : ℕ) (g : Geometry) (u : List ℕ) → foundAs n g u .number ≡ n
 unfolding foundAs
 number-found n g u =
-    choose-elim (λ (x : Found). x .number ≡ n) (eqb n 0) (found g u (planned g 0 .plan)) (notFound n) (λ t. sym (eqb-true n 0 t)) (λ t. refl)
+    choose-elim (λ (x : Found). x .number ≡ n) (eqb n 0) _ _ (λ t. sym (eqb-true n 0 t)) (λ t. refl)
 
 found-none : (n : ℕ) (g : Geometry) (u : List ℕ) → n ≡ 0 → foundAs n g u ≡ found g u (planned g 0 .plan)
 unfolding foundAs

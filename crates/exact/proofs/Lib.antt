@@ -7,4 +7,5 @@ pub mod Recovery
 pub mod Whole
 pub mod Numbers
 pub mod Refused
+pub mod Disk
 pub mod Example

@@ -14,7 +14,7 @@ use Rattle.geometry.specs.declared.Geometry.{Geometry}
 use Rattle.answers.specs.Named.{isAnswer}
 use Rattle.plan.specs.declared.AgPlan.{AgPlan}
 use Rattle.plan.specs.declared.Planned.{Planned}
-use Rattle.plan.specs.Plan.{refusedPlan, planned}
+use Rattle.plan.specs.Plan.{planned}
 use Rattle.totals.specs.Totals.{plansNumber}
 use Rattle.sameplan.specs.Same.{eqList}
 use Rattle.head.specs.Head.{headLength}
@@ -63,7 +63,7 @@ module _ (g : Geometry) (u : List ℕ) (k : ℕ) (xs : List ℕ) where
   pub number-read : readGroup g u k xs .number ≡ groupNumber g u k xs
   unfolding readGroup
   number-read =
-      choose-elim (λ (x : Planned). x .number ≡ groupNumber g u k xs) (eqb (groupNumber g u k xs) 0) (record { number = 0; plan = planned g k .plan }) (refusedPlan (groupNumber g u k xs))
+      choose-elim (λ (x : Planned). x .number ≡ groupNumber g u k xs) (eqb (groupNumber g u k xs) 0) _ _
       (λ t. sym (eqb-true (groupNumber g u k xs) 0 t)) (λ t. refl)
 
   read-none : groupNumber g u k xs ≡ 0 → readGroup g u k xs ≡ record { number = 0; plan = planned g k .plan }

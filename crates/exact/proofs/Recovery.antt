@@ -10,7 +10,8 @@ use Rattle.run.specs.Runs.{runOf}
 use Rattle.written.specs.Listing.{logBlock, headLeft}
 use Rattle.accepted.specs.Accepted.{AcceptedRun, Source}
 use Rattle.accepted.proofs.Runs.{source-of}
-use Rattle.exact.specs.Read.{Found, found, readGroup0, readGroup, readLog}
+use Rattle.exact.specs.declared.Found.{Found}
+use Rattle.exact.specs.Read.{found, readGroup0, readGroup, readLog}
 use Rattle.exact.proofs.Heads.{source-handed}
 use Rattle.exact.proofs.First.{complete-first}
 use Rattle.exact.proofs.Others.{complete-group, exact-log}

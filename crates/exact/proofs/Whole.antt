@@ -14,7 +14,8 @@ use Rattle.run.specs.Runs.{runOf}
 use Rattle.written.specs.Listing.{logBlock, headLeft}
 use Rattle.accepted.specs.Accepted.{Source}
 use Rattle.accepted.proofs.Runs.{source-of}
-use Rattle.exact.specs.Read.{Found, found, readGroup0, readGroup, readLog}
+use Rattle.exact.specs.declared.Found.{Found}
+use Rattle.exact.specs.Read.{found, readGroup0, readGroup, readLog}
 use Rattle.exact.specs.Left.{Octets, OneRun, ReadWhole}
 use Rattle.exact.proofs.Heads.{source-handed, some-group}
 use Rattle.exact.proofs.First.{complete-first, exact-first}
@@ -51,7 +52,7 @@ module _ (heads : ℕ → List ℕ) (log : List ℕ) where
       (λ k h. each g u (l .bytes) (λ j p q. group-sound g u j (heads j) d (r .others j p q) .bytes) k h (eqb k 0) refl)
       (exact-log g u log d .0 (r .log-block) .bytes)
 
-  whole-complete : OneRun heads log → ReadWhole heads log
+  pub whole-complete : OneRun heads log → ReadWhole heads log
   whole-complete w =
       let g = runOf (w .request) .geometry in
       let u = runOf (w .request) .uuid in

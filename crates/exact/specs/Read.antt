@@ -19,6 +19,7 @@ use Rattle.sameplan.specs.Same.{eqList}
 use Rattle.head.specs.Head.{headLength}
 use Rattle.written.specs.Listing.{logBlock, headLeft}
 use Rattle.named.specs.Named.{namedBy, uuidAt}
+use Rattle.exact.specs.declared.Found.{Found}
 
 -- the refusals besides 27: group number not below agcount; no accepted run leaves these bytes here; geometry handed in is no answer
 abbrev pub noGroup : ℕ
@@ -44,12 +45,6 @@ leftTests g left xs =
 -- ---- group 0
 
 -- what group 0's head gives: the number 0 with geometry, UUID and plan, or a refusal with zeros
-pub record Found : Type 0 where
-  pub number : ℕ
-  pub geometry : Geometry
-  pub uuid : List ℕ
-  pub plan : AgPlan
-
 abbrev pub notFound : ℕ → Found
 notFound n = record { number = n; geometry = zeroGeometry; uuid = replicate 16 0; plan = noPlan }
 
