@@ -7,9 +7,13 @@ use Rattle.geometry.specs.declared.Geometry.{Geometry}
 use Rattle.geometry.specs.declared.Computed.{Computed}
 use Rattle.request.specs.declared.Request.{Request}
 use Rattle.run.specs.Runs.{runOf}
-use Rattle.written.specs.Listing.{headLeft}
+use Rattle.device.specs.Device.{Device, applied, read}
+use Rattle.written.specs.Listing.{listOf, headLeft}
+use Rattle.written.specs.Left.{headAt, headSize}
+use Rattle.written.proofs.Left.{left as device-left}
 use Rattle.accepted.specs.Accepted.{AcceptedRun, Source}
 use Rattle.accepted.proofs.Runs.{source-plans, source-label, source-uuid, source-of}
+use Rattle.accepted.proofs.Sound.{sound}
 use Rattle.named.specs.Named.{namedBy}
 use Rattle.exact.specs.Left.{Octets, ReadWhole}
 use Rattle.exact.proofs.Heads.{some-group, left-named}
@@ -41,6 +45,15 @@ run-used r a =
     let g = runOf r .geometry in
     let u = runOf r .uuid in
     used g u (headLeft g u) (left g u (headLeft g u) (source-of r a) (λ k i. refl))
+
+-- WHAT A DEVICE HOLDS AFTER ITS RECORDS WERE APPLIED TO ANY OLD CONTENTS, read where the heads stand
+pub device-used : (r : Request) → AcceptedRun r → (d : Device)
+    → Used (runOf r .geometry) (λ k. read (applied (listOf (runOf r) (r .device)) d) (headAt (runOf r) k) (headSize (runOf r)))
+device-used r a d =
+    let run = runOf r in
+    let heads : ℕ → List ℕ = λ k. read (applied (listOf run (r .device)) d) (headAt run k) (headSize run) in
+    used (run .geometry) (run .uuid) heads
+    (left (run .geometry) (run .uuid) heads (source-of r a) (device-left run (r .device) (sound r a) d .head))
 
 -- EVERY DISK THAT THE READER ACCEPTS WHOLE, with the geometry that its superblock names
 pub whole-used : (heads : ℕ → List ℕ) (log : List ℕ) → Octets (heads 0) → ReadWhole heads log → Used (namedBy (heads 0) .geometry) heads
