@@ -1,3 +1,4 @@
+pub mod Example
 pub mod Decodings
 pub mod OneUse
 pub mod Totals

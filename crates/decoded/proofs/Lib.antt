@@ -1,3 +1,4 @@
+pub mod Example
 pub mod Parts
 pub mod Slots
 pub mod Numbers
