@@ -1,0 +1,70 @@
+-- Uses and totals by the bytes, of every disk that an accepted run leaves, and so of every disk that the reader accepts whole.
+-- Assumes nothing.
+use mathlib.Core.Path.{_≡_, refl, ap, sym, subst, _∙_}
+use mathlib.Core.List.{List}
+use Prim.Native.Nat.{ℕ, _<_}
+use Rattle.geometry.specs.declared.Geometry.{Geometry}
+use Rattle.geometry.specs.declared.Computed.{Computed}
+use Rattle.request.specs.declared.Request.{Request}
+use Rattle.run.specs.Runs.{runOf}
+use Rattle.device.specs.Device.{Device, applied, read}
+use Rattle.written.specs.Listing.{listOf, headLeft}
+use Rattle.written.specs.Left.{headAt, headSize}
+use Rattle.written.proofs.Left.{left as device-left}
+use Rattle.accepted.specs.Accepted.{AcceptedRun, Source}
+use Rattle.accepted.proofs.Runs.{source-plans, source-label, source-uuid, source-of}
+use Rattle.accepted.proofs.Sound.{sound}
+use Rattle.named.specs.Named.{namedBy}
+use Rattle.exact.specs.Left.{Octets, ReadWhole}
+use Rattle.exact.proofs.Heads.{some-group, left-named}
+use Rattle.exact.proofs.Example.{disk, disk-accepted}
+use Rattle.exact.proofs.Whole.{exact-whole}
+use Rattle.byuse.specs.ByUse.{LeftHeads, Used}
+use Rattle.byuse.proofs.OneUse.{one-use, no-use}
+use Rattle.byuse.proofs.Totals.{free-total, count-total}
+use Rattle.byuse.proofs.Table.{row-is, total-is}
+
+used : (g : Geometry) (u : List ℕ) (heads : ℕ → List ℕ) → LeftHeads g u heads → Used g heads
+used g u heads d =
+    record {
+      one-use = λ k b i j. one-use g u heads d k i b j;
+      no-use = λ k b i j v. no-use g u heads d k i b j v;
+      free-total = free-total g u heads d;
+      count-total = count-total g u heads d;
+      rows = λ k i. row-is g u heads d k i;
+      last-line = total-is g u heads d;
+    }
+
+-- heads that an accepted run with this geometry and UUID leaves
+left : (g : Geometry) (u : List ℕ) (heads : ℕ → List ℕ) → Source g u → ((k : ℕ) → k < g .agcount → heads k ≡ headLeft g u k) → LeftHeads g u heads
+left g u heads s e = record { label = source-label g u s; uuid = source-uuid g u s; plans = source-plans g u s; bytes = e }
+
+-- WHAT EVERY ACCEPTED RUN LEAVES
+pub run-used : (r : Request) → AcceptedRun r → Used (runOf r .geometry) (headLeft (runOf r .geometry) (runOf r .uuid))
+run-used r a =
+    let g = runOf r .geometry in
+    let u = runOf r .uuid in
+    used g u (headLeft g u) (left g u (headLeft g u) (source-of r a) (λ k i. refl))
+
+-- WHAT A DEVICE HOLDS AFTER ITS RECORDS WERE APPLIED TO ANY OLD CONTENTS, read where the heads stand
+pub device-used : (r : Request) → AcceptedRun r → (d : Device)
+    → Used (runOf r .geometry) (λ k. read (applied (listOf (runOf r) (r .device)) d) (headAt (runOf r) k) (headSize (runOf r)))
+device-used r a d =
+    let run = runOf r in
+    let heads : ℕ → List ℕ = λ k. read (applied (listOf run (r .device)) d) (headAt run k) (headSize run) in
+    used (run .geometry) (run .uuid) heads
+    (left (run .geometry) (run .uuid) heads (source-of r a) (device-left run (r .device) (sound r a) d .head))
+
+-- EVERY DISK THAT THE READER ACCEPTS WHOLE, with the geometry that its superblock names
+pub whole-used : (heads : ℕ → List ℕ) (log : List ℕ) → Octets (heads 0) → ReadWhole heads log → Used (namedBy (heads 0) .geometry) heads
+whole-used heads log o r =
+    let w = exact-whole heads log o .0 r in
+    let g = runOf (w .request) .geometry in
+    let u = runOf (w .request) .uuid in
+    let s = source-of (w .request) (w .accepted) in
+    let e : namedBy (heads 0) .geometry ≡ g = ap (λ (xs : List ℕ). namedBy xs .geometry) (w .head 0 (some-group g u s)) ∙ ap (λ (c : Computed). c .geometry) (left-named g u s) in
+    subst (λ (x : Geometry). Used x heads) (sym e) (used g u heads (left g u heads s (w .head)))
+
+-- an accepted run, so that nothing here is said of nothing
+pub example-used : Used (runOf disk .geometry) (headLeft (runOf disk .geometry) (runOf disk .uuid))
+example-used = run-used disk disk-accepted
