@@ -12,10 +12,10 @@ use Rattle.sb.specs.Superblock.{sbBytes}
 use Rattle.plan.specs.declared.AgPlan.{AgPlan}
 use Rattle.sameplan.specs.Same.{isPlan}
 use Rattle.frame.specs.Frames.{frameOf}
-use Rattle.head.specs.Head.{zeros, headBlocks, behindBytes, headBytes, headLength}
-use Rattle.head.proofs.Lending.{sb-length}
-use Rattle.head.proofs.Ready.{blocks-are, ready, head-from}
-use Rattle.head.proofs.Whole.{whole-length}
+use Rattle.headbytes.specs.Head.{zeros, headBlocks, behindBytes, headBytes, headLength}
+use Rattle.headbytes.proofs.Lending.{sb-length}
+use Rattle.headbytes.proofs.Ready.{blocks-are, ready, head-from}
+use Rattle.headbytes.proofs.Whole.{whole-length}
 
 module _ (g : Geometry) (p : AgPlan) (uuid : List ℕ) (s : SbState) where
   first-length : length (sbBytes g s (zeros (g .sectsize))) ≡ g .sectsize

@@ -11,8 +11,8 @@ use Rattle.endian.specs.Bytes.{patch}
 use Rattle.endian.specs.Fields.{part}
 use Rattle.endian.proofs.Laws.{patch-split, length-patch}
 use Rattle.seqs.specs.Lists.{choose}
-use Rattle.head.specs.Head.{zeros}
-use Rattle.head.specs.Parts.{sectorOn}
+use Rattle.headbytes.specs.Head.{zeros}
+use Rattle.headbytes.specs.Parts.{sectorOn}
 
 -- `pre` stands at the start of xs, with `rest` behind it
 pub record Starts (pre xs : List ℕ) : Type 0 where

@@ -33,8 +33,8 @@ use Rattle.totals.specs.Totals.{ofFew}
 use Rattle.sb.specs.declared.SbState.{SbState}
 use Rattle.sb.specs.Superblock.{sbFields, sbBytes}
 use Rattle.frame.specs.declared.Frame.{Frame}
-use Rattle.head.specs.Head.{rootBytes}
-use Rattle.head.specs.Parts.{sectorOn}
+use Rattle.headbytes.specs.Head.{rootBytes}
+use Rattle.headbytes.specs.Parts.{sectorOn}
 
 -- ---- lengths: an encoder leaves as many bytes as it was lent, a leaf has as many as asked
 

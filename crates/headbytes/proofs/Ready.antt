@@ -22,8 +22,8 @@ use Rattle.sameplan.specs.Same.{isPlan}
 use Rattle.frame.specs.declared.Frame.{Frame}
 use Rattle.frame.specs.Frames.{frameOf, framed, Fine, Few}
 use Rattle.frame.proofs.Fitting.{plan-answer, plan-few, plan-fine, framed-number}
-use Rattle.head.specs.Head.{zeros, headBlocks, behindBytes, headBytes, headLength, headNumber}
-use Rattle.head.proofs.Whole.{three-inside}
+use Rattle.headbytes.specs.Head.{zeros, headBlocks, behindBytes, headBytes, headLength, headNumber}
+use Rattle.headbytes.proofs.Whole.{three-inside}
 
 pub sb-accepted : (g : Geometry) (len : ℕ) → isAnswer g ≡ true → len ≡ g .sectsize → sbNumber g len ≡ 0
 unfolding sbNumber

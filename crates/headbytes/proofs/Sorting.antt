@@ -8,7 +8,7 @@ use native.Mathlib.Omega.{arith}
 use lib.ListN.{length, take, set, getD}
 use Rattle.btree.specs.declared.records.AllocRec.{AllocRec}
 use Rattle.free.specs.Free.{zeroRec, smaller}
-use Rattle.head.specs.Sorting.{insertedBySize, bySize}
+use Rattle.headbytes.specs.Sorting.{insertedBySize, bySize}
 
 -- fewer than two stay as they are
 pub few-sorted : (n : ℕ) (xs : List AllocRec) → n < 2 → take n xs ≡ bySize (take n xs)

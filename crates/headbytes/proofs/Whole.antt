@@ -25,10 +25,10 @@ use Rattle.rmap.specs.declared.RmapList.{RmapList}
 use Rattle.plan.specs.declared.AgPlan.{AgPlan}
 use Rattle.frame.specs.declared.Frame.{Frame}
 use Rattle.frame.specs.Frames.{Fine}
-use Rattle.head.specs.Head.{zeros, headBlocks, agfOf, agiOf, inoMagic, finoMagic, rootBytes, bnoRoot, cntRoot, inodeRoot, rmapRoot, refcRoot, sectorsBytes, rootsBytes, behindBytes}
-use Rattle.head.specs.Parts.{sectorOn, blockIf, sectorsOn, rootsOn, moreOn}
-use Rattle.head.proofs.Lending.{sb-length, agf-length, agi-length, agfl-length, leaf-length}
-use Rattle.head.proofs.Laying.{Starts, next, next-if, next-sector, all-laid}
+use Rattle.headbytes.specs.Head.{zeros, headBlocks, agfOf, agiOf, inoMagic, finoMagic, rootBytes, bnoRoot, cntRoot, inodeRoot, rmapRoot, refcRoot, sectorsBytes, rootsBytes, behindBytes}
+use Rattle.headbytes.specs.Parts.{sectorOn, blockIf, sectorsOn, rootsOn, moreOn}
+use Rattle.headbytes.proofs.Lending.{sb-length, agf-length, agi-length, agfl-length, leaf-length}
+use Rattle.headbytes.proofs.Laying.{Starts, next, next-if, next-sector, all-laid}
 
 -- ---- room for a block
 

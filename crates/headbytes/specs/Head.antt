@@ -34,7 +34,7 @@ use Rattle.sameplan.specs.Same.{isPlan}
 use Rattle.leaves.specs.Leaves.{chunkRec, few}
 use Rattle.frame.specs.declared.Frame.{Frame}
 use Rattle.frame.specs.Frames.{frameOf}
-use Rattle.head.specs.Sorting.{bySize}
+use Rattle.headbytes.specs.Sorting.{bySize}
 
 abbrev pub zeros : ℕ → List ℕ
 zeros n = replicate n 0

@@ -11,7 +11,7 @@ use Rattle.ag.specs.Agi.{agiBytes}
 use Rattle.ag.specs.Agfl.{agflBytes}
 use Rattle.plan.specs.declared.AgPlan.{AgPlan}
 use Rattle.frame.specs.declared.Frame.{Frame}
-use Rattle.head.specs.Head.{agfOf, agiOf, inoMagic, finoMagic, bnoRoot, cntRoot, inodeRoot, rmapRoot, refcRoot}
+use Rattle.headbytes.specs.Head.{agfOf, agiOf, inoMagic, finoMagic, bnoRoot, cntRoot, inodeRoot, rmapRoot, refcRoot}
 use Rattle.endian.specs.Bytes.{patch}
 use Rattle.endian.specs.Fields.{part}
 

@@ -1,0 +1,3 @@
+-- Free extents by size: the definitions of `headbytes`, passed on.
+-- Assumes nothing.
+unfoldable pub use Rattle.headbytes.specs.Sorting.{insertedBySize, bySize}
