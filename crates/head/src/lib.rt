@@ -9,8 +9,8 @@ ghost use Rattle.answers.specs.Named.{isAnswer};
 ghost use Rattle.sb.specs.Superblock.{sbBytes};
 ghost use Rattle.sameplan.specs.Same.{isPlan};
 ghost use Rattle.frame.specs.Frames.{frameOf, Fine, Few};
-ghost use Rattle.head.specs.Head.{headBlocks, headBytes, headLength, headNumber};
-ghost use Rattle.head.specs.Parts.{sectorOn, sectorsOn, rootsOn, moreOn};
+ghost use Rattle.headbytes.specs.Head.{headBlocks, headBytes, headLength, headNumber};
+ghost use Rattle.headbytes.specs.Parts.{sectorOn, sectorsOn, rootsOn, moreOn};
 
 pub mod roots; // roots.rt: the root blocks
 pub mod sectors; // sectors.rt: superblock, AGF, AGI and free list

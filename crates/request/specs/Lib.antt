@@ -1,4 +1,3 @@
-pub mod Records
 pub mod Options
 pub mod Parse
 pub mod Defaults

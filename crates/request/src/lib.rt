@@ -1,5 +1,4 @@
 // The input records: which disk, and with which options.
-pub mod records; // the input as records, each with a key that may stand once
 pub mod options; // the options that the records give
 pub mod defaults; // what stands for an absent UUID, time and seed
 
@@ -36,7 +35,7 @@ fn malformed() -> Request
 pub fn parse(input: &[u8]) -> Request
     ensures { λ r. ⌜ r ≡ parseDef (now (input .entry)) ⌝ }
 {
-    if !records::well_formed(input) {
+    if !input::well_formed(input) {
         return malformed();
     }
     let params = options::params_of(input);

@@ -1,7 +1,7 @@
 -- `head::ag_head` meets its contract.
 -- Assumes nothing.
-use Rattle.head.proofs.Ready.{length-fits, head-refused, head-wrong, head-accepted}
-use Rattle.head.specs.Head.{headLength}
+use Rattle.headbytes.proofs.Ready.{length-fits, head-refused, head-wrong, head-accepted}
+use Rattle.headbytes.specs.Head.{headLength}
 use Rattle.frame.proofs.Fitting.{framed-plan, framed-frame}
 use Rattle.frame.specs.declared.Framed.{Framed}
 use borrow.Author.Tests.{ne-eqb}

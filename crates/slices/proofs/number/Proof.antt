@@ -4,6 +4,8 @@ use Rattle.btree.proofs.Laws.{multiple, no-multiple, no-multiple'}
 use Rattle.btree.specs.Records.{recsNumber}
 use borrow.Author.Tests.{eq-eqb, ne-eqb, le-leb, lt-leb}
 use mathlib.Core.Path.{refl}
+use Prim.Native.Nat.{_≤_, _<_}
+use native.Mathlib.Omega.{arith}
 use borrow.Author.Needs.{needs}
 use Rattle.slices.proofs.number.Statement.{statement}
 use Rattle.slices.proofs.number.Tie as tie
@@ -20,13 +22,15 @@ returns-3 : tie.Need-returns-3
 unfolding recsNumber
 returns-3 c =
     let args = c .before .before .before .args in
-    rw (eq-eqb _ _ (multiple (args .size) (args .count) (args .len) (c .before .before .if1 .left) (c .before .if2 .left)), lt-leb _ _ (c .if3 .taken)) refl
+    let h : 64 < args .count = omega arith in
+    rw (eq-eqb _ _ (multiple (args .size) (args .count) (args .len) (c .before .before .if1 .left) (c .before .if2 .left)), lt-leb _ _ h) refl
 
 returns-4 : tie.Need-returns-4
 unfolding recsNumber
 returns-4 c =
     let args = c .before .before .before .args in
-    rw (eq-eqb _ _ (multiple (args .size) (args .count) (args .len) (c .before .before .if1 .left) (c .before .if2 .left)), le-leb _ _ (c .if3 .left)) refl
+    let h : args .count ≤ 64 = omega arith in
+    rw (eq-eqb _ _ (multiple (args .size) (args .count) (args .len) (c .before .before .if1 .left) (c .before .if2 .left)), le-leb _ _ h) refl
 
 pub number-spec : {M : Type 1} → statement M
 number-spec = tie.close (tie.spec

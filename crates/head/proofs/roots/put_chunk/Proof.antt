@@ -1,7 +1,7 @@
 -- `head::roots::put_chunk` meets its contract.
 -- Assumes nothing.
-use Rattle.head.proofs.Lending.{lent-root, part-length, leaf-accepted}
-use Rattle.head.specs.Head.{inodeRoot}
+use Rattle.headbytes.proofs.Lending.{lent-root, part-length, leaf-accepted}
+use Rattle.headbytes.specs.Head.{inodeRoot}
 use Rattle.structs.proofs.Lengths.{block-least}
 use Rattle.leaves.specs.Leaves.{few, chunkRec}
 use Rattle.btree.specs.Leaf.{leafNumber}

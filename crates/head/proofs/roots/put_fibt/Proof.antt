@@ -1,6 +1,6 @@
 -- `head::roots::put_fibt` meets its contract.
 -- Assumes nothing.
-use Rattle.head.proofs.Whole.{block-on, block-off}
+use Rattle.headbytes.proofs.Whole.{block-on, block-off}
 use Rattle.layout.specs.Places.{fibtBlock}
 use native.Mathlib.Omega.{arith}
 use borrow.Author.Needs.{needs}

@@ -1,6 +1,6 @@
 -- `head::roots::put_free` meets its contract.
 -- Assumes nothing.
-use Rattle.head.proofs.Lending.{lent-root, part-length, list-accepted}
+use Rattle.headbytes.proofs.Lending.{lent-root, part-length, list-accepted}
 use Rattle.structs.proofs.Lengths.{block-least}
 use Rattle.leaves.specs.Leaves.{listNumber}
 use Rattle.free.specs.Free.{freeOf}

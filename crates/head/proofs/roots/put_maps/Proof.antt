@@ -1,6 +1,6 @@
 -- `head::roots::put_maps` meets its contract.
 -- Assumes nothing.
-use Rattle.head.proofs.Lending.{lent-root, part-length, list-accepted}
+use Rattle.headbytes.proofs.Lending.{lent-root, part-length, list-accepted}
 use Rattle.structs.proofs.Lengths.{block-least}
 use Rattle.leaves.specs.Leaves.{listNumber}
 use Rattle.rmap.specs.Rmap.{rmapOf}

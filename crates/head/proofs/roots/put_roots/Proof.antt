@@ -1,7 +1,7 @@
 -- `head::roots::put_roots` meets its contract.
 -- Assumes nothing.
-use Rattle.head.specs.Parts.{rootsOn}
-use Rattle.head.specs.Head.{bnoRoot, cntRoot}
+use Rattle.headbytes.specs.Parts.{rootsOn}
+use Rattle.headbytes.specs.Head.{bnoRoot, cntRoot}
 use Rattle.layout.specs.Places.{cntBlock, ibtBlock}
 use borrow.Author.Needs.{needs}
 use Rattle.head.proofs.roots.put_roots.Statement.{statement}

@@ -1,6 +1,6 @@
 -- `head::sectors::blocks_in` meets its contract.
 -- Assumes nothing.
-use Rattle.head.proofs.Lending.{few-value}
+use Rattle.headbytes.proofs.Lending.{few-value}
 use Rattle.totals.specs.Totals.{freeblksOf}
 use Rattle.site.specs.Sites.{value64}
 use Rattle.counts.specs.declared.Value64.{Value64}

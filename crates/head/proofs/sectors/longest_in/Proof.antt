@@ -1,6 +1,6 @@
 -- `head::sectors::longest_in` meets its contract.
 -- Assumes nothing.
-use Rattle.head.proofs.Lending.{few-value}
+use Rattle.headbytes.proofs.Lending.{few-value}
 use Rattle.totals.specs.Totals.{longestOf}
 use Rattle.site.specs.Sites.{value64}
 use Rattle.counts.specs.declared.Value64.{Value64}

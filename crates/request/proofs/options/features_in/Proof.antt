@@ -7,7 +7,7 @@ use Rattle.request.proofs.options.features_in.Tie as tie
 
 returns : tie.Need-returns
 unfolding featuresIn
-returns c = cc
+returns c = rw (c .is-on7 .ensures, c .before .is-on6 .ensures, c .before .before .is-on5 .ensures, c .before .before .before .is-on4 .ensures, c .before .before .before .before .is-on3 .ensures, c .before .before .before .before .before .is-on2 .ensures, c .before .before .before .before .before .before .is-on .ensures)
 
 pub features-in-spec : {M : Type 1} → statement M
 features-in-spec =

@@ -1,5 +1,6 @@
 -- `request::options::short_option` meets its contract.
 -- Assumes nothing.
+use mathlib.Core.Path.{_∙_}
 use borrow.Author.Needs.{needs}
 use Rattle.request.proofs.Values.{short-fits}
 use Rattle.request.proofs.options.short_option.Statement.{statement}
@@ -9,7 +10,7 @@ short-requires : tie.Need-short-requires
 short-requires c κs = rw (c .option .ensures) (short-fits _ (c .before .before .pre .0) _ (c .before .before .pre .2))
 
 returns : tie.Need-returns
-returns c = cc
+returns c = c .short .ensures ∙ rw (c .before .option .ensures)
 
 pub short-option-spec : {M : Type 1} → statement M
 short-option-spec =

@@ -1,5 +1,6 @@
 -- `request::options::uuid_in` meets its contract.
 -- Assumes nothing.
+use mathlib.Core.Path.{_∙_}
 use borrow.Author.Needs.{needs}
 use Rattle.request.proofs.Values.{uuid-inside}
 use Rattle.request.proofs.options.uuid_in.Statement.{statement}
@@ -9,7 +10,7 @@ uuid-of-requires : tie.Need-uuid-of-requires
 uuid-of-requires c κs = rw (c .value-of .ensures) (uuid-inside _)
 
 returns : tie.Need-returns
-returns c = cc
+returns c = c .uuid-of .ensures ∙ rw (c .before .value-of .ensures)
 
 pub uuid-in-spec : {M : Type 1} → statement M
 uuid-in-spec =

@@ -11,10 +11,10 @@ sixteen-at-requires : tie.Need-sixteen-at-requires
 sixteen-at-requires c κs = holds-given (λ (p : ℕ). p + 16 ≤ length (c .before .before .before .before .args .input .now)) _ _ (c .before .place .given .1) (c .before .before .before .before .pre)
 
 returns : tie.Need-returns
-returns c = cc
+returns c = rw (c .before .before .place .given .1, c .sixteen-at .ensures)
 
 returns-2 : tie.Need-returns-2
-returns-2 c = cc
+returns-2 c = rw (c .enum-told .given .1)
 
 pub uuid-of-spec : {M : Type 1} → statement M
 uuid-of-spec =

@@ -1,0 +1,3 @@
+pub mod Sorting
+pub mod Head
+pub mod Parts
