@@ -40,7 +40,7 @@ fn cut(text: String) -> String {
 
 fn report(mode: &dyn Mode, i: u64, case: &[u8], rust: &[u8], ours: &[u8]) {
     let at = rust.iter().zip(ours).take_while(|(a, b)| a == b).count();
-    println!("DIFFERENCE at case {i}, from byte {at} of the answer");
+    println!("DIFFERENCE at case {i}, from byte {at} of the answer{}", mode.show_place(rust, at));
     println!("  case: {}", cut(mode.show_case(case)));
     println!("  Rust: {}", cut(mode.show_answer(rust)));
     println!("  ours: {}", cut(mode.show_answer(ours)));
@@ -76,11 +76,22 @@ fn compared(
 pub fn count(mode: &dyn Mode, cases: u64, seed: u64) -> io::Result<()> {
     let mut r = Random::new(seed);
     let mut counts = Counts::default();
+    let mut traits: BTreeMap<&str, BTreeMap<String, u64>> = BTreeMap::new();
     for _ in 0..cases {
         let case = mode.case(&mut r);
-        counts.add(mode.answer(&case, &mut io::sink())?);
+        let told = mode.answer(&case, &mut io::sink())?;
+        if told.number == 0 {
+            for (name, value) in mode.traits(&case) {
+                *traits.entry(name).or_default().entry(value).or_default() += 1;
+            }
+        }
+        counts.add(told);
     }
     counts.print();
+    for (name, values) in traits {
+        let all: Vec<String> = values.iter().map(|(value, n)| format!("{value}: {n}")).collect();
+        println!("  {name} ({} values): {}", all.len(), all.join("; "));
+    }
     Ok(())
 }
 
@@ -177,9 +188,16 @@ pub fn replay(mode: &dyn Mode, cases: u64, seed: u64, folder: &str) -> io::Resul
     let missing = || io::Error::other("no program of the port replays this mode");
     let (accepted, refused) = found(mode, cases / 2, seed)?.into_iter().partition(|(told, _)| told.number == 0);
     let (mut cases_file, mut answers_file) = (Vec::new(), Vec::new());
-    for (case, answer) in shared(&accepted, cases / 2).into_iter().chain(shared(&refused, cases - cases / 2)) {
+    let mut always = Vec::new();
+    for case in mode.always() {
+        let mut answer = Vec::new();
+        mode.answer(&case, &mut answer)?;
+        always.push((case, answer));
+    }
+    let found = shared(&accepted, cases / 2).into_iter().chain(shared(&refused, cases - cases / 2));
+    for (case, answer) in always.iter().chain(found) {
         cases_file.extend(mode.replayed(case).ok_or_else(missing)?);
-        answers_file.extend(answer);
+        answers_file.extend(mode.replayed_answer(case, answer));
     }
     let folder = Path::new(folder);
     fs::write(folder.join("stdin"), cases_file)?;

@@ -213,6 +213,44 @@ pub fn small(r: &mut Random, changes: u64, groups: u64) -> Request {
     q
 }
 
+/// A request of many groups, most of them of small blocks. A group holds the least log, or is larger, up to the largest.
+pub fn many(r: &mut Random, groups: u64) -> Request {
+    let mut q = request(r, 0);
+    let b = r.pick(&[1024, 1024, 1024, 1024, 2048, 2048, 4096, 4096, 8192, 16384]);
+    q.options[op::BLOCK] = Some(b);
+    q.options[op::INODE] = None;
+    q.options[op::SECTOR] = Some(r.pick(&[512, 512, 1024, 2048, 4096]).min(b));
+    let n = if r.one_in(4) { groups } else { 2 + r.below(groups - 1) };
+    let least = 64 * MIB / b + 30;
+    let size = match r.below(4) {
+        0 => TIB / b - r.below(4),
+        1 => least + r.below(TIB / b - least),
+        _ => least + r.below(5000),
+    };
+    q.options[op::AGSIZE] = Some(size * b);
+    let short = if r.one_in(2) { r.below(size - 16 * MIB / b) } else { 0 };
+    q.device = (n * size - short) * b + r.below(b);
+    q
+}
+
+/// A label of any bytes, no longer than it may be.
+pub fn any_label(r: &mut Random, q: &mut Request) {
+    let n = r.below(13) as usize;
+    q.label = Some(r.bytes(n));
+}
+
+/// One of the two ends of the times that the request's features allow.
+pub fn end_of_time(r: &mut Random, q: &mut Request) {
+    let bigtime = q.features().bigtime;
+    let (seconds, nanoseconds) = match (r.one_in(2), bigtime) {
+        (true, _) => (0u64.wrapping_sub(1 << 31), 0),
+        (false, true) => (16_299_260_425, 709_551_615),
+        (false, false) => ((1 << 31) - 1, 999_999_999),
+    };
+    q.options[op::SECONDS] = Some(seconds);
+    q.options[op::NANOSECONDS] = Some(nanoseconds);
+}
+
 /// Adds UUID, seed and time, at the bounds of what a time can be too.
 pub fn with_run(r: &mut Random, q: &mut Request) {
     if !r.one_in(4) {

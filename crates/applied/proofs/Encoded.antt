@@ -2,7 +2,7 @@
 -- Assumes nothing.
 use mathlib.Core.Path.{_≡_, refl, ap, sym, _∙_}
 use mathlib.Core.Bool.{Bool}
-use mathlib.Core.List.{List, [], _++_, append-assoc}
+use mathlib.Core.List.{List, [], _∷_, _++_, append-assoc}
 use Prim.Native.Nat.{ℕ, _+_, _^_, _≤_, _<_}
 use native.Mathlib.Omega.{arith}
 use lib.Dec.{lit<}
@@ -11,8 +11,29 @@ use lib.Seq.{drop-at, take-at, take-take, length-take-le}
 use Rattle.endian.specs.Bytes.{beAt, beBytes}
 use Rattle.endian.proofs.Laws.{length-be}
 use Rattle.endian.proofs.Fields.{at-part, at-written}
-use Rattle.applied.specs.Records.{FL, WZ, WB, zeros, bytes, head, cut, write, decodeDef, Written, Flush, Zeros, Bytes, headBytes, encode, headOf, bytesOf, fits}
+use Rattle.records.specs.Records.{Record, WZ, WB, FL, recordBytes}
+use Rattle.applied.specs.Records.{flushMark, zerosMark, bytesMark, zeros, bytes, head, cut, write, decodeDef, headOf, bytesOf, fits}
 use Rattle.applied.proofs.Heads.{write-cut, write-held, no-mark, flush-at, zeros-at, bytes-at}
+
+-- the mark, the offset and the length, before the rest of the list
+abbrev headBytes : ℕ → ℕ → ℕ → List ℕ → List ℕ
+headBytes mark at len rest = beBytes 2 mark ++ (beBytes 8 at ++ (beBytes 8 len ++ rest))
+
+-- a record before the rest of the list, by its numbers
+abbrev encoded : Record → List ℕ → List ℕ
+encoded FL rest = beBytes 2 flushMark ++ rest
+encoded (WZ at len) rest = headBytes zerosMark at len rest
+encoded (WB at bs) rest = headBytes bytesMark at (length bs) (bs ++ rest)
+
+-- it is the record's bytes
+record-encoded : (w : Record) (rest : List ℕ) → encoded w rest ≡ recordBytes w ++ rest
+unfolding recordBytes beBytes
+record-encoded FL rest = refl
+record-encoded (WZ at len) rest = ap (λ (xs : List ℕ). 0x57 ∷ 0x5a ∷ xs) (sym (append-assoc (beBytes 8 at) (beBytes 8 len) rest))
+record-encoded (WB at bs) rest =
+    let a = beBytes 8 at in
+    let l = beBytes 8 (length bs) in
+    ap (λ (xs : List ℕ). 0x57 ∷ 0x42 ∷ xs) (ap (λ (xs : List ℕ). a ++ xs) (sym (append-assoc l bs rest)) ∙ sym (append-assoc a (l ++ bs) rest))
 
 -- a number behind `pre` is read back
 read-behind : (pre : List ℕ) (n v : ℕ) (post : List ℕ) (off : ℕ) → length pre ≡ off → v < 256 ^ n → beAt n off (pre ++ (beBytes n v ++ post)) ≡ v
@@ -50,22 +71,24 @@ module _ (mark at len : ℕ) (rest : List ℕ) where
   write-back last kind h l =
       write-held last kind (headBytes mark at len rest) at len head-long (sym (offset-back h)) (sym (length-back l))
 
--- The head of a written record is read back, whatever follows it.
-pub head-back : (last : Bool) (w : Written) (rest : List ℕ) → fits w → headOf w ≡ decodeDef last (encode w rest)
-unfolding encode
-head-back last Flush rest f =
-    let a = length-append (beBytes 2 FL) rest in
-    let d = length-be 2 FL in
-    flush-at last (beBytes 2 FL ++ rest) FL (omega arith) (sym (read-behind [] 2 FL rest 0 refl (lit< tt))) refl
-head-back last (Zeros at len) rest f =
-    let xs = headBytes WZ at len rest in
-    let l = head-long WZ at len rest in
-    write-back WZ at len rest last zeros (f .0) (f .1) ∙ zeros-at last xs WZ (omega arith) (sym (mark-back WZ at len rest (lit< tt))) refl
-head-back last (Bytes at bs) rest f =
+head-encoded : (last : Bool) (w : Record) (rest : List ℕ) → fits w → headOf w ≡ decodeDef last (encoded w rest)
+head-encoded last FL rest f =
+    let a = length-append (beBytes 2 flushMark) rest in
+    let d = length-be 2 flushMark in
+    flush-at last (beBytes 2 flushMark ++ rest) flushMark (omega arith) (sym (read-behind [] 2 flushMark rest 0 refl (lit< tt))) refl
+head-encoded last (WZ at len) rest f =
+    let xs = headBytes zerosMark at len rest in
+    let l = head-long zerosMark at len rest in
+    write-back zerosMark at len rest last zeros (f .0) (f .1) ∙ zeros-at last xs zerosMark (omega arith) (sym (mark-back zerosMark at len rest (lit< tt))) refl
+head-encoded last (WB at bs) rest f =
     let len = length bs in
-    let xs = headBytes WB at len (bs ++ rest) in
-    let l = head-long WB at len (bs ++ rest) in
-    write-back WB at len (bs ++ rest) last bytes (f .0) (f .1) ∙ bytes-at last xs WB (omega arith) (sym (mark-back WB at len (bs ++ rest) (lit< tt))) refl
+    let xs = headBytes bytesMark at len (bs ++ rest) in
+    let l = head-long bytesMark at len (bs ++ rest) in
+    write-back bytesMark at len (bs ++ rest) last bytes (f .0) (f .1) ∙ bytes-at last xs bytesMark (omega arith) (sym (mark-back bytesMark at len (bs ++ rest) (lit< tt))) refl
+
+-- The head of a written record is read back, whatever follows it.
+pub head-back : (last : Bool) (w : Record) (rest : List ℕ) → fits w → headOf w ≡ decodeDef last (recordBytes w ++ rest)
+head-back last w rest f = head-encoded last w rest f ∙ ap (decodeDef last) (record-encoded w rest)
 
 -- ---- behind the head
 rest-of-head : (mark at len : ℕ) (rest : List ℕ) → drop 18 (headBytes mark at len rest) ≡ rest
@@ -81,17 +104,19 @@ rest-of-head mark at len rest =
     ap (drop 18) (ap (λ (xs : List ℕ). m ++ xs) (sym (append-assoc a l rest)) ∙ sym (append-assoc m (a ++ l) rest))
     ∙ drop-at (m ++ (a ++ l)) rest 18 (omega arith)
 
--- Behind its head stand a record's bytes, and then the rest of the list.
-pub behind-head : (w : Written) (rest : List ℕ) → drop (headOf w .size) (encode w rest) ≡ bytesOf w ++ rest
-unfolding encode
-behind-head Flush rest = drop-at (beBytes 2 FL) rest 2 (length-be 2 FL)
-behind-head (Zeros at len) rest = rest-of-head WZ at len rest
-behind-head (Bytes at bs) rest = rest-of-head WB at (length bs) (bs ++ rest)
+behind-encoded : (w : Record) (rest : List ℕ) → drop (headOf w .size) (encoded w rest) ≡ bytesOf w ++ rest
+behind-encoded FL rest = drop-at (beBytes 2 flushMark) rest 2 (length-be 2 flushMark)
+behind-encoded (WZ at len) rest = rest-of-head zerosMark at len rest
+behind-encoded (WB at bs) rest = rest-of-head bytesMark at (length bs) (bs ++ rest)
 
-pub bytes-back : (w : Written) (rest : List ℕ) → take (length (bytesOf w)) (drop (headOf w .size) (encode w rest)) ≡ bytesOf w
+-- Behind its head stand a record's bytes, and then the rest of the list.
+pub behind-head : (w : Record) (rest : List ℕ) → drop (headOf w .size) (recordBytes w ++ rest) ≡ bytesOf w ++ rest
+behind-head w rest = ap (drop (headOf w .size)) (sym (record-encoded w rest)) ∙ behind-encoded w rest
+
+pub bytes-back : (w : Record) (rest : List ℕ) → take (length (bytesOf w)) (drop (headOf w .size) (recordBytes w ++ rest)) ≡ bytesOf w
 bytes-back w rest = ap (take (length (bytesOf w))) (behind-head w rest) ∙ take-at (bytesOf w) rest (length (bytesOf w)) refl
 
-pub next-back : (w : Written) (rest : List ℕ) → drop (length (bytesOf w)) (drop (headOf w .size) (encode w rest)) ≡ rest
+pub next-back : (w : Record) (rest : List ℕ) → drop (length (bytesOf w)) (drop (headOf w .size) (recordBytes w ++ rest)) ≡ rest
 next-back w rest = ap (drop (length (bytesOf w))) (behind-head w rest) ∙ drop-at (bytesOf w) rest (length (bytesOf w)) refl
 
 -- ---- a part of a head
@@ -113,14 +138,23 @@ module _ (last : Bool) (n at len : ℕ) (rest : List ℕ) (two : 2 ≤ n) (few :
       let xs = headBytes mark at len rest in
       sym (at-part 2 0 (take n xs) ∙ ap (beAt 2 0) (take-take 2 n xs two) ∙ sym (at-part 2 0 xs) ∙ mark-back mark at len rest h)
 
-  pub zeros-cut : cut last ≡ decodeDef last (take n (headBytes WZ at len rest))
+  zeros-cut : cut last ≡ decodeDef last (take n (headBytes zerosMark at len rest))
   zeros-cut =
-      let xs = take n (headBytes WZ at len rest) in
-      let e = shorter WZ in
-      write-cut last zeros xs (omega arith) ∙ zeros-at last xs WZ (omega arith) (mark-kept WZ (lit< tt)) refl
+      let xs = take n (headBytes zerosMark at len rest) in
+      let e = shorter zerosMark in
+      write-cut last zeros xs (omega arith) ∙ zeros-at last xs zerosMark (omega arith) (mark-kept zerosMark (lit< tt)) refl
 
-  pub bytes-cut : cut last ≡ decodeDef last (take n (headBytes WB at len rest))
+  bytes-cut : cut last ≡ decodeDef last (take n (headBytes bytesMark at len rest))
   bytes-cut =
-      let xs = take n (headBytes WB at len rest) in
-      let e = shorter WB in
-      write-cut last bytes xs (omega arith) ∙ bytes-at last xs WB (omega arith) (mark-kept WB (lit< tt)) refl
+      let xs = take n (headBytes bytesMark at len rest) in
+      let e = shorter bytesMark in
+      write-cut last bytes xs (omega arith) ∙ bytes-at last xs bytesMark (omega arith) (mark-kept bytesMark (lit< tt)) refl
+
+write-head-cut : (last : Bool) (w : Record) (n : ℕ) (rest : List ℕ) → 2 ≤ n → n < headOf w .size → cut last ≡ decodeDef last (take n (encoded w rest))
+write-head-cut last FL n rest two few = absurd (omega arith)
+write-head-cut last (WZ at len) n rest two few = zeros-cut last n at len rest two few
+write-head-cut last (WB at bs) n rest two few = bytes-cut last n at (length bs) (bs ++ rest) two few
+
+-- A part of a write's head is refused where the list ends with it, and asks for more elsewhere.
+pub head-cut : (last : Bool) (w : Record) (n : ℕ) (rest : List ℕ) → 2 ≤ n → n < headOf w .size → cut last ≡ decodeDef last (take n (recordBytes w ++ rest))
+head-cut last w n rest two few = write-head-cut last w n rest two few ∙ ap (λ (xs : List ℕ). decodeDef last (take n xs)) (record-encoded w rest)

@@ -7,7 +7,7 @@ use Prim.Native.Nat.{ℕ, _-_, _≤_, _<_}
 use lib.ListN.{length}
 use borrow.Author.Tests.{le-leb, lt-leb, ne-eqb}
 use Rattle.endian.specs.Bytes.{beAt}
-use Rattle.applied.specs.Records.{FL, WZ, WB, flush, zeros, bytes, head, more, refused, cut, write, decodeDef, part, noBody, bodyDef}
+use Rattle.applied.specs.Records.{flushMark, zerosMark, bytesMark, flush, zeros, bytes, head, more, refused, cut, write, decodeDef, part, noBody, bodyDef}
 
 -- ---- too few bytes
 pub cut-more : (last : Bool) → last ≡ false → more ≡ cut last
@@ -30,21 +30,21 @@ module _ (last : Bool) (xs : List ℕ) where
   no-mark h = rw (lt-leb 2 (length xs) h) refl
 
   module _ (m : ℕ) (room : 2 ≤ length xs) (mark : m ≡ beAt 2 0 xs) where
-    pub flush-at : m ≡ FL → head flush 0 0 2 ≡ decodeDef last xs
+    pub flush-at : m ≡ flushMark → head flush 0 0 2 ≡ decodeDef last xs
     unfolding decodeDef
     flush-at e = rw (le-leb 2 (length xs) room, ← mark, e) refl
 
-    pub zeros-at : m ≡ WZ → write last zeros xs ≡ decodeDef last xs
+    pub zeros-at : m ≡ zerosMark → write last zeros xs ≡ decodeDef last xs
     unfolding decodeDef
     zeros-at e = rw (le-leb 2 (length xs) room, ← mark, e) refl
 
-    pub bytes-at : m ≡ WB → write last bytes xs ≡ decodeDef last xs
+    pub bytes-at : m ≡ bytesMark → write last bytes xs ≡ decodeDef last xs
     unfolding decodeDef
     bytes-at e = rw (le-leb 2 (length xs) room, ← mark, e) refl
 
-    pub unknown-at : (m ≡ FL → ⊥) → (m ≡ WZ → ⊥) → (m ≡ WB → ⊥) → refused ≡ decodeDef last xs
+    pub unknown-at : (m ≡ flushMark → ⊥) → (m ≡ zerosMark → ⊥) → (m ≡ bytesMark → ⊥) → refused ≡ decodeDef last xs
     unfolding decodeDef
-    unknown-at a b c = rw (le-leb 2 (length xs) room, ← mark, ne-eqb m FL a, ne-eqb m WZ b, ne-eqb m WB c) refl
+    unknown-at a b c = rw (le-leb 2 (length xs) room, ← mark, ne-eqb m flushMark a, ne-eqb m zerosMark b, ne-eqb m bytesMark c) refl
 
 -- ---- the bytes behind a head
 module _ (last : Bool) (len have : ℕ) where

@@ -1,25 +1,26 @@
 -- A list of written records, read from its start: the head of a record, by its mark, and the bytes behind it.
 -- Assumes nothing.
-use mathlib.Core.List.{List, [], _++_}
+use mathlib.Core.List.{List, []}
 use mathlib.Core.Bool.{Bool, true, false}
 use Prim.Native.Nat.{ℕ, _-_, _^_, _<_}
 use lib.Dec.{leb, eqb}
 use lib.ListN.{length}
-use Rattle.endian.specs.Bytes.{beAt, beBytes}
+use Rattle.endian.specs.Bytes.{beAt}
+use Rattle.records.specs.Records.{Record, WZ, WB, FL}
 use Rattle.applied.specs.declared.Decoded.{Decoded}
 use Rattle.applied.specs.declared.Piece.{Piece}
 
 -- ---- marks and kinds
 
 -- `FL`, `WZ`, `WB`
-abbrev pub FL : ℕ
-FL = 0x464c
+abbrev pub flushMark : ℕ
+flushMark = 0x464c
 
-abbrev pub WZ : ℕ
-WZ = 0x575a
+abbrev pub zerosMark : ℕ
+zerosMark = 0x575a
 
-abbrev pub WB : ℕ
-WB = 0x5742
+abbrev pub bytesMark : ℕ
+bytesMark = 0x5742
 
 -- what a record asks for
 abbrev pub flush : ℕ
@@ -59,9 +60,9 @@ write last kind xs = choose (leb 18 (length xs)) (head kind (beAt 8 2 xs) (beAt 
 -- by the mark; an unknown one is malformed
 abbrev pub byMark : ℕ → Bool → List ℕ → Decoded
 byMark mark last xs =
-    choose (eqb mark FL) (head flush 0 0 2)
-    (choose (eqb mark WZ) (write last zeros xs)
-    (choose (eqb mark WB) (write last bytes xs) refused))
+    choose (eqb mark flushMark) (head flush 0 0 2)
+    (choose (eqb mark zerosMark) (write last zeros xs)
+    (choose (eqb mark bytesMark) (write last bytes xs) refused))
 
 -- The head that the bytes begin with; `last` where the list ends with them.
 unfoldable pub decodeDef : Bool → List ℕ → Decoded
@@ -87,34 +88,18 @@ bodyDef last len have = pick (leb len have) (part len 0) (pick last noBody (part
 
 -- ---- as they are written
 
--- a written record; the length of a `WB` is that of its bytes
-pub data Written : Type 0 where
-  Flush : Written
-  Zeros : ℕ → ℕ → Written
-  Bytes : ℕ → List ℕ → Written
-
--- the mark, the offset and the length, before the rest of the list
-abbrev pub headBytes : ℕ → ℕ → ℕ → List ℕ → List ℕ
-headBytes mark at len rest = beBytes 2 mark ++ (beBytes 8 at ++ (beBytes 8 len ++ rest))
-
--- a record, before the rest of the list
-unfoldable pub encode : Written → List ℕ → List ℕ
-encode Flush rest = beBytes 2 FL ++ rest
-encode (Zeros at len) rest = headBytes WZ at len rest
-encode (Bytes at bs) rest = headBytes WB at (length bs) (bs ++ rest)
-
 -- what a record's head says
-abbrev pub headOf : Written → Decoded
-headOf Flush = head flush 0 0 2
-headOf (Zeros at len) = head zeros at len 18
-headOf (Bytes at bs) = head bytes at (length bs) 18
+abbrev pub headOf : Record → Decoded
+headOf FL = head flush 0 0 2
+headOf (WZ at len) = head zeros at len 18
+headOf (WB at bs) = head bytes at (length bs) 18
 
 -- the bytes behind its head
-abbrev pub bytesOf : Written → List ℕ
-bytesOf Flush = []
-bytesOf (Zeros at len) = []
-bytesOf (Bytes at bs) = bs
+abbrev pub bytesOf : Record → List ℕ
+bytesOf FL = []
+bytesOf (WZ at len) = []
+bytesOf (WB at bs) = bs
 
 -- its offset and length fit 8 bytes
-abbrev pub fits : Written → Type 0
+abbrev pub fits : Record → Type 0
 fits w = (headOf w .at < 2 ^ 64) × (headOf w .len < 2 ^ 64)

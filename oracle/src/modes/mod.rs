@@ -59,6 +59,21 @@ pub trait Mode {
         None
     }
 
+    /// The answer as that program prints it.
+    fn replayed_answer(&self, _case: &[u8], answer: &[u8]) -> Vec<u8> {
+        answer.to_vec()
+    }
+
+    /// Cases that are replayed whatever the seed.
+    fn always(&self) -> Vec<Vec<u8>> {
+        Vec::new()
+    }
+
+    /// What an accepted case has, as a name and a value, for the count of the cases.
+    fn traits(&self, _case: &[u8]) -> Vec<(&'static str, String)> {
+        Vec::new()
+    }
+
     /// A case and an answer in words, for the report of a difference.
     fn show_case(&self, case: &[u8]) -> String {
         hex(case)
@@ -66,6 +81,11 @@ pub trait Mode {
 
     fn show_answer(&self, answer: &[u8]) -> String {
         hex(answer)
+    }
+
+    /// What stands at a byte of an answer.
+    fn show_place(&self, _answer: &[u8], _at: usize) -> String {
+        String::new()
     }
 }
 

@@ -56,16 +56,15 @@ pub fn accepted(case: &[u8]) -> (Told, Option<(Request, Geometry)>) {
     (told, Some((q, g)))
 }
 
-/// Records for a request of at most `groups` groups, if it is accepted.
-pub fn bounded(r: &mut Random, groups: u64, malformed: bool) -> Vec<u8> {
+/// A request of at most `groups` groups, if it is accepted.
+pub fn few(r: &mut Random, groups: u64) -> Request {
     loop {
         let changes = r.below(3);
         let mut q = wishes::small(r, changes, groups);
         wishes::with_run(r, &mut q);
-        if step(&q).1.is_some_and(|g| g.agcount > groups) {
-            continue;
+        if step(&q).1.is_none_or(|g| g.agcount <= groups) {
+            return q;
         }
-        return if malformed { wishes::records(r, &q) } else { q.encode() };
     }
 }
 
@@ -189,7 +188,8 @@ fn list(out: Out, g: &Geometry) -> io::Result<()> {
 
 impl Mode for Planlist {
     fn case(&self, r: &mut Random) -> Vec<u8> {
-        bounded(r, GROUPS, true)
+        let q = few(r, GROUPS);
+        wishes::records(r, &q)
     }
 
     fn answer(&self, case: &[u8], out: Out) -> io::Result<Told> {

@@ -4,21 +4,29 @@ use std::io;
 use std::sync::Mutex;
 
 use futures::executor::block_on;
+use mkfs_xfs::crc::crc32c;
 use mkfs_xfs::device::BlockDevice;
 use mkfs_xfs::error::{Error, Result};
 use mkfs_xfs::format::format;
 
-use super::plans::{accepted, bounded};
+use super::geometry::feature_bits;
+use super::plans::{accepted, few, plan};
 use super::{Mode, Out, Told};
+use crate::frames::Fields;
 use crate::random::Random;
-use crate::request::Request;
+use crate::request::{op, Request};
+use crate::wishes;
 
 pub struct Writelist;
 
 /// The most groups of a case, and how often it has that many.
 const GROUPS: u64 = 40;
 const MANY_GROUPS: u64 = 2000;
-const MANY_ONCE_IN: u64 = 500;
+const MANY_ONCE_IN: u64 = 150;
+
+/// What a replayed case asks for.
+const SUM: u8 = 0;
+const WHOLE: u8 = 1;
 
 /// A device that writes down what is done to it, as document 01's written records.
 struct Recorder<'a> {
@@ -71,10 +79,66 @@ impl BlockDevice for Recorder<'_> {
     }
 }
 
+/// The small disk whose list is replayed whole: 300 MiB and a part of a block, 3 groups, blocks of 1024 bytes.
+fn whole_case() -> Vec<u8> {
+    let mut q = Request { device: (300 << 20) + 777, logical: 512, physical: 512, ..Request::default() };
+    q.options[op::BLOCK] = Some(1024);
+    q.options[op::AGCOUNT] = Some(3);
+    q.options[op::SEED] = Some(0x0123_4567_89ab_cdef);
+    q.options[op::SECONDS] = Some(1_700_000_000);
+    q.options[op::NANOSECONDS] = Some(123_456_789);
+    q.label = Some(b"station".to_vec());
+    q.id = Some(*b"\x5a\xec\x68\x75\x72\x71\x4a\x11\x8d\x15\x20\x26\x11\x15\x21\x07");
+    q.encode()
+}
+
+/// The number of a refusal, where the answer is one.
+fn refusal(answer: &[u8]) -> Option<&[u8]> {
+    answer.strip_prefix(b"refused ")?.strip_suffix(b"\n")
+}
+
+/// Blocks are counted by this name.
+fn by_block(size: u32) -> &'static str {
+    match size {
+        1024 => "block 1024",
+        2048 => "block 2048",
+        4096 => "block 4096",
+        8192 => "block 8192",
+        _ => "block 16384",
+    }
+}
+
+fn range(n: u64, ends: &[u64]) -> String {
+    let end = ends.iter().find(|&&end| n <= end);
+    end.map_or("more".into(), |end| format!("to {end:4}"))
+}
+
+/// Which end of the times that the features allow, or neither.
+fn time_of(q: &Request) -> &'static str {
+    let t = q.time();
+    match (t.secs, t.nsecs, q.features().bigtime) {
+        (-2_147_483_648, 0, _) => "first",
+        (16_299_260_425, 709_551_615, true) | (2_147_483_647, 999_999_999, false) => "last",
+        _ => "between",
+    }
+}
+
 impl Mode for Writelist {
     fn case(&self, r: &mut Random) -> Vec<u8> {
-        let groups = if r.one_in(MANY_ONCE_IN) { MANY_GROUPS } else { GROUPS };
-        bounded(r, groups, true)
+        loop {
+            let mut q = if r.one_in(MANY_ONCE_IN) { wishes::many(r, MANY_GROUPS) } else { few(r, GROUPS) };
+            if r.one_in(4) {
+                wishes::any_label(r, &mut q);
+            }
+            if r.one_in(4) {
+                wishes::end_of_time(r, &mut q);
+            }
+            // A spoilt record can ask for more groups.
+            let case = wishes::records(r, &q);
+            if accepted(&case).1.is_none_or(|(_, g)| g.agcount <= MANY_GROUPS) {
+                return case;
+            }
+        }
     }
 
     fn answer(&self, case: &[u8], out: Out) -> io::Result<Told> {
@@ -91,10 +155,75 @@ impl Mode for Writelist {
             block: g.blocksize as usize,
         };
         block_on(format(&device, &q.params())).map_err(|e| io::Error::other(format!("{e:?}")))?;
-        Ok(told)
+        Ok(Told { kind: by_block(g.blocksize), ..told })
+    }
+
+    fn replayed(&self, case: &[u8]) -> Option<Vec<u8>> {
+        let kind = if case == whole_case() { WHOLE } else { SUM };
+        Some([&[kind][..], &(case.len() as u32).to_be_bytes(), case].concat())
+    }
+
+    fn replayed_answer(&self, case: &[u8], answer: &[u8]) -> Vec<u8> {
+        match refusal(answer) {
+            _ if case == whole_case() => answer.to_vec(),
+            Some(number) => [number, b"\n"].concat(),
+            None => format!("0 {} {}\n", answer.len(), crc32c(answer)).into_bytes(),
+        }
+    }
+
+    fn always(&self) -> Vec<Vec<u8>> {
+        vec![whole_case()]
+    }
+
+    fn traits(&self, case: &[u8]) -> Vec<(&'static str, String)> {
+        let (_, Some((q, g))) = accepted(case) else {
+            return Vec::new();
+        };
+        let label = match &q.label {
+            None => "absent",
+            Some(l) if std::str::from_utf8(l).is_err() => "other bytes",
+            Some(_) => "UTF-8",
+        };
+        let free = plan(&g, g.logagno).map_or(0, |p| p.free.len());
+        vec![
+            ("sizes: block, sector, inode", format!("{} {} {}", g.blocksize, g.sectsize, g.inodesize)),
+            ("features", feature_bits(&g.features).to_string()),
+            ("groups", range(g.agcount, &[2, 4, 10, 40, 500, 1000, 1500, 1999, 2000])),
+            ("last group", if g.dblocks % g.agsize == 0 { "whole" } else { "short" }.into()),
+            ("free records of the log group", free.to_string()),
+            ("time", time_of(&q).into()),
+            ("label", label.into()),
+            ("seed", if q.options[op::SEED].is_some() { "given" } else { "absent" }.into()),
+            ("UUID", if q.id.is_some() { "given" } else { "absent" }.into()),
+        ]
     }
 
     fn show_case(&self, case: &[u8]) -> String {
         format!("{} {:?}", super::hex(case), Request::parse(case))
+    }
+
+    fn show_answer(&self, answer: &[u8]) -> String {
+        super::hex(&answer[..answer.len().min(1000)])
+    }
+
+    fn show_place(&self, answer: &[u8], at: usize) -> String {
+        let mut f = Fields(answer);
+        let mut record = 1;
+        loop {
+            let begin = answer.len() - f.0.len();
+            let mark: [u8; 2] = f.array();
+            let (mut offset, mut length) = (0, 0);
+            if mark != *b"FL" {
+                (offset, length) = (f.u64(), f.u64());
+            }
+            if mark == *b"WB" {
+                f.bytes(length as usize);
+            }
+            if f.0.is_empty() || at < answer.len() - f.0.len() {
+                let mark = String::from_utf8_lossy(&mark);
+                return format!(": byte {} of record {record}, {mark} {offset} {length}", at - begin);
+            }
+            record += 1;
+        }
     }
 }
