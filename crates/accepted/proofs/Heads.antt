@@ -1,18 +1,24 @@
--- What every accepted run leaves on a device, and that heads and log block depend on geometry, UUID and group alone.
+-- What every accepted run leaves on a device, whatever stood there, and that heads and log block depend on geometry, UUID and group alone.
 -- Assumes nothing.
 use mathlib.Core.Path.{_≡_, sym, ap, _∙_}
-use mathlib.Core.List.{List}
+use mathlib.Core.List.{List, [], _∷_, _++_}
 use Prim.Native.Nat.{ℕ, _+_, _<_}
+use lib.ListN.{length}
 use Rattle.endian.specs.Bytes.{beAt}
 use Rattle.endian.specs.Fields.{part}
 use Rattle.geometry.specs.declared.Geometry.{Geometry}
+use Rattle.records.specs.Records.{Record, FL}
 use Rattle.device.specs.Device.{Device, applied, read}
 use Rattle.request.specs.declared.Request.{Request}
 use Rattle.run.specs.Runs.{runOf}
 use Rattle.written.specs.Listing.{logOffset, logBlock, headLeft, listOf}
-use Rattle.written.specs.Left.{headAt, headSize, Left, Alone}
+use Rattle.written.specs.Left.{headAt, headSize, unfinished, Left, Alone, Early}
+use Rattle.written.specs.Order.{Ordered}
 use Rattle.written.proofs.Left.{left}
 use Rattle.written.proofs.Alone.{alone}
+use Rattle.written.proofs.Order.{ordered}
+use Rattle.written.proofs.Early.{early}
+use Rattle.written.proofs.After as finishing
 use Rattle.accepted.specs.Accepted.{AcceptedRun, Source}
 use Rattle.accepted.specs.Superblocks.{leftIn, Says}
 use Rattle.accepted.proofs.Runs.{source-of}
@@ -31,6 +37,17 @@ module _ (r : Request) (a : AcceptedRun r) where
   -- no record but those named touches a head
   pub run-alone : (k : ℕ) → k < runOf r .geometry .agcount → Alone (runOf r) (r .device) k
   run-alone k h = alone (runOf r) (r .device) (sound r a) k h
+
+  -- the form of its list
+  pub run-ordered : Ordered (runOf r) (r .device)
+  run-ordered = ordered (runOf r) (r .device) (sound r a)
+
+  -- after every cut up to the first flush, and from the finished superblock's block on
+  pub run-early : (cut rest : List Record) → cut ++ rest ≡ unfinished (runOf r) (r .device) ++ (FL ∷ []) → 0 < length cut → (d : Device) → Early (runOf r) (applied cut d)
+  run-early cut rest e h d = early (runOf r) (r .device) (sound r a) cut rest e h d
+
+  pub run-finished : (cut rest : List Record) → cut ++ rest ≡ listOf (runOf r) (r .device) → length (unfinished (runOf r) (r .device)) + 1 < length cut → (d : Device) → applied cut d ≡ after r d
+  run-finished cut rest e h d = finishing.after (runOf r) (r .device) (sound r a) cut rest e h d
 
   -- WHAT THE HEADS SAY THAT IT LEAVES
   pub run-says : (k : ℕ) → k < runOf r .geometry .agcount → Says (runOf r .geometry) (runOf r .uuid) k (leftIn (runOf r) k)

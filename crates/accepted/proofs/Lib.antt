@@ -10,3 +10,4 @@ pub mod Heads
 pub mod Stations
 pub mod Parsed
 pub mod Rewritten
+pub mod Unfinished
