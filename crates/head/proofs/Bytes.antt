@@ -1,3 +1,3 @@
 -- Laws of a head's bytes: from `headbytes`, passed on.
 -- Assumes nothing.
-pub use Rattle.headbytes.proofs.Bytes.{head-first, head-behind, head-length}
+pub use Rattle.headbytes.proofs.Bytes.{head-first, head-behind, head-length, behind-same}

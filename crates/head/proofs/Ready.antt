@@ -1,3 +1,3 @@
 -- The number of a head: from `headbytes`, passed on.
 -- Assumes nothing.
-pub use Rattle.headbytes.proofs.Ready.{head-from, head-accepted}
+pub use Rattle.headbytes.proofs.Ready.{head-from, length-fits, head-refused, head-wrong, head-accepted}
