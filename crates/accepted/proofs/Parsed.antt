@@ -18,8 +18,8 @@ use Rattle.params.specs.declared.OptU64.{OptU64}
 use Rattle.params.specs.declared.OptU64.the-variants.{Absent, Given}
 use Rattle.naming.specs.Answers.{TypedOptions}
 use Rattle.request.specs.declared.Request.{Request}
-use Rattle.request.specs.Records.{option, optionBits, lookup, records, wellFormed}
-use Rattle.request.specs.Records as keys
+use Rattle.input.specs.Records.{option, optionBits, lookup, records, wellFormed}
+use Rattle.input.specs.Records as keys
 use Rattle.request.specs.Options.{short32, short8, signed, timeGiven, labelInside, uuidInside, labelAt, labelGiven, uuidGiven, paramsOf}
 use Rattle.request.specs.Options as options
 use Rattle.request.specs.Parse.{parseDef, answer}
