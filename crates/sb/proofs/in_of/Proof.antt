@@ -25,7 +25,7 @@ add-result-3 c = search needs
 
 returns : tie.Need-returns
 unfolding inCompat
-returns c = cc
+returns c = rw (c .flag3 .ensures .0, c .before .flag2 .ensures .0, c .before .before .flag .ensures .0)
 
 pub in-of-spec : {M : Type 1} → statement M
 in-of-spec =

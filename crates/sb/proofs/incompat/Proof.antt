@@ -1,5 +1,6 @@
 -- `sb::incompat` meets its contract.
 -- Assumes nothing.
+use mathlib.Core.Path.{_∙_}
 use borrow.Author.Needs.{needs}
 use Rattle.sb.proofs.incompat.Statement.{statement}
 use Rattle.sb.proofs.incompat.Tie as tie
@@ -11,7 +12,7 @@ known-64-requires : tie.Need-known-64-requires
 known-64-requires c κs = search needs
 
 returns : tie.Need-returns
-returns c = cc
+returns c = c .known-64 .ensures ∙ rw (c .before .in-of .ensures)
 
 pub incompat-spec : {M : Type 1} → statement M
 incompat-spec = tie.close (tie.spec in-of-requires known-64-requires returns)

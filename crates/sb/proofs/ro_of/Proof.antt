@@ -28,7 +28,7 @@ add-result-3 c = search needs
 
 returns : tie.Need-returns
 unfolding roCompat
-returns c = cc
+returns c = rw (c .flag4 .ensures .0, c .before .flag3 .ensures .0, c .before .before .flag2 .ensures .0, c .before .before .before .flag .ensures .0)
 
 pub ro-of-spec : {M : Type 1} → statement M
 ro-of-spec =
