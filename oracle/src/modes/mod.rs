@@ -99,6 +99,7 @@ pub fn named(name: &str) -> Option<Box<dyn Mode + Sync>> {
         "plans" => Box::new(plans::Plans),
         "planlist" => Box::new(plans::Planlist),
         "writelist" => Box::new(writes::Writelist),
+        "refusals" => Box::new(writes::Refusals),
         "take" => Box::new(lists::Take),
         "rmap_insert" => Box::new(lists::RmapInsert),
         "record" => Box::new(log::Record),

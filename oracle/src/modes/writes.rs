@@ -227,3 +227,29 @@ impl Mode for Writelist {
         }
     }
 }
+
+/// Only the cases that are refused: many of them, quickly.
+pub struct Refusals;
+
+impl Mode for Refusals {
+    fn case(&self, r: &mut Random) -> Vec<u8> {
+        loop {
+            let case = Writelist.case(r);
+            if accepted(&case).1.is_none() {
+                return case;
+            }
+        }
+    }
+
+    fn answer(&self, case: &[u8], out: Out) -> io::Result<Told> {
+        Writelist.answer(case, out)
+    }
+
+    fn show_case(&self, case: &[u8]) -> String {
+        Writelist.show_case(case)
+    }
+
+    fn show_answer(&self, answer: &[u8]) -> String {
+        String::from_utf8_lossy(answer).into_owned()
+    }
+}
