@@ -24,7 +24,7 @@ pub(crate) fn put_head(mark: u16, offset: u64, n: u64, at: usize, buf: &mut [u8]
     endian::put16(buf, at, mark);
 }
 
-// The bytes of `src` from `at` on; the first is written first, which compilers turn into wide moves.
+// The bytes of `src` from `at` on.
 fn copy(src: &[u8], at: usize, buf: &mut [u8])
     requires { ⌜ at + length (now src) ≤ length (now buf) ⌝ }
     ensures { λ _. ⌜ now (buf .exit) ≡ patch at (now (src .entry)) (now (buf .entry)) ⌝ }
