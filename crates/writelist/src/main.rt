@@ -1,0 +1,132 @@
+// Reads input records from standard input and writes the list of written records of the run that they ask for to standard output, or
+// prints `refused N`. The records come from `writes`, chunk by chunk; here they are only lent a buffer and written.
+// Give each disk its UUID in an `ID` record: without one it is zeros, and Linux doesn't mount such a disk.
+ghost use mathlib.Core.Path.{_≡_};
+ghost use lib.ListN.{length};
+use libc::STDIN_FILENO;
+use libc::STDOUT_FILENO;
+use run::Run;
+
+// What was read, and whether there may be more.
+struct Input {
+    n: usize,
+    more: bool,
+    failed: bool,
+}
+
+// Reads once, behind the first `n` bytes.
+fn read_more(n: usize, buf: &mut [u8]) -> Input {
+    if buf.len() <= n {
+        return Input {
+            n: n,
+            more: false,
+            failed: false,
+        };
+    }
+    let rest = &mut buf[n..];
+    let got = libc::read(STDIN_FILENO, rest);
+    let read = io::count(got, rest);
+    Input {
+        n: n + read,
+        more: 0 < read,
+        failed: got < 0,
+    }
+}
+
+// Fills the buffer. A proved loop has to end, so it counts its turns down; every turn but the last reads a byte at least.
+fn read_input(buf: &mut [u8]) -> Input {
+    let mut i = Input {
+        n: 0,
+        more: true,
+        failed: false,
+    };
+    let mut turns = buf.len();
+    while 0 < turns && i.more {
+        i = read_more(i.n, buf);
+        turns -= 1;
+    }
+    i
+}
+
+// Room for the longest chunk: a head of 10 blocks of 16,384 bytes, each with the 18 bytes before it.
+fn chunk_buffer() -> [u8; 164020]
+    ensures { λ r. ⌜ 164020 ≡ length r ⌝ }
+{
+    [0; 164020]
+}
+
+// Writes the first bytes.
+fn flush(buf: &[u8], end: usize) -> bool {
+    if end <= buf.len() {
+        return io::write_all(STDOUT_FILENO, &buf[..end]);
+    }
+    false
+}
+
+// Makes chunk k in a buffer of its length.
+fn make(run: Run, device: u64, k: u64, n: usize, buf: &mut [u8]) -> u32 {
+    if n <= buf.len() {
+        return writes::write_chunk(run, device, k, &mut buf[0..n]);
+    }
+    writes::NO_CHUNK
+}
+
+// Makes chunk k and writes it; false where a write failed.
+fn write_one(run: Run, device: u64, k: u64, buf: &mut [u8]) -> bool {
+    let length = writes::chunk_length(run, k);
+    let n = length.value as usize;
+    if make(run, device, k, n, buf) != 0 {
+        return false;
+    }
+    flush(buf, n)
+}
+
+// Writes all chunks; false where a write failed, and then nothing more is written.
+fn write_list(run: Run, device: u64, buf: &mut [u8]) -> bool {
+    let count = writes::chunk_count(run);
+    let n = count.value;
+    let mut left = n;
+    let mut written = true;
+    while 0 < left && written {
+        written = write_one(run, device, n - left, buf);
+        left -= 1;
+    }
+    written
+}
+
+fn print_refused(number: u32, buf: &mut [u8]) -> bool {
+    let w = lines::put_refused(number as u64, buf, 0);
+    flush(buf, w.end)
+}
+
+// Writes what the input asks for; false where a write failed.
+fn answer(input: &[u8], buf: &mut [u8]) -> bool {
+    let r = request::parse(input);
+    let run = run::run_of(r);
+    if run.number != 0 {
+        return print_refused(run.number, buf);
+    }
+    write_list(run, r.device, buf)
+}
+
+// The same for the first n bytes that were read.
+fn answer_first(input: &[u8], n: usize, buf: &mut [u8]) -> bool {
+    if n <= input.len() {
+        return answer(&input[..n], buf);
+    }
+    false
+}
+
+// No well-formed input has more than 415 bytes, so one more is enough to read.
+fn main() {
+    let mut input = [0u8; 416];
+    let mut buf = chunk_buffer();
+    let i = read_input(&mut input);
+    if i.failed {
+        os::fail(b"standard input");
+        return;
+    }
+    if !answer_first(&input, i.n, &mut buf) {
+        os::fail(b"standard output");
+    }
+}

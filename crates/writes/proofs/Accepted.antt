@@ -1,0 +1,232 @@
+-- What an accepted run gives: its numbers, the room that its parts need, and that every part is accepted.
+-- Assumes nothing.
+use mathlib.Core.Path.{_≡_, refl, sym, ap, ap₂, _∙_}
+use mathlib.Core.Bool.{Bool, true, false}
+use mathlib.Core.List.{List, [], _∷_, _++_}
+use Prim.Native.Nat.{ℕ, zero, suc, _+_, _*_, _-_, _<_, _≤_, _^_, max}
+use native.Mathlib.Omega.{arith}
+use native.Mathlib.Nat.{mul-le-mul, mul-le-mul-right}
+use borrow.Author.Tests.{eq-eqb, ne-eqb, eqb-true, eqb-false, leb-true, leb-false, le-leb, lt-leb}
+use lib.Dec.{leb, ltb, eqb}
+use lib.ListN.{length, replicate, length-replicate}
+use lib.Pow.{pow-mono, pow-add}
+use Rattle.arith.specs.Choice.{when}
+use Rattle.structs.specs.Written.{Written, require}
+use Rattle.structs.proofs.Written.{passed, written-in}
+use Rattle.seqs.specs.Lists.{choose}
+use Rattle.params.specs.declared.Timestamp.{Timestamp}
+use Rattle.inode.specs.Time.{timeInside}
+use Rattle.geometry.specs.declared.Geometry.{Geometry}
+use Rattle.answers.specs.Named.{isAnswer}
+use Rattle.layout.specs.Bounds.{Bounds}
+use Rattle.layout.specs.Places.{groupBlocks, chunkOf}
+use Rattle.layout.proofs.Bounding.{answer-bounds}
+use Rattle.layout.proofs.Inside.{blocks-least, fitting}
+use Rattle.places.specs.Answers.{rootChunk}
+use Rattle.plan.specs.declared.Planned.{Planned}
+use Rattle.plan.specs.Plan.{planned}
+use Rattle.sameplan.proofs.Planners.{planned-is-plan}
+use Rattle.totals.specs.Totals.{plansNumber}
+use Rattle.totals.proofs.Whole.{all-planned}
+use Rattle.head.specs.Head.{headBytes, headLength, headNumber}
+use Rattle.head.proofs.Ready.{head-accepted}
+use Rattle.sb.specs.declared.SbState.{SbState}
+use Rattle.states.specs.declared.Stated.{Stated}
+use Rattle.states.specs.States.{stateOf, finishedState, stateNumber, stated, finished}
+use Rattle.rootchunk.specs.Chunk.{chunkNumber, chunkBytes, ChunkMade}
+use Rattle.rootchunk.specs.Chunk as chunk
+use Rattle.rootchunk.proofs.Chunks.{a-place, first-group, whole-chunk, chunk-in}
+use Rattle.run.specs.declared.Run.{Run}
+use Rattle.run.specs.Runs.{orNext, timeRefusal}
+use Rattle.written.specs.Listing.{headBlocks, headerBlocks, chunkBlocks, headWritten, headFinished, chunkCount}
+use Rattle.written.proofs.Whole.{group-planned}
+use Rattle.writes.specs.declared.Counted.{Counted}
+use Rattle.writes.specs.declared.lengths.Sizes.{Sizes}
+use Rattle.writes.specs.Writing.{formatNumber, placeNumber, writeNumber, chunkLength, counted, Sized, Ready}
+
+-- ---- the first of two numbers that isn't 0
+
+pub or-first : (a b n : ℕ) → n ≡ a → (n ≡ 0 → ⊥) → n ≡ orNext a b
+or-first a b n e h = e ∙ rw (ne-eqb a 0 (λ z. h (e ∙ z))) refl
+
+pub or-second : (a b n : ℕ) → a ≡ 0 → n ≡ b → n ≡ orNext a b
+or-second a b n z e = e ∙ rw z refl
+
+pick-zero : (t : Bool) (a b : ℕ) → eqb a 0 ≡ t → choose t b a ≡ 0 → (a ≡ 0) × (b ≡ 0)
+pick-zero true a b e z = (eqb-true a 0 e, z)
+pick-zero false a b e z = absurd (eqb-false a 0 e z)
+
+pub or-zero : (a b : ℕ) → orNext a b ≡ 0 → (a ≡ 0) × (b ≡ 0)
+or-zero a b z = pick-zero (eqb a 0) a b refl z
+
+-- ---- the numbers of a run
+
+module _ (run : Run) where
+  pub format-zero : formatNumber run ≡ 0 → (plansNumber (run .geometry) ≡ 0) × (timeRefusal (run .geometry) (run .time) ≡ 0)
+  unfolding formatNumber
+  format-zero z = or-zero _ _ z
+
+  below-at : (n k : ℕ) (t : Bool) → leb n k ≡ t → when t 29 0 ≡ 0 → k < n
+  unfolding when
+  below-at n k true e z = absurd (omega arith)
+  below-at n k false e z = leb-false n k e
+
+  pub place-zero : (k : ℕ) → placeNumber run k ≡ 0 → (formatNumber run ≡ 0) × (k < run .geometry .agcount + 3)
+  unfolding placeNumber chunkCount
+  place-zero k z =
+      let o = or-zero (formatNumber run) _ z in
+      (o .0, below-at (run .geometry .agcount + 3) k (leb (run .geometry .agcount + 3) k) refl (o .1))
+
+  pub write-zero : (k len : ℕ) → writeNumber run k len ≡ 0 → (placeNumber run k ≡ 0) × (len ≡ chunkLength run k)
+  unfolding writeNumber
+  write-zero k len z =
+      let o = or-zero (placeNumber run k) _ z in
+      (o .0, eqb-true len (chunkLength run k) (passed 27 0 (eqb len (chunkLength run k)) (omega arith) (o .1) .0))
+
+  -- chunk k is there, or not
+  pub place-there : (k : ℕ) → formatNumber run ≡ 0 → k - 2 ≤ run .geometry .agcount → 0 ≡ placeNumber run k
+  unfolding placeNumber chunkCount when
+  place-there k f h = or-second (formatNumber run) _ 0 f (rw (lt-leb (run .geometry .agcount + 3) k (omega arith)) refl)
+
+  pub place-none : (k : ℕ) → formatNumber run ≡ 0 → run .geometry .agcount < k - 2 → 29 ≡ placeNumber run k
+  unfolding placeNumber chunkCount when
+  place-none k f h = or-second (formatNumber run) _ 29 f (rw (le-leb (run .geometry .agcount + 3) k (omega arith)) refl)
+
+  -- the buffer is the chunk's, or not
+  pub write-fits : (k len : ℕ) → placeNumber run k ≡ 0 → len ≡ chunkLength run k → 0 ≡ writeNumber run k len
+  unfolding writeNumber
+  write-fits k len z e = or-second (placeNumber run k) _ 0 z (rw (eq-eqb len (chunkLength run k) e) refl)
+
+  pub write-other : (k len : ℕ) → placeNumber run k ≡ 0 → (len ≡ chunkLength run k → ⊥) → 27 ≡ writeNumber run k len
+  unfolding writeNumber
+  write-other k len z h = or-second (placeNumber run k) _ 27 z (rw (ne-eqb len (chunkLength run k) h) refl)
+
+-- ---- the parts of an accepted geometry
+
+module _ (g : Geometry) (l : length (g .label) ≡ 12) (p : plansNumber g ≡ 0) where
+  pub answered : isAnswer g ≡ true
+  answered = all-planned g l p .0
+
+  pub bounded : Bounds g
+  bounded = answer-bounds g l answered
+
+  -- a head
+  is-accepted : (k len : ℕ) → k < g .agcount → len ≡ headBlocks g * g .blocksize → headNumber g (planned g k .plan) len ≡ 0
+  unfolding headLength
+  is-accepted k len h e = head-accepted g (planned g k .plan) len (planned-is-plan g k (group-planned g l p k h)) e
+
+  state-there : (uuid : List ℕ) (k : ℕ) → k < g .agcount → stated g uuid k .state ≡ stateOf g uuid k
+  unfolding stated stateNumber when
+  state-there uuid k h = rw (p, lt-leb (g .agcount) k h) refl
+
+  finished-there : (uuid : List ℕ) → finished g uuid .state ≡ finishedState g uuid
+  unfolding finished
+  finished-there uuid = rw p refl
+
+  module _ {r : ℕ} (uuid : List ℕ) (k : ℕ) (q : Planned) (s : Stated) (t : SbState) (xs ys : List ℕ) where
+    with-state : k < g .agcount → length xs ≡ headBlocks g * g .blocksize → q ≡ planned g k → s .state ≡ t
+        → Written (headNumber g (q .plan) (length xs)) (headBytes g (q .plan) uuid (s .state)) xs r ys → ys ≡ headBytes g (planned g k .plan) uuid t
+    with-state h e a b w =
+        written-in w (ap (λ (x : Planned). headNumber g (x .plan) (length xs)) a ∙ is-accepted k (length xs) h e)
+        ∙ ap₂ (λ (x : Planned) (y : SbState). headBytes g (x .plan) uuid y) a b
+
+  pub head-made : {r : ℕ} (uuid : List ℕ) (k : ℕ) (q : Planned) (s : Stated) (xs ys : List ℕ) → k < g .agcount → length xs ≡ headBlocks g * g .blocksize → q ≡ planned g k → s ≡ stated g uuid k
+      → Written (headNumber g (q .plan) (length xs)) (headBytes g (q .plan) uuid (s .state)) xs r ys → ys ≡ headWritten g uuid k
+  unfolding headWritten
+  head-made uuid k q s xs ys h e a b w = with-state uuid k q s (stateOf g uuid k) xs ys h e a (ap (λ (x : Stated). x .state) b ∙ state-there uuid k h) w
+
+  pub finished-made : {r : ℕ} (uuid : List ℕ) (q : Planned) (s : Stated) (xs ys : List ℕ) → length xs ≡ headBlocks g * g .blocksize → q ≡ planned g 0 → s ≡ finished g uuid
+      → Written (headNumber g (q .plan) (length xs)) (headBytes g (q .plan) uuid (s .state)) xs r ys → ys ≡ headFinished g uuid
+  unfolding headFinished
+  finished-made uuid q s xs ys e a b w =
+      let c = bounded .groups .count-least in
+      with-state uuid 0 q s (finishedState g uuid) xs ys (omega arith) e a (ap (λ (x : Stated). x .state) b ∙ finished-there uuid) w
+
+  -- the root chunk
+  stored : (time : Timestamp) → timeRefusal g time ≡ 0 → timeInside (g .features .bigtime) (time .secs) (time .nsecs) ≡ true
+  unfolding timeRefusal
+  stored time z = passed 26 0 (timeInside (g .features .bigtime) (time .secs) (time .nsecs)) (omega arith) z .0
+
+  chunk-there : rootChunk g + chunkBlocks g ≤ g .agsize
+  unfolding rootChunk
+  chunk-there = let b = bounded .places .chunk-room in let a = bounded .places .chunk-inside in omega arith
+
+  root-accepted : (time : Timestamp) (len : ℕ) → timeRefusal g time ≡ 0 → len ≡ chunkBlocks g * g .blocksize → chunkNumber g (rootChunk g) time len ≡ 0
+  root-accepted time len z e =
+      sym (a-place g (rootChunk g) time len true (chunkBlocks g) (sym (le-leb (rootChunk g + chunkBlocks g) (g .agsize) chunk-there)) refl (first-group g bounded) answered (stored time z) e refl)
+
+  pub root-made : {number state next : ℕ} (at : ℕ) (uuid : List ℕ) (time : Timestamp) (seed : ℕ) (xs ys : List ℕ) → timeRefusal g time ≡ 0 → length xs ≡ chunkBlocks g * g .blocksize
+      → at ≡ rootChunk g → ChunkMade (chunkNumber g at time (length xs)) next (chunkBytes g at uuid time seed) xs number state ys
+      → ys ≡ chunkBytes g (rootChunk g) uuid time seed
+  root-made at uuid time seed xs ys z e a w =
+      chunk-in w (ap (λ (x : ℕ). chunkNumber g x time (length xs)) a ∙ root-accepted time (length xs) z e) .0
+      ∙ ap (λ (x : ℕ). chunkBytes g x uuid time seed) a
+
+-- ---- room
+
+module _ (g : Geometry) (z : Bounds g) where
+  pub size-least : 1024 ≤ g .blocksize
+  size-least = let w : 2 ^ 10 ≤ 2 ^ g .blocklog = pow-mono {i = 10} (z .sizes .block-least) in let e = z .sizes .block-power in omega arith
+
+  pub size-most : g .blocksize ≤ 16384
+  size-most = let w : 2 ^ g .blocklog ≤ 2 ^ 14 = pow-mono {j = 14} (z .sizes .block-most) in let e = z .sizes .block-power in omega arith
+
+  pub count-fits : g .agcount + 3 < 2 ^ 64
+  count-fits = let c = z .groups .count-most in omega arith
+
+  -- a few blocks of a group lie on the disk
+  pub group-room : (k b : ℕ) → k < g .agcount → b ≤ 1000 → (k * g .agsize + b < 2 ^ 64) × ((k * g .agsize + b) * g .blocksize < 2 ^ 64)
+  group-room k b h few =
+      let f = fitting g z k b h (let m = blocks-least g z k in omega arith) in
+      let d = f .before-disk in
+      let s = size-least in
+      let v = mul-le-mul (let u : k * g .agsize + b + 1 ≤ g .dblocks = omega arith in u) s in
+      let m = z .groups .disk-most in
+      let w = mul-le-mul-right (g .blocksize) (let u : k * g .agsize + b ≤ g .dblocks = omega arith in u) in
+      let x = mul-le-mul (let u : g .dblocks ≤ g .dblocks = omega arith in u) s in
+      (omega arith, f .byte-most)
+
+  -- n blocks from block b on
+  pub group-blocks : (k b n : ℕ) → k < g .agcount → b + n ≤ 1000 → (k * g .agsize + b) * g .blocksize + n * g .blocksize ≤ 2 ^ 64
+  group-blocks k b n h few =
+      let r = group-room k (b + n) h few .1 in
+      omega arith
+
+-- ---- a run that is accepted, with its sizes
+
+pub ready : (run : Run) (s : Sizes) → length (run .geometry .label) ≡ 12 → formatNumber run ≡ 0 → Sized (run .geometry) s → Ready run s
+ready run s l f z = let o = format-zero run f in record { label = l; plans = o .0; time-in = o .1; sized = z }
+
+-- the room that its largest head and root chunk need
+pub work-room : (n bs : ℕ) → n ≤ 10 → bs ≤ 16384 → n * bs ≤ 163840
+work-room n bs h b = mul-le-mul h b
+
+root-bytes : (g : Geometry) → chunk.chunkLength g ≡ 64 * g .inodesize → g .inodesize ≤ 2048 → chunkBlocks g * g .blocksize ≤ 163840
+unfolding chunk.chunkLength
+root-bytes g e h = omega (arith, e)
+
+pub root-work : (g : Geometry) → Bounds g → chunkBlocks g * g .blocksize ≤ 163840
+root-work g z =
+    let e : chunk.chunkLength g ≡ 64 * g .inodesize = whole-chunk g z in
+    let p : 2 ^ g .inodelog ≤ 2 ^ 11 = pow-mono {j = 11} (z .sizes .inode-most) in
+    let i = z .sizes .inode-power in
+    root-bytes g e (omega arith)
+
+-- what `chunk_count` and `chunk_length` answer
+pub count-refused : (n v : ℕ) (r : Counted) → (n ≡ 0 → ⊥) → r ≡ record { number = n; value = 0 } → r ≡ counted n v
+count-refused n v r h e = e ∙ rw (ne-eqb n 0 h) refl
+
+pub count-given : (a n v w : ℕ) → n ≡ a → n ≡ 0 → w ≡ v → counted 0 w ≡ counted a v
+count-given a n v w e z d = rw (sym e ∙ z, d) refl
+
+-- what a chunk's buffer says
+pub record Filling (run : Run) (k len : ℕ) : Type 0 where
+  pub format : formatNumber run ≡ 0
+  pub there : k < run .geometry .agcount + 3
+  pub long : len ≡ chunkLength run k
+
+pub filling : (run : Run) (k len : ℕ) → writeNumber run k len ≡ 0 → Filling run k len
+filling run k len z =
+    let w = write-zero run k len z in
+    let p = place-zero run k (w .0) in
+    record { format = p .0; there = p .1; long = w .1 }

@@ -1,0 +1,151 @@
+-- The bytes of records, and of a write that is split into its blocks.
+-- Assumes nothing.
+use mathlib.Core.Path.{_≡_, refl, sym, ap, ap₂, _∙_}
+use mathlib.Core.List.{List, [], _∷_, _++_, append-assoc}
+use Prim.Native.Nat.{ℕ, zero, suc, _+_, _*_, _-_, _<_, _≤_, _^_}
+use native.Mathlib.Omega.{arith}
+use native.Mathlib.Nat.{mul-le-mul-right}
+use lib.ListN.{length, take, drop, length-append, length-drop}
+use lib.Seq.{length-take-le, drop-drop}
+use Rattle.endian.specs.Answer.{Put}
+use Rattle.endian.specs.Bytes.{beBytes, patch}
+use Rattle.endian.proofs.Laws.{length-be, length-patch, patch-append, put-in}
+use Rattle.records.specs.Records.{Record, WZ, WB, FL, recordBytes, listBytes, blocks}
+use Rattle.writes.specs.Writing.{recordHead, blocksLength}
+
+-- ---- one record
+
+pub zeros-head : (offset n : ℕ) → recordBytes (WZ offset n) ≡ recordHead 0x575a offset n
+unfolding recordBytes recordHead beBytes
+zeros-head offset n = refl
+
+pub block-head : (offset : ℕ) (bytes : List ℕ) → recordBytes (WB offset bytes) ≡ recordHead 0x5742 offset (length bytes) ++ bytes
+unfolding recordBytes recordHead beBytes
+block-head offset bytes = refl
+
+pub flush-bytes : recordBytes FL ≡ beBytes 2 0x464c
+unfolding recordBytes beBytes
+flush-bytes = refl
+
+pub head-length : (mark offset n : ℕ) → length (recordHead mark offset n) ≡ 18
+unfolding recordHead beBytes
+head-length mark offset n = refl
+
+pub block-length : (offset : ℕ) (bytes : List ℕ) → length (recordBytes (WB offset bytes)) ≡ 18 + length bytes
+block-length offset bytes =
+    ap (λ (l : List ℕ). length l) (block-head offset bytes)
+    ∙ length-append (recordHead 0x5742 offset (length bytes)) bytes
+    ∙ ap (λ (n : ℕ). n + length bytes) (head-length 0x5742 offset (length bytes))
+
+pub zeros-length : (offset n : ℕ) → length (recordBytes (WZ offset n)) ≡ 18
+zeros-length offset n = ap (λ (l : List ℕ). length l) (zeros-head offset n) ∙ head-length 0x575a offset n
+
+-- mark, offset and length, the last written first
+pub head-done : {p q r : ℕ} (mark offset n at : ℕ) (xs ys zs ws : List ℕ) → at + 18 ≤ length xs
+    → Put (at + 10 + 8) (patch (at + 10) (beBytes 8 n) xs) xs p ys → Put (at + 2 + 8) (patch (at + 2) (beBytes 8 offset) ys) ys q zs
+    → Put (at + 2) (patch at (beBytes 2 mark) zs) zs r ws → ws ≡ patch at (recordHead mark offset n) xs
+unfolding recordHead
+head-done mark offset n at xs ys zs ws h p q r =
+    let a : ys ≡ patch (at + 10) (beBytes 8 n) xs = put-in p (omega arith) in
+    let la : length ys ≡ length xs = ap (λ (l : List ℕ). length l) a ∙ length-patch (at + 10) (beBytes 8 n) xs in
+    let b : zs ≡ patch (at + 2) (beBytes 8 offset) ys = put-in q (omega arith) in
+    let lb : length zs ≡ length ys = ap (λ (l : List ℕ). length l) b ∙ length-patch (at + 2) (beBytes 8 offset) ys in
+    let c : ws ≡ patch at (beBytes 2 mark) zs = put-in r (omega arith) in
+    let k : at + 2 + length (beBytes 8 offset) ≡ at + 10 = omega (arith, length-be 8 offset) in
+    let m : at + length (beBytes 2 mark) ≡ at + 2 = omega (arith, length-be 2 mark) in
+    c
+    ∙ ap (λ (l : List ℕ). patch at (beBytes 2 mark) l)
+    (b ∙ ap (λ (l : List ℕ). patch (at + 2) (beBytes 8 offset) l) (a ∙ ap (λ (i : ℕ). patch i (beBytes 8 n) xs) (sym k)) ∙ sym (patch-append (at + 2) (beBytes 8 offset) (beBytes 8 n) xs) ∙ ap (λ (i : ℕ). patch i (beBytes 8 offset ++ beBytes 8 n) xs) (sym m))
+    ∙ sym (patch-append at (beBytes 2 mark) (beBytes 8 offset ++ beBytes 8 n) xs)
+
+-- a block and the head before it
+pub block-done : {p : ℕ} (offset at : ℕ) (src xs ys zs : List ℕ) → at + (18 + length src) ≤ length xs
+    → Put (at + 18 + length src) (patch (at + 18) src xs) xs p ys → zs ≡ patch at (recordHead 0x5742 offset (length src)) ys
+    → zs ≡ patch at (recordBytes (WB offset src)) xs
+block-done offset at src xs ys zs h p e =
+    let a : ys ≡ patch (at + 18) src xs = put-in p (omega arith) in
+    let k : at + length (recordHead 0x5742 offset (length src)) ≡ at + 18 = ap (λ (i : ℕ). at + i) (head-length 0x5742 offset (length src)) in
+    e
+    ∙ ap (λ (l : List ℕ). patch at (recordHead 0x5742 offset (length src)) l) (a ∙ ap (λ (i : ℕ). patch i src xs) (sym k))
+    ∙ sym (patch-append at (recordHead 0x5742 offset (length src)) src xs)
+    ∙ ap (λ (l : List ℕ). patch at l xs) (sym (block-head offset src))
+
+-- block j of a write
+pub nth-done : (bs offset j at : ℕ) (src xs ys : List ℕ)
+    → ys ≡ patch (at + j * (18 + bs)) (recordBytes (WB (offset + j * bs) (take (j * bs + bs - j * bs) (drop (j * bs) src)))) xs
+    → ys ≡ patch (at + j * (18 + bs)) (recordBytes (WB (offset + j * bs) (take bs (drop (j * bs) src)))) xs
+nth-done bs offset j at src xs ys e =
+    let z : j * bs + bs - j * bs ≡ bs = omega arith in
+    e ∙ ap (λ (n : ℕ). patch (at + j * (18 + bs)) (recordBytes (WB (offset + j * bs) (take n (drop (j * bs) src)))) xs) z
+
+-- ---- records one after the other
+
+pub list-append : (rs ss : List Record) → listBytes (rs ++ ss) ≡ listBytes rs ++ listBytes ss
+unfolding listBytes
+list-append [] ss = refl
+list-append (r ∷ rs) ss = ap (λ (l : List ℕ). recordBytes r ++ l) (list-append rs ss) ∙ sym (append-assoc (recordBytes r) (listBytes rs) (listBytes ss))
+
+pub blocks-length : (bs offset n : ℕ) (bytes : List ℕ) → n * bs ≤ length bytes → length (listBytes (blocks bs offset n bytes)) ≡ blocksLength bs n
+unfolding listBytes blocks blocksLength
+blocks-length bs offset zero bytes h = omega arith
+blocks-length bs offset (suc n) bytes h =
+    let t : length (take bs bytes) ≡ bs = length-take-le bs bytes (omega arith) in
+    let b = block-length offset (take bs bytes) in
+    let r : length (listBytes (blocks bs (offset + bs) n (drop bs bytes))) ≡ n * (18 + bs) = blocks-length bs (offset + bs) n (drop bs bytes) (omega (arith, length-drop bs bytes)) in
+    length-append (recordBytes (WB offset (take bs bytes))) (listBytes (blocks bs (offset + bs) n (drop bs bytes))) ∙ omega arith
+
+-- the blocks of a write from j on, as records from the j-th on
+pub blocksFrom : ℕ → ℕ → ℕ → List ℕ → ℕ → List ℕ
+blocksFrom bs offset n src j = listBytes (blocks bs (offset + j * bs) (n - j) (drop (j * bs) src))
+
+module _ (bs offset n at : ℕ) (src xs : List ℕ) where
+  -- none yet
+  pub blocks-none : xs ≡ patch (at + n * (18 + bs)) (blocksFrom bs offset n src n) xs
+  unfolding blocksFrom listBytes blocks patch
+  blocks-none = let z : n - n ≡ 0 = omega arith in rw z refl
+
+  -- block i is put before those that are there
+  turn-at : (i : ℕ) → i < n → n * bs ≤ length src → patch (at + i * (18 + bs)) (recordBytes (WB (offset + i * bs) (take bs (drop (i * bs) src)))) (patch (at + suc i * (18 + bs)) (blocksFrom bs offset n src (suc i)) xs)
+      ≡ patch (at + i * (18 + bs)) (blocksFrom bs offset n src i) xs
+  unfolding blocksFrom listBytes blocks
+  turn-at i h l =
+      let m : n - i ≡ suc (n - suc i) = omega arith in
+      let w = mul-le-mul-right bs h in
+      let b = recordBytes (WB (offset + i * bs) (take bs (drop (i * bs) src))) in
+      let lt : length (take bs (drop (i * bs) src)) ≡ bs = length-take-le bs (drop (i * bs) src) (omega (arith, length-drop (i * bs) src)) in
+      let lb : length b ≡ 18 + length (take bs (drop (i * bs) src)) = block-length (offset + i * bs) (take bs (drop (i * bs) src)) in
+      let p : at + suc i * (18 + bs) ≡ at + i * (18 + bs) + length b = omega arith in
+      let o : offset + suc i * bs ≡ offset + i * bs + bs = omega arith in
+      let k : suc i * bs ≡ i * bs + bs = omega arith in
+      let d : drop (suc i * bs) src ≡ drop bs (drop (i * bs) src) = ap (λ (x : ℕ). drop x src) k ∙ sym (drop-drop bs (i * bs) src) in
+      rw (p, o, d) (sym (rw m (patch-append (at + i * (18 + bs)) b (listBytes (blocks bs (offset + i * bs + bs) (n - suc i) (drop bs (drop (i * bs) src)))) xs)))
+
+  pub blocks-turn : (j : ℕ) (ys zs : List ℕ) → 0 < j → j ≤ n → n * bs ≤ length src → ys ≡ patch (at + j * (18 + bs)) (blocksFrom bs offset n src j) xs
+      → zs ≡ patch (at + (j - 1) * (18 + bs)) (recordBytes (WB (offset + (j - 1) * bs) (take bs (drop ((j - 1) * bs) src)))) ys
+      → zs ≡ patch (at + (j - 1) * (18 + bs)) (blocksFrom bs offset n src (j - 1)) xs
+  blocks-turn j ys zs p h l e d =
+      let s : j ≡ suc (j - 1) = omega arith in
+      d
+      ∙ ap (λ (v : List ℕ). patch (at + (j - 1) * (18 + bs)) (recordBytes (WB (offset + (j - 1) * bs) (take bs (drop ((j - 1) * bs) src)))) v)
+      (e ∙ ap (λ (i : ℕ). patch (at + i * (18 + bs)) (blocksFrom bs offset n src i) xs) s)
+      ∙ turn-at (j - 1) (omega arith) l
+
+  -- all of them
+  pub blocks-all : (j : ℕ) (ys : List ℕ) → j ≤ 0 → ys ≡ patch (at + j * (18 + bs)) (blocksFrom bs offset n src j) xs → ys ≡ patch at (listBytes (blocks bs offset n src)) xs
+  unfolding blocksFrom
+  blocks-all j ys h e =
+      let z : j ≡ 0 = omega arith in
+      let a : at + 0 * (18 + bs) ≡ at = omega arith in
+      let o : offset + 0 * bs ≡ offset = omega arith in
+      let m : n - 0 ≡ n = omega arith in
+      let k : 0 * bs ≡ 0 = omega arith in
+      e ∙ ap (λ (i : ℕ). patch (at + i * (18 + bs)) (listBytes (blocks bs (offset + i * bs) (n - i) (drop (i * bs) src))) xs) z ∙ rw (a, o, m, k) refl
+
+-- what block j needs
+pub nth-room : (bs offset n at j len room : ℕ) → 0 < j → j ≤ n → offset + n * bs ≤ 2 ^ 64 → 0 < bs → n * bs ≤ len → at + n * (18 + bs) ≤ room
+    → (offset + (j - 1) * bs < 2 ^ 64) × ((j - 1) * bs + bs ≤ len) × (at + ((j - 1) * (18 + bs) + (18 + bs)) ≤ room)
+nth-room bs offset n at j len room p h o b l r =
+    let s : suc (j - 1) ≤ n = omega arith in
+    let v = mul-le-mul-right bs s in
+    let w = mul-le-mul-right (18 + bs) s in
+    (omega arith, omega arith, omega arith)

@@ -1,0 +1,15 @@
+-- `writes::blocks::finished_head` meets its contract.
+-- Assumes nothing.
+use Rattle.writes.proofs.Accepted.{finished-made}
+use borrow.Author.Needs.{needs}
+use Rattle.writes.proofs.blocks.finished_head.Statement.{statement}
+use Rattle.writes.proofs.blocks.finished_head.Tie as tie
+
+returns : tie.Need-returns
+returns c = let s = c .before .before .before .before .before .before .before .before .before .before .before .before in finished-made (s .args .run .geometry) (s .pre .0 .label) (s .pre .0 .plans) _ _ _ _ _ (s .pre .1) (c .before .before .before .before .before .before .before .before .plan-ag .ensures) (c .before .before .before .before .before .before .finished-state .ensures) (c .before .before .ag-head .ensures)
+
+pub finished-head-spec : {M : Type 1} → statement M
+finished-head-spec =
+    tie.close
+    (tie.spec
+    (λ c κs. search needs) (λ c κs. search needs) (λ c κs. search needs) (λ c. search needs) returns)

@@ -1,0 +1,33 @@
+-- `writes::write_number` meets its contract.
+-- Assumes nothing.
+use Rattle.writes.proofs.Accepted.{or-first, place-zero, write-fits, write-other}
+use Rattle.writes.specs.Writing.{writeNumber}
+use mathlib.Core.Path.{sym, _∙_}
+use borrow.Author.Needs.{needs}
+use Rattle.writes.proofs.write_number.Statement.{statement}
+use Rattle.writes.proofs.write_number.Tie as tie
+
+returns : tie.Need-returns
+unfolding writeNumber
+returns c = or-first _ _ _ (c .before .place-number .ensures) (c .if1 .taken)
+
+sizes-of-requires : tie.Need-sizes-of-requires
+sizes-of-requires c κs =
+    let s = c .before .before in
+    place-zero (s .args .run) (s .args .k) (sym (c .before .place-number .ensures) ∙ c .if1 .left) .0
+
+returns-2 : tie.Need-returns-2
+returns-2 c =
+    let s = c .before .before .before .before .before in
+    write-fits (s .args .run) (s .args .k) _ (sym (c .before .before .before .before .place-number .ensures) ∙ c .before .before .before .if1 .left) (c .if2 .taken ∙ c .before .length-of .ensures)
+
+returns-3 : tie.Need-returns-3
+returns-3 c =
+    let s = c .before .before .before .before .before in
+    write-other (s .args .run) (s .args .k) _ (sym (c .before .before .before .before .place-number .ensures) ∙ c .before .before .before .if1 .left) (λ e. c .if2 .left (e ∙ sym (c .before .length-of .ensures)))
+
+pub write-number-spec : {M : Type 1} → statement M
+write-number-spec =
+    tie.close
+    (tie.spec
+    (λ c κs. search needs) returns sizes-of-requires (λ c κs. c .sizes-of .ensures) returns-2 returns-3)

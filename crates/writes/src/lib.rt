@@ -1,0 +1,190 @@
+// The list of a run's written records, chunk by chunk: zeros and the log, the head of each group, the root chunk, and the end with the
+// finished superblock. The Rust's format of format.rs.
+ghost use mathlib.Core.Path.{_≡_};
+ghost use Prim.Native.Nat.{_+_, _*_, _<_, _≤_};
+ghost use lib.ListN.{length};
+ghost use Rattle.structs.specs.Written.{Written};
+ghost use Rattle.records.specs.Records.{listBytes};
+ghost use Rattle.written.specs.Listing.{headBlocks, headerBlocks, chunkBlocks, opening, headRecords, chunkRecords, closing, listChunk};
+ghost use Rattle.writes.specs.Writing.{formatNumber, placeNumber, writeNumber, countAnswer, lengthAnswer, Ready, blocksLength};
+
+pub mod lengths; // lengths.rt: blocks of a head, of its headers and of the root chunk
+pub mod split; // split.rt: one record, and a write that is split into its blocks
+pub mod blocks; // blocks.rt: the log's first block, heads and root chunk
+pub mod chunks; // chunks.rt: the records of each chunk
+
+use crate::chunks::put_closing;
+use crate::chunks::put_group;
+use crate::chunks::put_opening;
+use crate::chunks::put_root;
+use crate::lengths::Sizes;
+use crate::lengths::length_of;
+use crate::lengths::sizes_of;
+use arith::numbers::minus;
+use inode::time::encode_time;
+use run::Run;
+use summary::plans_number;
+
+// The refusal of a chunk that is not there.
+pub const NO_CHUNK: u32 = 29;
+
+// The largest head: 10 blocks of 16,384 bytes.
+pub const LARGEST_HEAD: usize = 163840;
+
+// A count of chunks or bytes; a refusal has 0 beside its number.
+pub struct Counted {
+    pub number: u32,
+    pub value: u64,
+}
+
+// 31, 25, 26, or 0.
+fn format_number(run: Run) -> u32
+    ensures { λ r. ⌜ r ≡ formatNumber run ⌝ }
+{
+    let g = run.geometry;
+    let plans = plans_number(g);
+    if plans != 0 {
+        return plans;
+    }
+    let f = g.features;
+    let time = run.time;
+    let stored = encode_time(time, f.bigtime);
+    stored.number
+}
+
+// The same, 29, or 0.
+fn place_number(run: Run, k: u64) -> u32
+    ensures { λ r. ⌜ r ≡ placeNumber run k ⌝ }
+{
+    let n = format_number(run);
+    if n != 0 {
+        return n;
+    }
+    let g = run.geometry;
+    if minus(k, 2) <= g.agcount {
+        return 0;
+    }
+    NO_CHUNK
+}
+
+// 31, 25, 26, 29, 27, or 0.
+fn write_number(run: Run, k: u64, len: usize) -> u32
+    ensures { λ r. ⌜ r ≡ writeNumber run k len ⌝ }
+{
+    let n = place_number(run, k);
+    if n != 0 {
+        return n;
+    }
+    let s = sizes_of(run);
+    if len == length_of(run, s, k) {
+        return 0;
+    }
+    endian::WRONG_LENGTH
+}
+
+// Room for the bytes of a part, before they are split into records.
+fn blank() -> [u8; 163840]
+    ensures { λ r. ⌜ 163840 ≡ length r ⌝ }
+{
+    [0; 163840]
+}
+
+fn fill_opening(run: Run, s: Sizes, device: u64, work: &mut [u8], buf: &mut [u8])
+    requires { ⌜ (Ready run s) × (163840 ≤ length (now work)) × (length (now buf) ≡ 3 * 18 + blocksLength (run .geometry .blocksize) 1) ⌝ }
+    ensures { λ _. ⌜ now (buf .exit) ≡ listBytes (opening run device) ⌝ }
+{
+    let n = s.block;
+    put_opening(run, s, device, &mut work[0..0 + n], buf);
+}
+
+fn fill_group(run: Run, s: Sizes, k: u64, work: &mut [u8], buf: &mut [u8])
+    requires { ⌜ (Ready run s) × (k < run .geometry .agcount) × (163840 ≤ length (now work)) × (length (now buf) ≡ blocksLength (run .geometry .blocksize) (headBlocks (run .geometry))) ⌝ }
+    ensures { λ _. ⌜ now (buf .exit) ≡ listBytes (headRecords run k) ⌝ }
+{
+    let n = s.head * s.block;
+    put_group(run, s, k, &mut work[0..0 + n], buf);
+}
+
+fn fill_root(run: Run, s: Sizes, work: &mut [u8], buf: &mut [u8])
+    requires { ⌜ (Ready run s) × (163840 ≤ length (now work)) × (length (now buf) ≡ blocksLength (run .geometry .blocksize) (chunkBlocks (run .geometry))) ⌝ }
+    ensures { λ _. ⌜ now (buf .exit) ≡ listBytes (chunkRecords run) ⌝ }
+{
+    let n = s.chunk * s.block;
+    put_root(run, s, &mut work[0..0 + n], buf);
+}
+
+fn fill_closing(run: Run, s: Sizes, work: &mut [u8], buf: &mut [u8])
+    requires { ⌜ (Ready run s) × (163840 ≤ length (now work)) × (length (now buf) ≡ 2 + blocksLength (run .geometry .blocksize) (headerBlocks (run .geometry)) + 2) ⌝ }
+    ensures { λ _. ⌜ now (buf .exit) ≡ listBytes (closing run) ⌝ }
+{
+    let n = s.head * s.block;
+    put_closing(run, s, &mut work[0..0 + n], buf);
+}
+
+// Chunk k into a buffer of its length.
+fn fill(run: Run, device: u64, k: u64, work: &mut [u8], buf: &mut [u8])
+    requires { ⌜ (writeNumber run k (length (now buf)) ≡ 0) × (163840 ≤ length (now work)) ⌝ }
+    ensures { λ _. ⌜ now (buf .exit) ≡ listBytes (listChunk run device k) ⌝ }
+{
+    let g = run.geometry;
+    let s = sizes_of(run);
+    if k == 0 {
+        fill_opening(run, s, device, work, buf);
+        return;
+    }
+    if k <= g.agcount {
+        fill_group(run, s, k - 1, work, buf);
+        return;
+    }
+    if k - 1 == g.agcount {
+        fill_root(run, s, work, buf);
+        return;
+    }
+    fill_closing(run, s, work, buf);
+}
+
+fn refused(number: u32) -> Counted
+    ensures { λ r. ⌜ r ≡ record { number = number; value = 0 } ⌝ }
+{
+    Counted { number, value: 0 }
+}
+
+// How many chunks the list has: 31, 25, 26.
+pub fn chunk_count(run: Run) -> Counted
+    ensures { λ r. ⌜ r ≡ countAnswer run ⌝ }
+{
+    let n = format_number(run);
+    if n != 0 {
+        return refused(n);
+    }
+    let g = run.geometry;
+    let value = g.agcount + 3;
+    Counted { number: 0, value }
+}
+
+// How many bytes chunk k has: 31, 25, 26, 29.
+pub fn chunk_length(run: Run, k: u64) -> Counted
+    ensures { λ r. ⌜ r ≡ lengthAnswer run k ⌝ }
+{
+    let n = place_number(run, k);
+    if n != 0 {
+        return refused(n);
+    }
+    let s = sizes_of(run);
+    let value = length_of(run, s, k) as u64;
+    Counted { number: 0, value }
+}
+
+// Chunk k of the list of a run on a device of so many bytes: all of its bytes. 31, 25, 26, 27 for a buffer of another length, 29 where
+// there is no chunk k.
+pub fn write_chunk(run: Run, device: u64, k: u64, buf: &mut [u8]) -> u32
+    ensures { λ r. ⌜ Written (writeNumber run k (length (now (buf .entry)))) (listBytes (listChunk run device k)) (now (buf .entry)) r (now (buf .exit)) ⌝ }
+{
+    let n = write_number(run, k, buf.len());
+    if n != 0 {
+        return n;
+    }
+    let mut work = blank();
+    fill(run, device, k, &mut work, buf);
+    0
+}

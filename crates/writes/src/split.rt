@@ -1,0 +1,60 @@
+// One record, and a write that is split into its blocks.
+ghost use mathlib.Core.Path.{_≡_};
+ghost use Prim.Native.Nat.{_+_, _*_, _<_, _≤_, _^_};
+ghost use lib.ListN.{length, take, drop};
+ghost use Rattle.endian.specs.Bytes.{patch};
+ghost use Rattle.records.specs.Records.{WB, recordBytes, listBytes, blocks as blocks·of};
+ghost use Rattle.writes.specs.Writing.{recordHead};
+use crate::lengths::HEAD;
+
+// The marks: "WZ" for zeros, "WB" for a block, "FL" for a flush.
+pub const ZEROS: u16 = 0x575a;
+
+pub const BLOCK: u16 = 0x5742;
+
+pub const FLUSH: u16 = 0x464c;
+
+// Mark, offset and length; the last is written first.
+pub(crate) fn put_head(mark: u16, offset: u64, n: u64, at: usize, buf: &mut [u8])
+    requires { ⌜ at + 18 ≤ length (now buf) ⌝ }
+    ensures { λ _. ⌜ now (buf .exit) ≡ patch at (recordHead mark offset n) (now (buf .entry)) ⌝ }
+{
+    endian::put64(buf, at + 10, n);
+    endian::put64(buf, at + 2, offset);
+    endian::put16(buf, at, mark);
+}
+
+// A block with its head.
+pub(crate) fn put_block(offset: u64, src: &[u8], at: usize, buf: &mut [u8])
+    requires { ⌜ at + (18 + length (now src)) ≤ length (now buf) ⌝ }
+    ensures { λ _. ⌜ now (buf .exit) ≡ patch at (recordBytes (WB offset (now (src .entry)))) (now (buf .entry)) ⌝ }
+{
+    endian::put_bytes(buf, at + HEAD, src);
+    put_head(BLOCK, offset, src.len() as u64, at, buf);
+}
+
+// Block j of a write at `offset`, as the j-th record from `at` on.
+fn put_nth(bs: usize, offset: u64, src: &[u8], j: usize, at: usize, buf: &mut [u8])
+    requires { ⌜ (offset + j * bs < 2 ^ 64) × (j * bs + bs ≤ length (now src)) × (at + (j * (18 + bs) + (18 + bs)) ≤ length (now buf)) ⌝ }
+    ensures { λ _. ⌜ now (buf .exit) ≡ patch (at + j * (18 + bs)) (recordBytes (WB (offset + j * bs) (take bs (drop (j * bs) (now (src .entry)))))) (now (buf .entry)) ⌝ }
+{
+    let from = j * bs;
+    put_block(
+        offset + (from as u64),
+        &src[from..from + bs],
+        at + j * (HEAD + bs),
+        buf,
+    );
+}
+
+// The n blocks of a write at `offset`, from `at` on; the last is written first.
+pub(crate) fn put_blocks(bs: usize, offset: u64, n: usize, src: &[u8], at: usize, buf: &mut [u8])
+    requires { ⌜ (offset + n * bs ≤ 2 ^ 64) × (0 < bs) × (n * bs ≤ length (now src)) × (at + n * (18 + bs) ≤ length (now buf)) ⌝ }
+    ensures { λ _. ⌜ now (buf .exit) ≡ patch at (listBytes (blocks·of bs offset n (now (src .entry)))) (now (buf .entry)) ⌝ }
+{
+    let mut j = n;
+    while 0 < j {
+        j -= 1;
+        put_nth(bs, offset, src, j, at, buf);
+    }
+}
