@@ -5,11 +5,13 @@ use mathlib.Core.List.{List, [], _∷_, _++_, append-assoc}
 use Prim.Native.Nat.{ℕ, zero, suc, _+_, _*_, _-_, _<_, _≤_, _^_}
 use native.Mathlib.Omega.{arith}
 use native.Mathlib.Nat.{mul-le-mul-right}
-use lib.ListN.{length, take, drop, length-append, length-drop}
-use lib.Seq.{length-take-le, drop-drop}
+use lib.ListN.{length, getD, set, take, drop, length-append, length-drop}
+use lib.Seq.{length-take-le, take-all, take-suc, drop-drop}
+use native.Mathlib.Numerals.{add-one}
 use Rattle.endian.specs.Answer.{Put}
 use Rattle.endian.specs.Bytes.{beBytes, patch}
 use Rattle.endian.proofs.Laws.{length-be, length-patch, patch-append, put-in}
+use Rattle.structs.proofs.Reading.{patch-apart}
 use Rattle.records.specs.Records.{Record, WZ, WB, FL, recordBytes, listBytes, blocks}
 use Rattle.writes.specs.Writing.{recordHead, blocksLength}
 
@@ -58,12 +60,27 @@ head-done mark offset n at xs ys zs ws h p q r =
     (b ∙ ap (λ (l : List ℕ). patch (at + 2) (beBytes 8 offset) l) (a ∙ ap (λ (i : ℕ). patch i (beBytes 8 n) xs) (sym k)) ∙ sym (patch-append (at + 2) (beBytes 8 offset) (beBytes 8 n) xs) ∙ ap (λ (i : ℕ). patch i (beBytes 8 offset ++ beBytes 8 n) xs) (sym m))
     ∙ sym (patch-append at (beBytes 2 mark) (beBytes 8 offset ++ beBytes 8 n) xs)
 
+-- the next byte of a copy
+pub copy-turn : (at i : ℕ) (src xs ys : List ℕ) → i < length src → ys ≡ patch at (take i src) xs → set ys (at + i) (getD src i 0) ≡ patch at (take (i + 1) src) xs
+unfolding patch
+copy-turn at i src xs ys h e =
+    let y = getD src i 0 in
+    let l : length (take i src) ≡ i = length-take-le i src (omega arith) in
+    let k : at + length (take i src) ≡ at + i = ap (λ (n : ℕ). at + n) l in
+    ap (λ (v : List ℕ). set v (at + i) y) e
+    ∙ sym (patch-apart at (at + i) (take i src) (y ∷ []) xs (omega arith))
+    ∙ ap (λ (n : ℕ). patch at (take i src) (patch n (y ∷ []) xs)) (sym k)
+    ∙ sym (patch-append at (take i src) (y ∷ []) xs)
+    ∙ ap (λ (v : List ℕ). patch at v xs) (sym (take-suc src i 0 h))
+    ∙ ap (λ (n : ℕ). patch at (take n src) xs) (sym (add-one i))
+
+pub copy-all : (at i : ℕ) (src xs ys : List ℕ) → length src ≤ i → ys ≡ patch at (take i src) xs → ys ≡ patch at src xs
+copy-all at i src xs ys h e = e ∙ ap (λ (v : List ℕ). patch at v xs) (take-all i src h)
+
 -- a block and the head before it
-pub block-done : {p : ℕ} (offset at : ℕ) (src xs ys zs : List ℕ) → at + (18 + length src) ≤ length xs
-    → Put (at + 18 + length src) (patch (at + 18) src xs) xs p ys → zs ≡ patch at (recordHead 0x5742 offset (length src)) ys
-    → zs ≡ patch at (recordBytes (WB offset src)) xs
-block-done offset at src xs ys zs h p e =
-    let a : ys ≡ patch (at + 18) src xs = put-in p (omega arith) in
+pub block-done : (offset at : ℕ) (src xs ys zs : List ℕ)
+    → ys ≡ patch (at + 18) src xs → zs ≡ patch at (recordHead 0x5742 offset (length src)) ys → zs ≡ patch at (recordBytes (WB offset src)) xs
+block-done offset at src xs ys zs a e =
     let k : at + length (recordHead 0x5742 offset (length src)) ≡ at + 18 = ap (λ (i : ℕ). at + i) (head-length 0x5742 offset (length src)) in
     e
     ∙ ap (λ (l : List ℕ). patch at (recordHead 0x5742 offset (length src)) l) (a ∙ ap (λ (i : ℕ). patch i src xs) (sym k))

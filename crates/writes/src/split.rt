@@ -24,12 +24,24 @@ pub(crate) fn put_head(mark: u16, offset: u64, n: u64, at: usize, buf: &mut [u8]
     endian::put16(buf, at, mark);
 }
 
+// The bytes of `src` from `at` on; the first is written first, which compilers turn into wide moves.
+fn copy(src: &[u8], at: usize, buf: &mut [u8])
+    requires { ⌜ at + length (now src) ≤ length (now buf) ⌝ }
+    ensures { λ _. ⌜ now (buf .exit) ≡ patch at (now (src .entry)) (now (buf .entry)) ⌝ }
+{
+    let mut i = 0;
+    while i < src.len() {
+        buf[at + i] = src[i];
+        i += 1;
+    }
+}
+
 // A block with its head.
 pub(crate) fn put_block(offset: u64, src: &[u8], at: usize, buf: &mut [u8])
     requires { ⌜ at + (18 + length (now src)) ≤ length (now buf) ⌝ }
     ensures { λ _. ⌜ now (buf .exit) ≡ patch at (recordBytes (WB offset (now (src .entry)))) (now (buf .entry)) ⌝ }
 {
-    endian::put_bytes(buf, at + HEAD, src);
+    copy(src, at + HEAD, buf);
     put_head(BLOCK, offset, src.len() as u64, at, buf);
 }
 

@@ -6,7 +6,7 @@ use Rattle.writes.proofs.split.put_block.Statement.{statement}
 use Rattle.writes.proofs.split.put_block.Tie as tie
 
 returns : tie.Need-returns
-returns c = block-done _ _ _ _ _ _ (c .before .before .before .before .before .before .before .before .before .before .pre) (c .before .before .before .before .before .before .put-bytes .ensures) (c .before .before .put-head .ensures)
+returns c = block-done _ _ _ _ _ _ (c .before .before .before .before .before .before .copy .ensures) (c .before .before .put-head .ensures)
 
 pub put-block-spec : {M : Type 1} → statement M
 put-block-spec =
