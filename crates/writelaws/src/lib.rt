@@ -1,0 +1,1 @@
+// How long the chunks of a run's list are. No functions: see specs/ and proofs/.
