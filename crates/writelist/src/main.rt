@@ -1,8 +1,9 @@
 // Reads input records from standard input and writes the list of written records of the run that they ask for to standard output, or
-// prints `refused N`. The records come from `writes`, chunk by chunk; here they are only lent a buffer and written.
+// prints `refused N`. The records come from `writes`, chunk by chunk; here they are only lent room and written.
 // Give each disk its UUID in an `ID` record: without one it is zeros, and Linux doesn't mount such a disk.
 ghost use mathlib.Core.Path.{_≡_};
 ghost use lib.ListN.{length};
+use arith::numbers::minus;
 use libc::STDIN_FILENO;
 use libc::STDOUT_FILENO;
 use run::Run;
@@ -48,8 +49,17 @@ fn read_input(buf: &mut [u8]) -> Input {
     i
 }
 
+// Bytes of ten blocks of 4096 bytes, each with the 18 bytes before it: room for the chunks and parts of most disks.
+const FEW: usize = 41140;
+
+fn few_bytes() -> [u8; 41140]
+    ensures { λ r. ⌜ 41140 ≡ length r ⌝ }
+{
+    [0; 41140]
+}
+
 // Room for the longest chunk: a head of 10 blocks of 16,384 bytes, each with the 18 bytes before it.
-fn chunk_buffer() -> [u8; 164020]
+fn most_bytes() -> [u8; 164020]
     ensures { λ r. ⌜ 164020 ≡ length r ⌝ }
 {
     [0; 164020]
@@ -64,55 +74,79 @@ fn flush(buf: &[u8], end: usize) -> bool {
 }
 
 // Makes chunk k in a buffer of its length.
-fn make(run: Run, device: u64, k: u64, n: usize, buf: &mut [u8]) -> u32 {
+fn make(run: Run, device: u64, k: u64, n: usize, work: &mut [u8], buf: &mut [u8]) -> u32 {
     if n <= buf.len() {
-        return writes::write_chunk(run, device, k, &mut buf[0..n]);
+        return writes::write_chunk(run, device, k, work, &mut buf[0..n]);
     }
     writes::NO_CHUNK
 }
 
 // Makes chunk k and writes it; false where a write failed.
-fn write_one(run: Run, device: u64, k: u64, buf: &mut [u8]) -> bool {
+fn write_one(run: Run, device: u64, k: u64, work: &mut [u8], buf: &mut [u8]) -> bool {
     let length = writes::chunk_length(run, k);
     let n = length.value as usize;
-    if make(run, device, k, n, buf) != 0 {
+    if make(run, device, k, n, work, buf) != 0 {
         return false;
     }
     flush(buf, n)
 }
 
 // Writes all chunks; false where a write failed, and then nothing more is written.
-fn write_list(run: Run, device: u64, buf: &mut [u8]) -> bool {
+fn write_list(run: Run, device: u64, work: &mut [u8], buf: &mut [u8]) -> bool {
     let count = writes::chunk_count(run);
     let n = count.value;
     let mut left = n;
     let mut written = true;
     while 0 < left && written {
-        written = write_one(run, device, n - left, buf);
+        written = write_one(run, device, n - left, work, buf);
         left -= 1;
     }
     written
 }
 
-fn print_refused(number: u32, buf: &mut [u8]) -> bool {
-    let w = lines::put_refused(number as u64, buf, 0);
-    flush(buf, w.end)
+fn write_few(run: Run, device: u64) -> bool {
+    let mut work = few_bytes();
+    let mut buf = few_bytes();
+    write_list(run, device, &mut work, &mut buf)
+}
+
+fn write_most(run: Run, device: u64) -> bool {
+    let mut work = most_bytes();
+    let mut buf = most_bytes();
+    write_list(run, device, &mut work, &mut buf)
+}
+
+// Whether little room is enough: the first head and the root chunk, which is the chunk before the last, are the longest.
+fn needs_few(run: Run) -> bool {
+    let count = writes::chunk_count(run);
+    let head = writes::chunk_length(run, 1);
+    let root = writes::chunk_length(run, minus(count.value, 2));
+    head.value <= FEW as u64 && root.value <= FEW as u64
+}
+
+fn print_refused(number: u32) -> bool {
+    let mut line = [0u8; 32];
+    let w = lines::put_refused(number as u64, &mut line, 0);
+    flush(&line, w.end)
 }
 
 // Writes what the input asks for; false where a write failed.
-fn answer(input: &[u8], buf: &mut [u8]) -> bool {
+fn answer(input: &[u8]) -> bool {
     let r = request::parse(input);
     let run = run::run_of(r);
     if run.number != 0 {
-        return print_refused(run.number, buf);
+        return print_refused(run.number);
     }
-    write_list(run, r.device, buf)
+    if needs_few(run) {
+        return write_few(run, r.device);
+    }
+    write_most(run, r.device)
 }
 
 // The same for the first n bytes that were read.
-fn answer_first(input: &[u8], n: usize, buf: &mut [u8]) -> bool {
+fn answer_first(input: &[u8], n: usize) -> bool {
     if n <= input.len() {
-        return answer(&input[..n], buf);
+        return answer(&input[..n]);
     }
     false
 }
@@ -120,13 +154,12 @@ fn answer_first(input: &[u8], n: usize, buf: &mut [u8]) -> bool {
 // No well-formed input has more than 415 bytes, so one more is enough to read.
 fn main() {
     let mut input = [0u8; 416];
-    let mut buf = chunk_buffer();
     let i = read_input(&mut input);
     if i.failed {
         os::fail(b"standard input");
         return;
     }
-    if !answer_first(&input, i.n, &mut buf) {
+    if !answer_first(&input, i.n) {
         os::fail(b"standard output");
     }
 }

@@ -42,7 +42,7 @@ use Rattle.written.specs.Listing.{headBlocks, headerBlocks, chunkBlocks, headWr
 use Rattle.written.proofs.Whole.{group-planned}
 use Rattle.writes.specs.declared.Counted.{Counted}
 use Rattle.writes.specs.declared.lengths.Sizes.{Sizes}
-use Rattle.writes.specs.Writing.{formatNumber, placeNumber, writeNumber, chunkLength, counted, Sized, Ready}
+use Rattle.writes.specs.Writing.{formatNumber, placeNumber, writeNumber, chunkLength, partLength, counted, Sized, Ready}
 
 -- ---- the first of two numbers that isn't 0
 
@@ -77,11 +77,13 @@ module _ (run : Run) where
       let o = or-zero (formatNumber run) _ z in
       (o .0, below-at (run .geometry .agcount + 3) k (leb (run .geometry .agcount + 3) k) refl (o .1))
 
-  pub write-zero : (k len : ℕ) → writeNumber run k len ≡ 0 → (placeNumber run k ≡ 0) × (len ≡ chunkLength run k)
+  pub write-zero : (k len room : ℕ) → writeNumber run k len room ≡ 0 → (placeNumber run k ≡ 0) × (len ≡ chunkLength run k) × (partLength run k ≤ room)
   unfolding writeNumber
-  write-zero k len z =
+  write-zero k len room z =
       let o = or-zero (placeNumber run k) _ z in
-      (o .0, eqb-true len (chunkLength run k) (passed 27 0 (eqb len (chunkLength run k)) (omega arith) (o .1) .0))
+      let p = passed 27 (require 27 (leb (partLength run k) room) 0) (eqb len (chunkLength run k)) (omega arith) (o .1) in
+      let q = passed 27 0 (leb (partLength run k) room) (omega arith) (p .1) in
+      (o .0, eqb-true len (chunkLength run k) (p .0), leb-true (partLength run k) room (q .0))
 
   -- chunk k is there, or not
   pub place-there : (k : ℕ) → formatNumber run ≡ 0 → k - 2 ≤ run .geometry .agcount → 0 ≡ placeNumber run k
@@ -92,14 +94,18 @@ module _ (run : Run) where
   unfolding placeNumber chunkCount when
   place-none k f h = or-second (formatNumber run) _ 29 f (rw (le-leb (run .geometry .agcount + 3) k (omega arith)) refl)
 
-  -- the buffer is the chunk's, or not
-  pub write-fits : (k len : ℕ) → placeNumber run k ≡ 0 → len ≡ chunkLength run k → 0 ≡ writeNumber run k len
+  -- the buffer is the chunk's and the work room is enough, or not
+  pub write-fits : (k len room : ℕ) → placeNumber run k ≡ 0 → len ≡ chunkLength run k → partLength run k ≤ room → 0 ≡ writeNumber run k len room
   unfolding writeNumber
-  write-fits k len z e = or-second (placeNumber run k) _ 0 z (rw (eq-eqb len (chunkLength run k) e) refl)
+  write-fits k len room z e h = or-second (placeNumber run k) _ 0 z (rw (eq-eqb len (chunkLength run k) e, le-leb (partLength run k) room h) refl)
 
-  pub write-other : (k len : ℕ) → placeNumber run k ≡ 0 → (len ≡ chunkLength run k → ⊥) → 27 ≡ writeNumber run k len
+  pub write-other : (k len room : ℕ) → placeNumber run k ≡ 0 → (len ≡ chunkLength run k → ⊥) → 27 ≡ writeNumber run k len room
   unfolding writeNumber
-  write-other k len z h = or-second (placeNumber run k) _ 27 z (rw (ne-eqb len (chunkLength run k) h) refl)
+  write-other k len room z h = or-second (placeNumber run k) _ 27 z (rw (ne-eqb len (chunkLength run k) h) refl)
+
+  pub write-narrow : (k len room : ℕ) → placeNumber run k ≡ 0 → len ≡ chunkLength run k → room < partLength run k → 27 ≡ writeNumber run k len room
+  unfolding writeNumber
+  write-narrow k len room z e h = or-second (placeNumber run k) _ 27 z (rw (eq-eqb len (chunkLength run k) e, lt-leb (partLength run k) room h) refl)
 
 -- ---- the parts of an accepted geometry
 
@@ -219,14 +225,15 @@ count-refused n v r h e = e ∙ rw (ne-eqb n 0 h) refl
 pub count-given : (a n v w : ℕ) → n ≡ a → n ≡ 0 → w ≡ v → counted 0 w ≡ counted a v
 count-given a n v w e z d = rw (sym e ∙ z, d) refl
 
--- what a chunk's buffer says
-pub record Filling (run : Run) (k len : ℕ) : Type 0 where
+-- what a chunk's buffer and its work room say
+pub record Filling (run : Run) (k len room : ℕ) : Type 0 where
   pub format : formatNumber run ≡ 0
   pub there : k < run .geometry .agcount + 3
   pub long : len ≡ chunkLength run k
+  pub roomy : partLength run k ≤ room
 
-pub filling : (run : Run) (k len : ℕ) → writeNumber run k len ≡ 0 → Filling run k len
-filling run k len z =
-    let w = write-zero run k len z in
+pub filling : (run : Run) (k len room : ℕ) → writeNumber run k len room ≡ 0 → Filling run k len room
+filling run k len room z =
+    let w = write-zero run k len room z in
     let p = place-zero run k (w .0) in
-    record { format = p .0; there = p .1; long = w .1 }
+    record { format = p .0; there = p .1; long = w .1; roomy = w .2 }

@@ -3,3 +3,4 @@ pub mod Accepted
 pub mod Which
 pub mod Logging
 pub mod Chunking
+pub mod Parts

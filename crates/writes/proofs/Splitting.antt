@@ -115,17 +115,12 @@ blocks-length bs offset (suc n) bytes h =
 pub blocksFrom : ℕ → ℕ → ℕ → List ℕ → ℕ → List ℕ
 blocksFrom bs offset n src j = listBytes (blocks bs (offset + j * bs) (n - j) (drop (j * bs) src))
 
-module _ (bs offset n at : ℕ) (src xs : List ℕ) where
-  -- none yet
-  pub blocks-none : xs ≡ patch (at + n * (18 + bs)) (blocksFrom bs offset n src n) xs
-  unfolding blocksFrom listBytes blocks patch
-  blocks-none = let z : n - n ≡ 0 = omega arith in rw z refl
-
+module _ (bs offset n at : ℕ) (src : List ℕ) where
   -- block i is put before those that are there
-  turn-at : (i : ℕ) → i < n → n * bs ≤ length src → patch (at + i * (18 + bs)) (recordBytes (WB (offset + i * bs) (take bs (drop (i * bs) src)))) (patch (at + suc i * (18 + bs)) (blocksFrom bs offset n src (suc i)) xs)
+  turn-at : (i : ℕ) (xs : List ℕ) → i < n → n * bs ≤ length src → patch (at + i * (18 + bs)) (recordBytes (WB (offset + i * bs) (take bs (drop (i * bs) src)))) (patch (at + suc i * (18 + bs)) (blocksFrom bs offset n src (suc i)) xs)
       ≡ patch (at + i * (18 + bs)) (blocksFrom bs offset n src i) xs
   unfolding blocksFrom listBytes blocks
-  turn-at i h l =
+  turn-at i xs h l =
       let m : n - i ≡ suc (n - suc i) = omega arith in
       let w = mul-le-mul-right bs h in
       let b = recordBytes (WB (offset + i * bs) (take bs (drop (i * bs) src))) in
@@ -137,32 +132,46 @@ module _ (bs offset n at : ℕ) (src xs : List ℕ) where
       let d : drop (suc i * bs) src ≡ drop bs (drop (i * bs) src) = ap (λ (x : ℕ). drop x src) k ∙ sym (drop-drop bs (i * bs) src) in
       rw (p, o, d) (sym (rw m (patch-append (at + i * (18 + bs)) b (listBytes (blocks bs (offset + i * bs + bs) (n - suc i) (drop bs (drop (i * bs) src)))) xs)))
 
-  pub blocks-turn : (j : ℕ) (ys zs : List ℕ) → 0 < j → j ≤ n → n * bs ≤ length src → ys ≡ patch (at + j * (18 + bs)) (blocksFrom bs offset n src j) xs
-      → zs ≡ patch (at + (j - 1) * (18 + bs)) (recordBytes (WB (offset + (j - 1) * bs) (take bs (drop ((j - 1) * bs) src)))) ys
-      → zs ≡ patch (at + (j - 1) * (18 + bs)) (blocksFrom bs offset n src (j - 1)) xs
-  blocks-turn j ys zs p h l e d =
-      let s : j ≡ suc (j - 1) = omega arith in
-      d
-      ∙ ap (λ (v : List ℕ). patch (at + (j - 1) * (18 + bs)) (recordBytes (WB (offset + (j - 1) * bs) (take bs (drop ((j - 1) * bs) src)))) v)
-      (e ∙ ap (λ (i : ℕ). patch (at + i * (18 + bs)) (blocksFrom bs offset n src i) xs) s)
-      ∙ turn-at (j - 1) (omega arith) l
+  -- block j is put, and those after it are still to come
+  pub blocks-turn : (j : ℕ) (xs ys zs : List ℕ) → j < n → n * bs ≤ length src → patch (at + j * (18 + bs)) (blocksFrom bs offset n src j) ys ≡ patch at (listBytes (blocks bs offset n src)) xs
+      → zs ≡ patch (at + j * (18 + bs)) (recordBytes (WB (offset + j * bs) (take bs (drop (j * bs) src)))) ys
+      → patch (at + (j + 1) * (18 + bs)) (blocksFrom bs offset n src (j + 1)) zs ≡ patch at (listBytes (blocks bs offset n src)) xs
+  blocks-turn j xs ys zs h l e d =
+      let w = mul-le-mul-right bs h in
+      let b = recordBytes (WB (offset + j * bs) (take bs (drop (j * bs) src))) in
+      let r = blocksFrom bs offset n src (suc j) in
+      let lt : length (take bs (drop (j * bs) src)) ≡ bs = length-take-le bs (drop (j * bs) src) (omega (arith, length-drop (j * bs) src)) in
+      let lb : length b ≡ 18 + length (take bs (drop (j * bs) src)) = block-length (offset + j * bs) (take bs (drop (j * bs) src)) in
+      let p : at + j * (18 + bs) + length b ≤ at + suc j * (18 + bs) = omega arith in
+      ap (λ (i : ℕ). patch (at + i * (18 + bs)) (blocksFrom bs offset n src i) zs) (add-one j)
+      ∙ ap (λ (v : List ℕ). patch (at + suc j * (18 + bs)) r v) d
+      ∙ sym (patch-apart (at + j * (18 + bs)) (at + suc j * (18 + bs)) b r ys p)
+      ∙ turn-at j ys h l
+      ∙ e
 
-  -- all of them
-  pub blocks-all : (j : ℕ) (ys : List ℕ) → j ≤ 0 → ys ≡ patch (at + j * (18 + bs)) (blocksFrom bs offset n src j) xs → ys ≡ patch at (listBytes (blocks bs offset n src)) xs
+  -- all are still to come
+  pub blocks-start : (xs : List ℕ) → patch (at + 0 * (18 + bs)) (blocksFrom bs offset n src 0) xs ≡ patch at (listBytes (blocks bs offset n src)) xs
   unfolding blocksFrom
-  blocks-all j ys h e =
-      let z : j ≡ 0 = omega arith in
+  blocks-start xs =
       let a : at + 0 * (18 + bs) ≡ at = omega arith in
       let o : offset + 0 * bs ≡ offset = omega arith in
       let m : n - 0 ≡ n = omega arith in
       let k : 0 * bs ≡ 0 = omega arith in
-      e ∙ ap (λ (i : ℕ). patch (at + i * (18 + bs)) (listBytes (blocks bs (offset + i * bs) (n - i) (drop (i * bs) src))) xs) z ∙ rw (a, o, m, k) refl
+      rw (a, o, m, k) refl
+
+  -- none is
+  blocks-none : (j : ℕ) (ys : List ℕ) → n ≤ j → ys ≡ patch (at + j * (18 + bs)) (blocksFrom bs offset n src j) ys
+  unfolding blocksFrom listBytes blocks patch
+  blocks-none j ys h = let z : n - j ≡ 0 = omega arith in rw z refl
+
+  pub blocks-end : (j : ℕ) (xs ys : List ℕ) → n ≤ j → patch (at + j * (18 + bs)) (blocksFrom bs offset n src j) ys ≡ patch at (listBytes (blocks bs offset n src)) xs → ys ≡ patch at (listBytes (blocks bs offset n src)) xs
+  blocks-end j xs ys h e = blocks-none j ys h ∙ e
 
 -- what block j needs
-pub nth-room : (bs offset n at j len room : ℕ) → 0 < j → j ≤ n → offset + n * bs ≤ 2 ^ 64 → 0 < bs → n * bs ≤ len → at + n * (18 + bs) ≤ room
-    → (offset + (j - 1) * bs < 2 ^ 64) × ((j - 1) * bs + bs ≤ len) × (at + ((j - 1) * (18 + bs) + (18 + bs)) ≤ room)
-nth-room bs offset n at j len room p h o b l r =
-    let s : suc (j - 1) ≤ n = omega arith in
+pub nth-room : (bs offset n at j len room : ℕ) → j < n → offset + n * bs ≤ 2 ^ 64 → 0 < bs → n * bs ≤ len → at + n * (18 + bs) ≤ room
+    → (offset + j * bs < 2 ^ 64) × (j * bs + bs ≤ len) × (at + (j * (18 + bs) + (18 + bs)) ≤ room)
+nth-room bs offset n at j len room h o b l r =
+    let s : suc j ≤ n = omega arith in
     let v = mul-le-mul-right bs s in
     let w = mul-le-mul-right (18 + bs) s in
     (omega arith, omega arith, omega arith)

@@ -15,7 +15,9 @@ use Rattle.totals.specs.Totals.{plansNumber}
 use Rattle.run.specs.declared.Run.{Run}
 use Rattle.run.specs.Runs.{orNext, timeRefusal}
 use Rattle.records.specs.Records.{WZ, recordBytes}
-use Rattle.written.specs.Listing.{whackSize, blocksEnd, tailStart, headBlocks, headerBlocks, chunkBlocks, chunkCount}
+use Rattle.places.specs.Answers.{rootChunk}
+use Rattle.rootchunk.specs.Chunk.{chunkBytes}
+use Rattle.written.specs.Listing.{whackSize, blocksEnd, tailStart, logBlock, headWritten, headFinished, headBlocks, headerBlocks, chunkBlocks, chunkCount}
 use Rattle.writes.specs.declared.Counted.{Counted}
 use Rattle.writes.specs.declared.lengths.Sizes.{Sizes}
 
@@ -51,20 +53,40 @@ chunkLength run k =
     (when (eqb k (run .geometry .agcount + 1)) (blocksLength (run .geometry .blocksize) (chunkBlocks (run .geometry)))
     (2 + blocksLength (run .geometry .blocksize) (headerBlocks (run .geometry)) + 2)))
 
--- the number of a chunk, then 27 for a buffer of another length than the chunk's; a chunk that isn't there has none
-unfoldable pub writeNumber : Run → ℕ → ℕ → ℕ
-writeNumber run k len = orNext (placeNumber run k) (require wrongLength (eqb len (chunkLength run k)) 0)
+-- the part that chunk k is split from: the log's first block, the root chunk, or a head
+unfoldable pub partLength : Run → ℕ → ℕ
+partLength run k =
+    when (eqb k 0) (run .geometry .blocksize)
+    (when (eqb k (run .geometry .agcount + 1)) (chunkBlocks (run .geometry) * run .geometry .blocksize)
+    (headBlocks (run .geometry) * run .geometry .blocksize))
+
+-- its bytes; the last is the head of group 0 with the finished superblock
+unfoldable pub partBytes : Run → ℕ → List ℕ
+partBytes run k =
+    choose (eqb k 0) (logBlock (run .geometry) (run .uuid))
+    (choose (leb k (run .geometry .agcount)) (headWritten (run .geometry) (run .uuid) (k - 1))
+    (choose (eqb k (run .geometry .agcount + 1)) (chunkBytes (run .geometry) (rootChunk (run .geometry)) (run .uuid) (run .time) (run .seed))
+    (headFinished (run .geometry) (run .uuid))))
+
+-- the number of a chunk, then 27 for a buffer of another length than the chunk's or less work room than its part; a chunk that isn't there
+-- has none
+unfoldable pub writeNumber : Run → ℕ → ℕ → ℕ → ℕ
+writeNumber run k len room =
+    orNext (placeNumber run k) (require wrongLength (eqb len (chunkLength run k)) (require wrongLength (leb (partLength run k) room) 0))
 
 -- the count where the number is 0, else the refusal
 abbrev pub counted : ℕ → ℕ → Counted
 counted n v = choose (eqb n 0) (record { number = 0; value = v }) (record { number = n; value = 0 })
 
--- `chunk_count` and `chunk_length`
+-- `chunk_count`, `chunk_length` and `part_length`
 unfoldable pub countAnswer : Run → Counted
 countAnswer run = counted (formatNumber run) (chunkCount run)
 
 unfoldable pub lengthAnswer : Run → ℕ → Counted
 lengthAnswer run k = counted (placeNumber run k) (chunkLength run k)
+
+unfoldable pub partAnswer : Run → ℕ → Counted
+partAnswer run k = counted (placeNumber run k) (partLength run k)
 
 -- ---- the code's parts
 

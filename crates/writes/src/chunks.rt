@@ -4,8 +4,10 @@ ghost use Prim.Native.Nat.{_+_, _*_, _<_, _≤_, _^_};
 ghost use lib.ListN.{length};
 ghost use Rattle.endian.specs.Bytes.{patch};
 ghost use Rattle.layout.specs.Places.{byteOf};
+ghost use Rattle.places.specs.Answers.{rootChunk};
 ghost use Rattle.records.specs.Records.{listBytes};
-ghost use Rattle.written.specs.Listing.{headBlocks, headerBlocks, chunkBlocks, opening, headRecords, chunkRecords, closing};
+ghost use Rattle.rootchunk.specs.Chunk.{chunkBytes};
+ghost use Rattle.written.specs.Listing.{headBlocks, headerBlocks, chunkBlocks, logBlock, headWritten, headFinished, opening, headRecords, chunkRecords, closing};
 ghost use Rattle.writes.specs.Writing.{Ready, blocksLength, zeroHeads};
 use crate::blocks::finished_head;
 use crate::blocks::group_head;
@@ -50,7 +52,7 @@ fn put_zeros(bs: usize, device: u64, log: u64, n: u64, buf: &mut [u8])
 // Zeros at the start and the end of the device and over the log, and the log's first block.
 pub(crate) fn put_opening(run: Run, s: Sizes, device: u64, work: &mut [u8], buf: &mut [u8])
     requires { ⌜ (Ready run s) × (length (now work) ≡ run .geometry .blocksize) × (length (now buf) ≡ 3 * 18 + blocksLength (run .geometry .blocksize) 1) ⌝ }
-    ensures { λ _. ⌜ now (buf .exit) ≡ listBytes (opening run device) ⌝ }
+    ensures { λ _. ⌜ (now (buf .exit) ≡ listBytes (opening run device)) × (now (work .exit) ≡ logBlock (run .geometry) (run .uuid)) ⌝ }
 {
     let g = run.geometry;
     log_block(run, s, work);
@@ -62,7 +64,7 @@ pub(crate) fn put_opening(run: Run, s: Sizes, device: u64, work: &mut [u8], buf:
 // The head of group k.
 pub(crate) fn put_group(run: Run, s: Sizes, k: u64, work: &mut [u8], buf: &mut [u8])
     requires { ⌜ (Ready run s) × (k < run .geometry .agcount) × (length (now work) ≡ headBlocks (run .geometry) * run .geometry .blocksize) × (length (now buf) ≡ blocksLength (run .geometry .blocksize) (headBlocks (run .geometry))) ⌝ }
-    ensures { λ _. ⌜ now (buf .exit) ≡ listBytes (headRecords run k) ⌝ }
+    ensures { λ _. ⌜ (now (buf .exit) ≡ listBytes (headRecords run k)) × (now (work .exit) ≡ headWritten (run .geometry) (run .uuid) k) ⌝ }
 {
     let g = run.geometry;
     group_head(run, s, k, work);
@@ -73,7 +75,7 @@ pub(crate) fn put_group(run: Run, s: Sizes, k: u64, work: &mut [u8], buf: &mut [
 // The root chunk.
 pub(crate) fn put_root(run: Run, s: Sizes, work: &mut [u8], buf: &mut [u8])
     requires { ⌜ (Ready run s) × (length (now work) ≡ chunkBlocks (run .geometry) * run .geometry .blocksize) × (length (now buf) ≡ blocksLength (run .geometry .blocksize) (chunkBlocks (run .geometry))) ⌝ }
-    ensures { λ _. ⌜ now (buf .exit) ≡ listBytes (chunkRecords run) ⌝ }
+    ensures { λ _. ⌜ (now (buf .exit) ≡ listBytes (chunkRecords run)) × (now (work .exit) ≡ chunkBytes (run .geometry) (rootChunk (run .geometry)) (run .uuid) (run .time) (run .seed)) ⌝ }
 {
     let g = run.geometry;
     let f = g.features;
@@ -86,7 +88,7 @@ pub(crate) fn put_root(run: Run, s: Sizes, work: &mut [u8], buf: &mut [u8])
 // A flush, the header blocks of group 0 with the finished superblock, and a flush; the last is written first.
 pub(crate) fn put_closing(run: Run, s: Sizes, work: &mut [u8], buf: &mut [u8])
     requires { ⌜ (Ready run s) × (length (now work) ≡ headBlocks (run .geometry) * run .geometry .blocksize) × (length (now buf) ≡ 2 + blocksLength (run .geometry .blocksize) (headerBlocks (run .geometry)) + 2) ⌝ }
-    ensures { λ _. ⌜ now (buf .exit) ≡ listBytes (closing run) ⌝ }
+    ensures { λ _. ⌜ (now (buf .exit) ≡ listBytes (closing run)) × (now (work .exit) ≡ headFinished (run .geometry) (run .uuid)) ⌝ }
 {
     finished_head(run, s, work);
     let end = 2 + blocks_length(s.block, s.header);

@@ -1,7 +1,7 @@
 // How many blocks the parts of a run have, and how many bytes a chunk.
 ghost use mathlib.Core.Path.{_≡_};
 ghost use Prim.Native.Nat.{_≤_, _+_, _*_};
-ghost use Rattle.writes.specs.Writing.{formatNumber, blocksLength, chunkLength, Ready};
+ghost use Rattle.writes.specs.Writing.{formatNumber, blocksLength, chunkLength, partLength, Ready};
 use counts::inodes::chunk_of;
 use geometry::log::header_of;
 use geometry::log::prealloc_of;
@@ -61,4 +61,19 @@ pub(crate) fn length_of(run: Run, s: Sizes, k: u64) -> usize
         return blocks_length(s.block, s.chunk);
     }
     2 + blocks_length(s.block, s.header) + 2
+}
+
+// Bytes of the part that chunk k is split from.
+pub(crate) fn part_of(run: Run, s: Sizes, k: u64) -> usize
+    requires { ⌜ Ready run s ⌝ }
+    ensures { λ r. ⌜ r ≡ partLength run k ⌝ }
+{
+    let g = run.geometry;
+    if k == 0 {
+        return s.block;
+    }
+    if k - 1 == g.agcount {
+        return s.chunk * s.block;
+    }
+    s.head * s.block
 }

@@ -3,10 +3,13 @@
 ghost use mathlib.Core.Path.{_≡_};
 ghost use Prim.Native.Nat.{_+_, _*_, _<_, _≤_};
 ghost use lib.ListN.{length};
+ghost use Rattle.endian.specs.Bytes.{patch};
 ghost use Rattle.structs.specs.Written.{Written};
 ghost use Rattle.records.specs.Records.{listBytes};
-ghost use Rattle.written.specs.Listing.{headBlocks, headerBlocks, chunkBlocks, opening, headRecords, chunkRecords, closing, listChunk};
-ghost use Rattle.writes.specs.Writing.{formatNumber, placeNumber, writeNumber, countAnswer, lengthAnswer, Ready, blocksLength};
+ghost use Rattle.places.specs.Answers.{rootChunk};
+ghost use Rattle.rootchunk.specs.Chunk.{chunkBytes};
+ghost use Rattle.written.specs.Listing.{headBlocks, headerBlocks, chunkBlocks, logBlock, headWritten, headFinished, opening, headRecords, chunkRecords, closing, listChunk};
+ghost use Rattle.writes.specs.Writing.{formatNumber, placeNumber, writeNumber, countAnswer, lengthAnswer, partAnswer, partBytes, Ready, blocksLength};
 
 pub mod lengths; // lengths.rt: blocks of a head, of its headers and of the root chunk
 pub mod split; // split.rt: one record, and a write that is split into its blocks
@@ -19,6 +22,7 @@ use crate::chunks::put_opening;
 use crate::chunks::put_root;
 use crate::lengths::Sizes;
 use crate::lengths::length_of;
+use crate::lengths::part_of;
 use crate::lengths::sizes_of;
 use arith::numbers::minus;
 use inode::time::encode_time;
@@ -68,54 +72,50 @@ fn place_number(run: Run, k: u64) -> u32
 }
 
 // 31, 25, 26, 29, 27, or 0.
-fn write_number(run: Run, k: u64, len: usize) -> u32
-    ensures { λ r. ⌜ r ≡ writeNumber run k len ⌝ }
+fn write_number(run: Run, k: u64, len: usize, room: usize) -> u32
+    ensures { λ r. ⌜ r ≡ writeNumber run k len room ⌝ }
 {
     let n = place_number(run, k);
     if n != 0 {
         return n;
     }
     let s = sizes_of(run);
-    if len == length_of(run, s, k) {
+    if len != length_of(run, s, k) {
+        return endian::WRONG_LENGTH;
+    }
+    if part_of(run, s, k) <= room {
         return 0;
     }
     endian::WRONG_LENGTH
 }
 
-// Room for the bytes of a part, before they are split into records.
-fn blank() -> [u8; 163840]
-    ensures { λ r. ⌜ 163840 ≡ length r ⌝ }
-{
-    [0; 163840]
-}
-
 fn fill_opening(run: Run, s: Sizes, device: u64, work: &mut [u8], buf: &mut [u8])
-    requires { ⌜ (Ready run s) × (163840 ≤ length (now work)) × (length (now buf) ≡ 3 * 18 + blocksLength (run .geometry .blocksize) 1) ⌝ }
-    ensures { λ _. ⌜ now (buf .exit) ≡ listBytes (opening run device) ⌝ }
+    requires { ⌜ (Ready run s) × (s .block ≤ length (now work)) × (length (now buf) ≡ 3 * 18 + blocksLength (run .geometry .blocksize) 1) ⌝ }
+    ensures { λ _. ⌜ (now (buf .exit) ≡ listBytes (opening run device)) × (now (work .exit) ≡ patch 0 (logBlock (run .geometry) (run .uuid)) (now (work .entry))) ⌝ }
 {
     let n = s.block;
     put_opening(run, s, device, &mut work[0..0 + n], buf);
 }
 
 fn fill_group(run: Run, s: Sizes, k: u64, work: &mut [u8], buf: &mut [u8])
-    requires { ⌜ (Ready run s) × (k < run .geometry .agcount) × (163840 ≤ length (now work)) × (length (now buf) ≡ blocksLength (run .geometry .blocksize) (headBlocks (run .geometry))) ⌝ }
-    ensures { λ _. ⌜ now (buf .exit) ≡ listBytes (headRecords run k) ⌝ }
+    requires { ⌜ (Ready run s) × (k < run .geometry .agcount) × (s .head * s .block ≤ length (now work)) × (length (now buf) ≡ blocksLength (run .geometry .blocksize) (headBlocks (run .geometry))) ⌝ }
+    ensures { λ _. ⌜ (now (buf .exit) ≡ listBytes (headRecords run k)) × (now (work .exit) ≡ patch 0 (headWritten (run .geometry) (run .uuid) k) (now (work .entry))) ⌝ }
 {
     let n = s.head * s.block;
     put_group(run, s, k, &mut work[0..0 + n], buf);
 }
 
 fn fill_root(run: Run, s: Sizes, work: &mut [u8], buf: &mut [u8])
-    requires { ⌜ (Ready run s) × (163840 ≤ length (now work)) × (length (now buf) ≡ blocksLength (run .geometry .blocksize) (chunkBlocks (run .geometry))) ⌝ }
-    ensures { λ _. ⌜ now (buf .exit) ≡ listBytes (chunkRecords run) ⌝ }
+    requires { ⌜ (Ready run s) × (s .chunk * s .block ≤ length (now work)) × (length (now buf) ≡ blocksLength (run .geometry .blocksize) (chunkBlocks (run .geometry))) ⌝ }
+    ensures { λ _. ⌜ (now (buf .exit) ≡ listBytes (chunkRecords run)) × (now (work .exit) ≡ patch 0 (chunkBytes (run .geometry) (rootChunk (run .geometry)) (run .uuid) (run .time) (run .seed)) (now (work .entry))) ⌝ }
 {
     let n = s.chunk * s.block;
     put_root(run, s, &mut work[0..0 + n], buf);
 }
 
 fn fill_closing(run: Run, s: Sizes, work: &mut [u8], buf: &mut [u8])
-    requires { ⌜ (Ready run s) × (163840 ≤ length (now work)) × (length (now buf) ≡ 2 + blocksLength (run .geometry .blocksize) (headerBlocks (run .geometry)) + 2) ⌝ }
-    ensures { λ _. ⌜ now (buf .exit) ≡ listBytes (closing run) ⌝ }
+    requires { ⌜ (Ready run s) × (s .head * s .block ≤ length (now work)) × (length (now buf) ≡ 2 + blocksLength (run .geometry .blocksize) (headerBlocks (run .geometry)) + 2) ⌝ }
+    ensures { λ _. ⌜ (now (buf .exit) ≡ listBytes (closing run)) × (now (work .exit) ≡ patch 0 (headFinished (run .geometry) (run .uuid)) (now (work .entry))) ⌝ }
 {
     let n = s.head * s.block;
     put_closing(run, s, &mut work[0..0 + n], buf);
@@ -123,8 +123,8 @@ fn fill_closing(run: Run, s: Sizes, work: &mut [u8], buf: &mut [u8])
 
 // Chunk k into a buffer of its length.
 fn fill(run: Run, device: u64, k: u64, work: &mut [u8], buf: &mut [u8])
-    requires { ⌜ (writeNumber run k (length (now buf)) ≡ 0) × (163840 ≤ length (now work)) ⌝ }
-    ensures { λ _. ⌜ now (buf .exit) ≡ listBytes (listChunk run device k) ⌝ }
+    requires { ⌜ writeNumber run k (length (now buf)) (length (now work)) ≡ 0 ⌝ }
+    ensures { λ _. ⌜ (now (buf .exit) ≡ listBytes (listChunk run device k)) × (now (work .exit) ≡ patch 0 (partBytes run k) (now (work .entry))) ⌝ }
 {
     let g = run.geometry;
     let s = sizes_of(run);
@@ -175,16 +175,28 @@ pub fn chunk_length(run: Run, k: u64) -> Counted
     Counted { number: 0, value }
 }
 
-// Chunk k of the list of a run on a device of so many bytes: all of its bytes. 31, 25, 26, 27 for a buffer of another length, 29 where
-// there is no chunk k.
-pub fn write_chunk(run: Run, device: u64, k: u64, buf: &mut [u8]) -> u32
-    ensures { λ r. ⌜ Written (writeNumber run k (length (now (buf .entry)))) (listBytes (listChunk run device k)) (now (buf .entry)) r (now (buf .exit)) ⌝ }
+// How many bytes of work room chunk k needs: 31, 25, 26, 29. No chunk needs more than LARGEST_HEAD.
+pub fn part_length(run: Run, k: u64) -> Counted
+    ensures { λ r. ⌜ r ≡ partAnswer run k ⌝ }
 {
-    let n = write_number(run, k, buf.len());
+    let n = place_number(run, k);
+    if n != 0 {
+        return refused(n);
+    }
+    let s = sizes_of(run);
+    let value = part_of(run, s, k) as u64;
+    Counted { number: 0, value }
+}
+
+// Chunk k of the list of a run on a device of so many bytes: all of its bytes. The part that it is split from is made in the first bytes
+// of `work`. 31, 25, 26, 29 where there is no chunk k, 27 for a buffer of another length or too little work room.
+pub fn write_chunk(run: Run, device: u64, k: u64, work: &mut [u8], buf: &mut [u8]) -> u32
+    ensures { λ r. ⌜ (Written (writeNumber run k (length (now (buf .entry))) (length (now (work .entry)))) (listBytes (listChunk run device k)) (now (buf .entry)) r (now (buf .exit))) × (Written (writeNumber run k (length (now (buf .entry))) (length (now (work .entry)))) (patch 0 (partBytes run k) (now (work .entry))) (now (work .entry)) r (now (work .exit))) ⌝ }
+{
+    let n = write_number(run, k, buf.len(), work.len());
     if n != 0 {
         return n;
     }
-    let mut work = blank();
-    fill(run, device, k, &mut work, buf);
+    fill(run, device, k, work, buf);
     0
 }

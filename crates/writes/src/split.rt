@@ -59,14 +59,14 @@ fn put_nth(bs: usize, offset: u64, src: &[u8], j: usize, at: usize, buf: &mut [u
     );
 }
 
-// The n blocks of a write at `offset`, from `at` on; the last is written first.
+// The n blocks of a write at `offset`, from `at` on.
 pub(crate) fn put_blocks(bs: usize, offset: u64, n: usize, src: &[u8], at: usize, buf: &mut [u8])
     requires { ⌜ (offset + n * bs ≤ 2 ^ 64) × (0 < bs) × (n * bs ≤ length (now src)) × (at + n * (18 + bs) ≤ length (now buf)) ⌝ }
     ensures { λ _. ⌜ now (buf .exit) ≡ patch at (listBytes (blocks·of bs offset n (now (src .entry)))) (now (buf .entry)) ⌝ }
 {
-    let mut j = n;
-    while 0 < j {
-        j -= 1;
+    let mut j = 0;
+    while j < n {
         put_nth(bs, offset, src, j, at, buf);
+        j += 1;
     }
 }

@@ -2,6 +2,9 @@
 -- Assumes nothing.
 use Rattle.writes.proofs.Accepted.{filling}
 use Rattle.writes.proofs.Which.{one-less, opening-length, opening-chunk, group-length, group-chunk, root-length, root-chunk, closing-length, closing-chunk}
+use Rattle.writes.proofs.Parts.{opening-roomy, opening-part, group-roomy, group-part, root-roomy, root-part, closing-roomy, closing-part}
+use Rattle.endian.specs.Bytes.{patch}
+use Prim.Native.Nat.{ℕ}
 use Rattle.records.specs.Records.{Record, listBytes}
 use mathlib.Core.List.{List}
 use mathlib.Core.Path.{_≡_, sym, ap, _∙_}
@@ -10,31 +13,31 @@ use Rattle.writes.proofs.fill.Statement.{statement}
 use Rattle.writes.proofs.fill.Tie as tie
 
 sizes-of-requires : tie.Need-sizes-of-requires
-sizes-of-requires c κs = let s = c .before .before .before in let f = filling (s .args .run) (s .args .k) _ (s .pre .0) in f .format
+sizes-of-requires c κs = let s = c .before .before .before in let f = filling (s .args .run) (s .args .k) _ _ (s .pre) in f .format
 
 fill-opening-requires : tie.Need-fill-opening-requires
-fill-opening-requires c κs = let s = c .before .before .before .before .before .before .before in let f = filling (s .args .run) (s .args .k) _ (s .pre .0) in (c .before .before .before .sizes-of .ensures, s .pre .1, f .long ∙ opening-length (s .args .run) 0 (s .args .k) (c .before .before .if1 .taken))
+fill-opening-requires c κs = let s = c .before .before .before .before .before .before .before in let f = filling (s .args .run) (s .args .k) _ _ (s .pre) in (c .before .before .before .sizes-of .ensures, opening-roomy (s .args .run) (s .args .k) _ (c .before .before .before .sizes-of .ensures .sized) _ (f .roomy) (c .before .before .if1 .taken), f .long ∙ opening-length (s .args .run) 0 (s .args .k) (c .before .before .if1 .taken))
 
 returns : tie.Need-returns
-returns c = let s = c .before .before .before .before .before .before .before .before .before .before .before .before in c .before .before .before .before .fill-opening .ensures ∙ ap (λ (r : List Record). listBytes r) (sym (opening-chunk (s .args .run) (s .args .device) (s .args .k) (c .before .before .before .before .before .before .before .if1 .taken)))
+returns c = let s = c .before .before .before .before .before .before .before .before .before .before .before .before in (c .before .before .before .before .fill-opening .ensures .0 ∙ ap (λ (r : List Record). listBytes r) (sym (opening-chunk (s .args .run) (s .args .device) (s .args .k) (c .before .before .before .before .before .before .before .if1 .taken))), c .before .before .before .before .fill-opening .ensures .1 ∙ ap (λ (l : List ℕ). patch 0 l (s .args .work .now)) (sym (opening-part (s .args .run) (s .args .k) (c .before .before .before .before .before .before .before .if1 .taken))))
 
 fill-group-requires : tie.Need-fill-group-requires
-fill-group-requires c κs = let s = c .before .before .before .before .before .before .before .before .before in let f = filling (s .args .run) (s .args .k) _ (s .pre .0) in let n = c .before .before .before .before .if1 .left in let h = c .before .before .if2 .taken in (c .before .before .before .before .before .sizes-of .ensures, one-less (s .args .k) (s .args .run .geometry .agcount) n h, s .pre .1, f .long ∙ group-length (s .args .run) 0 (s .args .k) n h)
+fill-group-requires c κs = let s = c .before .before .before .before .before .before .before .before .before in let f = filling (s .args .run) (s .args .k) _ _ (s .pre) in let n = c .before .before .before .before .if1 .left in let h = c .before .before .if2 .taken in (c .before .before .before .before .before .sizes-of .ensures, one-less (s .args .k) (s .args .run .geometry .agcount) n h, group-roomy (s .args .run) (s .args .k) _ (c .before .before .before .before .before .sizes-of .ensures .sized) _ (f .roomy) n h, f .long ∙ group-length (s .args .run) 0 (s .args .k) n h)
 
 returns-2 : tie.Need-returns-2
-returns-2 c = let s = c .before .before .before .before .before .before .before .before .before .before .before .before .before .before in c .before .before .before .before .fill-group .ensures ∙ ap (λ (r : List Record). listBytes r) (sym (group-chunk (s .args .run) (s .args .device) (s .args .k) (c .before .before .before .before .before .before .before .before .before .if1 .left) (c .before .before .before .before .before .before .before .if2 .taken)))
+returns-2 c = let s = c .before .before .before .before .before .before .before .before .before .before .before .before .before .before in (c .before .before .before .before .fill-group .ensures .0 ∙ ap (λ (r : List Record). listBytes r) (sym (group-chunk (s .args .run) (s .args .device) (s .args .k) (c .before .before .before .before .before .before .before .before .before .if1 .left) (c .before .before .before .before .before .before .before .if2 .taken))), c .before .before .before .before .fill-group .ensures .1 ∙ ap (λ (l : List ℕ). patch 0 l (s .args .work .now)) (sym (group-part (s .args .run) (s .args .k) (c .before .before .before .before .before .before .before .before .before .if1 .left) (c .before .before .before .before .before .before .before .if2 .taken))))
 
 fill-root-requires : tie.Need-fill-root-requires
-fill-root-requires c κs = let s = c .before .before .before .before .before .before .before .before .before .before .before in let f = filling (s .args .run) (s .args .k) _ (s .pre .0) in (c .before .before .before .before .before .before .before .sizes-of .ensures, s .pre .1, f .long ∙ root-length (s .args .run) 0 (s .args .k) (c .before .before .before .before .if2 .left) (c .before .before .if3 .taken))
+fill-root-requires c κs = let s = c .before .before .before .before .before .before .before .before .before .before .before in let f = filling (s .args .run) (s .args .k) _ _ (s .pre) in (c .before .before .before .before .before .before .before .sizes-of .ensures, root-roomy (s .args .run) (s .args .k) _ (c .before .before .before .before .before .before .before .sizes-of .ensures .sized) _ (f .roomy) (c .before .before .before .before .if2 .left) (c .before .before .if3 .taken), f .long ∙ root-length (s .args .run) 0 (s .args .k) (c .before .before .before .before .if2 .left) (c .before .before .if3 .taken))
 
 returns-3 : tie.Need-returns-3
-returns-3 c = let s = c .before .before .before .before .before .before .before .before .before .before .before .before .before .before .before .before in c .before .before .before .before .fill-root .ensures ∙ ap (λ (r : List Record). listBytes r) (sym (root-chunk (s .args .run) (s .args .device) (s .args .k) (c .before .before .before .before .before .before .before .before .before .if2 .left) (c .before .before .before .before .before .before .before .if3 .taken)))
+returns-3 c = let s = c .before .before .before .before .before .before .before .before .before .before .before .before .before .before .before .before in (c .before .before .before .before .fill-root .ensures .0 ∙ ap (λ (r : List Record). listBytes r) (sym (root-chunk (s .args .run) (s .args .device) (s .args .k) (c .before .before .before .before .before .before .before .before .before .if2 .left) (c .before .before .before .before .before .before .before .if3 .taken))), c .before .before .before .before .fill-root .ensures .1 ∙ ap (λ (l : List ℕ). patch 0 l (s .args .work .now)) (sym (root-part (s .args .run) (s .args .k) (c .before .before .before .before .before .before .before .before .before .if2 .left) (c .before .before .before .before .before .before .before .if3 .taken))))
 
 fill-closing-requires : tie.Need-fill-closing-requires
-fill-closing-requires c κs = let s = c .before .before .before .before .before .before .before .before .before .before .before in let f = filling (s .args .run) (s .args .k) _ (s .pre .0) in (c .before .before .before .before .before .before .before .sizes-of .ensures, s .pre .1, f .long ∙ closing-length (s .args .run) 0 (s .args .k) (c .before .before .before .before .if2 .left) (c .before .before .if3 .left))
+fill-closing-requires c κs = let s = c .before .before .before .before .before .before .before .before .before .before .before in let f = filling (s .args .run) (s .args .k) _ _ (s .pre) in (c .before .before .before .before .before .before .before .sizes-of .ensures, closing-roomy (s .args .run) (s .args .k) _ (c .before .before .before .before .before .before .before .sizes-of .ensures .sized) _ (f .roomy) (c .before .before .before .before .if2 .left) (c .before .before .if3 .left), f .long ∙ closing-length (s .args .run) 0 (s .args .k) (c .before .before .before .before .if2 .left) (c .before .before .if3 .left))
 
 returns-4 : tie.Need-returns-4
-returns-4 c = let s = c .before .before .before .before .before .before .before .before .before .before .before .before .before .before .before .before in c .before .before .before .before .fill-closing .ensures ∙ ap (λ (r : List Record). listBytes r) (sym (closing-chunk (s .args .run) (s .args .device) (s .args .k) (c .before .before .before .before .before .before .before .before .before .if2 .left) (c .before .before .before .before .before .before .before .if3 .left)))
+returns-4 c = let s = c .before .before .before .before .before .before .before .before .before .before .before .before .before .before .before .before in (c .before .before .before .before .fill-closing .ensures .0 ∙ ap (λ (r : List Record). listBytes r) (sym (closing-chunk (s .args .run) (s .args .device) (s .args .k) (c .before .before .before .before .before .before .before .before .before .if2 .left) (c .before .before .before .before .before .before .before .if3 .left))), c .before .before .before .before .fill-closing .ensures .1 ∙ ap (λ (l : List ℕ). patch 0 l (s .args .work .now)) (sym (closing-part (s .args .run) (s .args .k) (c .before .before .before .before .before .before .before .before .before .if2 .left) (c .before .before .before .before .before .before .before .if3 .left))))
 
 pub fill-spec : {M : Type 1} → statement M
 fill-spec =

@@ -1,8 +1,9 @@
 -- `writes::write_number` meets its contract.
 -- Assumes nothing.
-use Rattle.writes.proofs.Accepted.{or-first, place-zero, write-fits, write-other}
+use Rattle.writes.proofs.Accepted.{or-first, place-zero, write-fits, write-other, write-narrow}
 use Rattle.writes.specs.Writing.{writeNumber}
 use mathlib.Core.Path.{sym, _∙_}
+use native.Mathlib.Omega.{arith}
 use borrow.Author.Needs.{needs}
 use Rattle.writes.proofs.write_number.Statement.{statement}
 use Rattle.writes.proofs.write_number.Tie as tie
@@ -19,15 +20,25 @@ sizes-of-requires c κs =
 returns-2 : tie.Need-returns-2
 returns-2 c =
     let s = c .before .before .before .before .before in
-    write-fits (s .args .run) (s .args .k) _ (sym (c .before .before .before .before .place-number .ensures) ∙ c .before .before .before .if1 .left) (c .if2 .taken ∙ c .before .length-of .ensures)
+    write-other (s .args .run) (s .args .k) _ _ (sym (c .before .before .before .before .place-number .ensures) ∙ c .before .before .before .if1 .left) (λ e. c .if2 .taken (e ∙ sym (c .before .length-of .ensures)))
 
 returns-3 : tie.Need-returns-3
 returns-3 c =
-    let s = c .before .before .before .before .before in
-    write-other (s .args .run) (s .args .k) _ (sym (c .before .before .before .before .place-number .ensures) ∙ c .before .before .before .if1 .left) (λ e. c .if2 .left (e ∙ sym (c .before .length-of .ensures)))
+    let s = c .before .before .before .before .before .before .before in
+    let e = c .before .part-of .ensures in
+    let t = c .if3 .taken in
+    write-fits (s .args .run) (s .args .k) _ _ (sym (c .before .before .before .before .before .before .place-number .ensures) ∙ c .before .before .before .before .before .if1 .left) (c .before .before .if2 .left ∙ c .before .before .before .length-of .ensures) (omega arith)
+
+returns-4 : tie.Need-returns-4
+returns-4 c =
+    let s = c .before .before .before .before .before .before .before in
+    let e = c .before .part-of .ensures in
+    let t = c .if3 .left in
+    write-narrow (s .args .run) (s .args .k) _ _ (sym (c .before .before .before .before .before .before .place-number .ensures) ∙ c .before .before .before .before .before .if1 .left) (c .before .before .if2 .left ∙ c .before .before .before .length-of .ensures) (omega arith)
 
 pub write-number-spec : {M : Type 1} → statement M
 write-number-spec =
     tie.close
     (tie.spec
-    (λ c κs. search needs) returns sizes-of-requires (λ c κs. c .sizes-of .ensures) returns-2 returns-3)
+    (λ c κs. search needs) returns sizes-of-requires (λ c κs. c .sizes-of .ensures) returns-2
+    (λ c κs. c .before .before .sizes-of .ensures) returns-3 returns-4)

@@ -15,7 +15,7 @@ put-blocks-requires : tie.Need-put-blocks-requires
 put-blocks-requires c κs = let s = c .before .before .before .before .before .before .before .before .before .before in let g = s .args .run .geometry in let z = s .pre .0 .sized in let m = z .head-most in blocks-room g (bounded g (s .pre .0 .label) (s .pre .0 .plans)) _ _ _ _ 0 _ 0 _ (z .block-is) (c .before .before .byte-of .ensures) (s .pre .1) (omega arith) (rw (z .head-is) (omega (arith, s .pre .2, c .before .before .before .before .before .group-head .kept .1 .1 .1 .0))) (rw (z .head-is) (omega (arith, s .pre .3)))
 
 returns : tie.Need-returns
-returns c = let s = c .before .before .before .before .before .before .before .before .before .before .before .before .before in let z = s .pre .0 .sized in group-done (s .args .run) _ _ _ _ _ _ _ (z .block-is) (z .head-is) (c .before .before .before .before .before .byte-of .ensures) (c .before .before .before .before .before .before .before .before .group-head .ensures) (c .before .before .before .before .before .before .before .before .group-head .kept .1 .1 .1 .0 ∙ s .pre .2) (s .pre .3) (c .before .before .put-blocks .ensures)
+returns c = let s = c .before .before .before .before .before .before .before .before .before .before .before .before .before in let z = s .pre .0 .sized in (group-done (s .args .run) _ _ _ _ _ _ _ (z .block-is) (z .head-is) (c .before .before .before .before .before .byte-of .ensures) (c .before .before .before .before .before .before .before .before .group-head .ensures) (c .before .before .before .before .before .before .before .before .group-head .kept .1 .1 .1 .0 ∙ s .pre .2) (s .pre .3) (c .before .before .put-blocks .ensures), c .before .before .before .before .before .before .before .before .group-head .ensures)
 
 pub put-group-spec : {M : Type 1} → statement M
 put-group-spec =

@@ -24,7 +24,7 @@ unfolding blocksLength
 put-zeros-requires c κs = omega (arith, c .before .before .before .before .before .before .before .before .before .before .before .before .before .before .before .pre .2, c .before .before .before .before .put-block .kept .1 .1 .1 .0)
 
 returns : tie.Need-returns
-returns c = let s = c .before .before .before .before .before .before .before .before .before .before .before .before .before .before .before .before .before .before in opening-done (s .args .run) _ _ _ _ _ _ _ _ (s .pre .0 .sized .block-is) (c .before .before .before .before .before .before .before .before .before .before .byte-of .ensures) refl (c .before .before .before .before .before .before .before .before .before .before .before .before .before .log-block .ensures) (c .before .before .before .before .before .before .before .before .before .before .before .before .before .log-block .kept .1 .1 .0 ∙ s .pre .1) (s .pre .2) (c .before .before .before .before .before .before .before .put-block .ensures) (c .before .before .put-zeros .ensures)
+returns c = let s = c .before .before .before .before .before .before .before .before .before .before .before .before .before .before .before .before .before .before in (opening-done (s .args .run) _ _ _ _ _ _ _ _ (s .pre .0 .sized .block-is) (c .before .before .before .before .before .before .before .before .before .before .byte-of .ensures) refl (c .before .before .before .before .before .before .before .before .before .before .before .before .before .log-block .ensures) (c .before .before .before .before .before .before .before .before .before .before .before .before .before .log-block .kept .1 .1 .0 ∙ s .pre .1) (s .pre .2) (c .before .before .before .before .before .before .before .put-block .ensures) (c .before .before .put-zeros .ensures), c .before .before .before .before .before .before .before .before .before .before .before .before .before .log-block .ensures)
 
 pub put-opening-spec : {M : Type 1} → statement M
 put-opening-spec =

@@ -19,7 +19,7 @@ put-blocks-requires c κs = let s = c .before .before .before .before .before .b
 
 returns : tie.Need-returns
 unfolding rootChunk
-returns c = let s = c .before .before .before .before .before .before .before .before .before .before .before .before .before .before .before .before in let z = s .pre .0 .sized in root-done (s .args .run) _ _ _ _ _ _ _ (z .block-is) (z .chunk-is) (c .before .before .before .before .before .before .root-chunk-of .ensures) (c .before .before .before .before .before .byte-of .ensures) (c .before .before .before .before .before .before .before .before .before .before .root-blocks .ensures) (c .before .before .before .before .before .before .before .before .before .before .root-blocks .kept .1 .1 .0 ∙ s .pre .1) (s .pre .2) (c .before .before .put-blocks .ensures)
+returns c = let s = c .before .before .before .before .before .before .before .before .before .before .before .before .before .before .before .before in let z = s .pre .0 .sized in (root-done (s .args .run) _ _ _ _ _ _ _ (z .block-is) (z .chunk-is) (c .before .before .before .before .before .before .root-chunk-of .ensures) (c .before .before .before .before .before .byte-of .ensures) (c .before .before .before .before .before .before .before .before .before .before .root-blocks .ensures) (c .before .before .before .before .before .before .before .before .before .before .root-blocks .kept .1 .1 .0 ∙ s .pre .1) (s .pre .2) (c .before .before .put-blocks .ensures), c .before .before .before .before .before .before .before .before .before .before .root-blocks .ensures)
 
 pub put-root-spec : {M : Type 1} → statement M
 put-root-spec =
