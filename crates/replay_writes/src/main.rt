@@ -34,9 +34,17 @@ fn chunk_buffer() -> [u8; 164020]
     [0; 164020]
 }
 
+// Room for the longest part: a head of 10 blocks of 16,384 bytes.
+fn work_room() -> [u8; 163840]
+    ensures { λ r. ⌜ 163840 ≡ length r ⌝ }
+{
+    [0; 163840]
+}
+
 // Chunk k in a buffer of its length, added to what was written.
 fn add_chunk(run: Run, device: u64, k: u64, whole: bool, s: Sum, part: &mut [u8]) -> Sum {
-    let number = writes::write_chunk(run, device, k, part);
+    let mut work = work_room();
+    let number = writes::write_chunk(run, device, k, &mut work, part);
     if whole {
         io::write_all(STDOUT_FILENO, part);
     }
