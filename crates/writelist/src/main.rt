@@ -4,6 +4,7 @@
 ghost use mathlib.Core.Path.{_≡_};
 ghost use lib.ListN.{length};
 use arith::numbers::minus;
+use libc::STDERR_FILENO;
 use libc::STDIN_FILENO;
 use libc::STDOUT_FILENO;
 use run::Run;
@@ -151,8 +152,21 @@ fn answer_first(input: &[u8], n: usize) -> bool {
     false
 }
 
+// What to hand in, on standard error.
+fn usage() {
+    io::write_all(STDERR_FILENO, b"usage: writelist < INPUT > LIST\n");
+    io::write_all(
+        STDERR_FILENO,
+        b"Give each disk its UUID by an ID record: without one it is zeros, and Linux doesn't mount such a disk.\n",
+    );
+}
+
 // No well-formed input has more than 415 bytes, so one more is enough to read.
 fn main() {
+    if os::arg_count() != 1 {
+        usage();
+        return;
+    }
     let mut input = [0u8; 416];
     let i = read_input(&mut input);
     if i.failed {
