@@ -22,6 +22,7 @@ use Rattle.places.specs.declared.ToGroupBlock.{ToGroupBlock}
 use Rattle.places.specs.declared.ToGroupBlock.the-variants.{At}
 use Rattle.places.specs.Answers.{placeRefusal, toGroupBlock}
 use Rattle.places.proofs.Refused.{a-place}
+use Rattle.conversions.specs.There.{There}
 
 -- ---- numbers in two digits, the lower below m
 
@@ -42,26 +43,22 @@ same-factor x y m h e = eq-of-mul-eq-mul-right m h x y e
 -- ---- places of the disk
 
 module _ (g : Geometry) (label : length (g .label) ≡ 12) where
-  -- block b of group k is on the disk
-  abbrev pub There : ℕ → ℕ → Type 0
-  There k b = placeRefusal g k b ≡ 0
-
-  bounds-at : (k b : ℕ) → There k b → Bounds g
+  bounds-at : (k b : ℕ) → There g k b → Bounds g
   bounds-at k b p = answer-bounds g label (a-place g k b p .0)
 
-  fits-at : (k b : ℕ) → There k b → Fits g k b
+  fits-at : (k b : ℕ) → There g k b → Fits g k b
   fits-at k b p = let q = a-place g k b p in fitting g (bounds-at k b p) k b (q .1) (q .2)
 
-  below-power : (k b : ℕ) → There k b → b < 2 ^ g .agblklog
+  below-power : (k b : ℕ) → There g k b → b < 2 ^ g .agblklog
   below-power k b p = let f = fits-at k b p .below-size in let e = bounds-at k b p .groups .log-enough in omega arith
 
   -- file system block and back is the identity
-  pub fsb-back : (k b : ℕ) → There k b → toGroupBlock g (record { 0 = fsbOf (g .agblklog) k b }) ≡ At (record { 0 = k; 1 = b })
+  pub fsb-back : (k b : ℕ) → There g k b → toGroupBlock g (record { 0 = fsbOf (g .agblklog) k b }) ≡ At (record { 0 = k; 1 = b })
   unfolding toGroupBlock fsbOf
   fsb-back k b p =
       rw (upper (2 ^ g .agblklog) k b (below-power k b p), lower (2 ^ g .agblklog) k b (below-power k b p), eq-eqb (placeRefusal g k b) 0 p)
 
-  module _ (k b k' b' : ℕ) (p : There k b) (p' : There k' b') where
+  module _ (k b k' b' : ℕ) (p : There g k b) (p' : There g k' b') where
     -- two places with one file system block are the same
     pub same-fsb : fsbOf (g .agblklog) k b ≡ fsbOf (g .agblklog) k' b' → (k ≡ k') × (b ≡ b')
     unfolding fsbOf

@@ -19,6 +19,7 @@ use Rattle.run.specs.declared.Run.{Run}
 use Rattle.written.specs.Listing.{blocksEnd, tailStart, logOffset, logBlock, headBlocks, headerBlocks, chunkBlocks, headWritten, headFinished, opening, headRecords, chunkRecords, closing, listChunk}
 use Rattle.written.specs.Sound.{Sound}
 use Rattle.writes.specs.Writing.{blocksLength, chunkLength}
+use Rattle.writelaws.specs.Long.{Long}
 use Rattle.writes.proofs.Splitting.{zeros-length, block-length, list-append, blocks-length}
 
 module _ (run : Run) (device : ℕ) (s : Sound run device) where
@@ -76,6 +77,6 @@ module _ (run : Run) (device : ℕ) (s : Sound run device) where
   long-at k false false false e f = closing-long
 
   -- EACH CHUNK HAS ITS LENGTH
-  pub chunk-long : (k : ℕ) → length (listBytes (listChunk run device k)) ≡ chunkLength run k
+  pub chunk-long : (k : ℕ) → Long run device k
   unfolding listChunk chunkLength
   chunk-long k = long-at k (eqb k 0) (leb k groups) (eqb k (groups + 1)) refl refl
