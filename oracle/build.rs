@@ -4,8 +4,8 @@
 use std::env;
 use std::path::Path;
 
-const FEATURES: [&str; 11] =
-    ["crc", "geometry", "places", "helpers", "records", "sb", "structs", "recs", "chunk", "plans", "slices"];
+const FEATURES: [&str; 12] =
+    ["crc", "geometry", "places", "helpers", "records", "sb", "structs", "recs", "chunk", "plans", "slices", "reader"];
 
 fn main() {
     println!("cargo:rerun-if-env-changed=ZECHURQI_STATICLIB");

@@ -17,6 +17,7 @@ use modes::Mode;
 use random::Random;
 
 mod compare;
+mod disk;
 mod frames;
 mod modes;
 mod numbers;

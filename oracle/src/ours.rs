@@ -842,3 +842,28 @@ pub mod plans {
         Ok((plan, number(8), number(9)))
     }
 }
+
+/// Crate `ffi_reader`: heads and the log's first block. Group 0's head stands in place of a geometry.
+#[cfg(feature = "reader")]
+pub mod reader {
+    extern "C" {
+        fn zq_read_group0(which: u64, head: *const u8, len: usize) -> u64;
+        fn zq_read_group(head0: *const u8, len0: usize, agno: u64, head: *const u8, len: usize) -> u32;
+        fn zq_read_log(head0: *const u8, len0: usize, block: *const u8, len: usize) -> u32;
+    }
+
+    /// A number of what group 0's head gives: 0 is the number of its refusal.
+    pub fn group0(which: u64, head: &[u8]) -> u64 {
+        unsafe { zq_read_group0(which, head.as_ptr(), head.len()) }
+    }
+
+    /// The number of a group's head.
+    pub fn group(head0: &[u8], agno: u64, head: &[u8]) -> u32 {
+        unsafe { zq_read_group(head0.as_ptr(), head0.len(), agno, head.as_ptr(), head.len()) }
+    }
+
+    /// The number of the log's first block.
+    pub fn log(head0: &[u8], block: &[u8]) -> u32 {
+        unsafe { zq_read_log(head0.as_ptr(), head0.len(), block.as_ptr(), block.len()) }
+    }
+}

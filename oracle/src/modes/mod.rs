@@ -6,12 +6,16 @@ use crate::random::Random;
 
 pub mod chunk;
 pub mod crc;
+pub mod damage;
 pub mod geometry;
 pub mod inodes;
 pub mod lists;
 pub mod log;
+pub mod made;
 pub mod places;
 pub mod plans;
+pub mod reader;
+pub mod readings;
 pub mod records;
 pub mod replayed;
 pub mod requests;
@@ -117,6 +121,10 @@ pub fn named(name: &str) -> Option<Box<dyn Mode + Sync>> {
         "sf_dir" => Box::new(inodes::SfDir),
         "structs" => Box::new(replayed::Structs),
         "records" => Box::new(records::Records),
+        "reader" => Box::new(reader::Reader),
+        "damage" => Box::new(damage::Damage::new()),
+        "mkfs" => Box::new(made::Made),
+        "readings" => Box::new(readings::Readings::new()),
         _ => return None,
     })
 }

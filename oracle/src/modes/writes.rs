@@ -80,7 +80,7 @@ impl BlockDevice for Recorder<'_> {
 }
 
 /// The small disk whose list is replayed whole: 300 MiB and a part of a block, 3 groups, blocks of 1024 bytes.
-fn whole_case() -> Vec<u8> {
+pub fn whole_case() -> Vec<u8> {
     let mut q = Request { device: (300 << 20) + 777, logical: 512, physical: 512, ..Request::default() };
     q.options[op::BLOCK] = Some(1024);
     q.options[op::AGCOUNT] = Some(3);

@@ -1,0 +1,4 @@
+pub mod States
+pub mod InParts
+pub mod Accepted
+pub mod Refused

@@ -1,0 +1,32 @@
+-- What is read for the name, by the length.
+-- Assumes nothing.
+use mathlib.Core.Path.{_≡_, refl}
+use mathlib.Core.List.{List}
+use Prim.Native.Nat.{ℕ, _≤_, _<_}
+use lib.ListN.{length, replicate}
+use borrow.Author.Tests.{lt-ltb, le-ltb}
+use Rattle.geometry.specs.Compute.{refused}
+use Rattle.answers.specs.Named.{namedAnswer}
+use Rattle.named.specs.Named.{namesAt, namedBy, uuidAt}
+use Rattle.names.specs.Read.{namedRead, uuidRead}
+
+module _ (xs : List ℕ) where
+  pub short-name : length xs < 512 → namedRead xs ≡ refused 27
+  unfolding namedRead
+  short-name h = rw (lt-ltb (length xs) 512 h) refl
+
+  pub full-name : 512 ≤ length xs → namedRead xs ≡ namedBy xs
+  unfolding namedRead
+  full-name h = rw (le-ltb (length xs) 512 h) refl
+
+  pub full-answer : 512 ≤ length xs → namedRead xs ≡ namedAnswer (namesAt xs)
+  unfolding namedRead namedBy
+  full-answer h = rw (le-ltb (length xs) 512 h) refl
+
+  pub short-uuid : length xs < 512 → uuidRead xs ≡ replicate 16 0
+  unfolding uuidRead
+  short-uuid h = rw (lt-ltb (length xs) 512 h) refl
+
+  pub full-uuid : 512 ≤ length xs → uuidRead xs ≡ uuidAt xs
+  unfolding uuidRead
+  full-uuid h = rw (le-ltb (length xs) 512 h) refl

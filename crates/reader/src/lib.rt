@@ -1,0 +1,163 @@
+// The reader: whether an accepted run leaves the bytes that stand in a place. What the bytes name is read, the place's bytes are made anew
+// from it, and the two are compared.
+ghost use mathlib.Core.Path.{_≡_};
+ghost use mathlib.Core.Bool.{true};
+ghost use Prim.Native.Nat.{_<_};
+ghost use lib.ListN.{length};
+ghost use Rattle.refusals.specs.Table.{first};
+ghost use Rattle.answers.specs.Named.{isAnswer};
+ghost use Rattle.plan.specs.Plan.{refusedPlan};
+ghost use Rattle.exact.specs.Read.{notFound, groupNumber, readGroup0, readGroup, readLog};
+ghost use Rattle.reader.specs.Places.{headTests};
+
+pub mod heads; // heads.rt: a head, made and compared
+pub mod logs; // logs.rt: the log's first block, made and compared
+
+use answers::is_answer;
+use exact::Found;
+use geometry::Geometry;
+use names::named_by;
+use names::uuid_of;
+use params::OptU64;
+use plan::AgPlan;
+use plan::Agfl;
+use plan::Planned;
+use plan::plan_ag;
+use summary::plans_number;
+
+// The refusals: a length that is not the place's, a group that is not there, bytes that no accepted run leaves here, and a geometry that is
+// no answer of the geometry step.
+pub const WRONG_LENGTH: u32 = 27;
+
+pub const NO_GROUP: u32 = 29;
+
+pub const NOT_LEFT: u32 = 30;
+
+pub const NO_ANSWER: u32 = 31;
+
+fn no_plan(n: u32) -> Planned
+    ensures { λ r. ⌜ r ≡ refusedPlan n ⌝ }
+{
+    let free = free::empty();
+    let blocks = [0u32; 64];
+    let agfl = Agfl { blocks, len: 0 };
+    let rmap = rmap::empty();
+    let chunk = OptU64::Absent;
+    let plan = AgPlan {
+        agno: 0,
+        length: 0,
+        free,
+        agfl,
+        rmap,
+        chunk,
+    };
+    Planned { number: n, plan }
+}
+
+fn not_found(n: u32) -> Found
+    ensures { λ r. ⌜ r ≡ notFound n ⌝ }
+{
+    let geometry = Geometry::zero();
+    let uuid = [0u8; 16];
+    let none = no_plan(n);
+    let plan = none.plan;
+    Found {
+        number: n,
+        geometry,
+        uuid,
+        plan,
+    }
+}
+
+// A group that is there, of an answer: 27, 30, or 0.
+fn head_number(g: Geometry, uuid: [u8; 16], k: u64, head: &[u8]) -> u32
+    requires { ⌜ (isAnswer g ≡ true) × (k < g .agcount) ⌝ }
+    ensures { λ r. ⌜ r ≡ first (headTests g uuid k (now (head .entry))) 0 ⌝ }
+{
+    let n = heads::head_bytes(g);
+    if head.len() != n {
+        return WRONG_LENGTH;
+    }
+    if plans_number(g) != 0 {
+        return NOT_LEFT;
+    }
+    if heads::is_head(g, uuid, k, n, head) {
+        return 0;
+    }
+    NOT_LEFT
+}
+
+// Any group: 31, 29, 27, 30, or 0.
+fn group_number(g: Geometry, uuid: [u8; 16], k: u64, head: &[u8]) -> u32
+    ensures { λ r. ⌜ r ≡ groupNumber g uuid k (now (head .entry)) ⌝ }
+{
+    if !is_answer(g) {
+        return NO_ANSWER;
+    }
+    if g.agcount <= k {
+        return NO_GROUP;
+    }
+    head_number(g, uuid, k, head)
+}
+
+// The head of group 0: its geometry, UUID and plan. 27 under 512 bytes; 30 where the superblock names no geometry that the geometry step
+// accepts; 27 for another length than the head's; 30 unless an accepted run leaves these bytes here.
+pub fn read_group0(head: &[u8]) -> Found
+    ensures { λ r. ⌜ r ≡ readGroup0 (now (head .entry)) ⌝ }
+{
+    if head.len() < names::LEAST_SECTOR {
+        return not_found(WRONG_LENGTH);
+    }
+    let named = named_by(head);
+    if named.number != 0 {
+        return not_found(NOT_LEFT);
+    }
+    let geometry = named.geometry;
+    let uuid = uuid_of(head);
+    let n = head_number(geometry, uuid, 0, head);
+    if n != 0 {
+        return not_found(n);
+    }
+    let planned = plan_ag(geometry, 0);
+    let plan = planned.plan;
+    Found {
+        number: 0,
+        geometry,
+        uuid,
+        plan,
+    }
+}
+
+// The head of any group, with the geometry and the UUID that group 0 gave: its plan. 31 where the geometry is no answer of the geometry
+// step; 29; 27; 30 unless an accepted run with these leaves these bytes here.
+pub fn read_group(g: Geometry, uuid: [u8; 16], agno: u64, head: &[u8]) -> Planned
+    ensures { λ r. ⌜ r ≡ readGroup g uuid agno (now (head .entry)) ⌝ }
+{
+    let n = group_number(g, uuid, agno, head);
+    if n != 0 {
+        return no_plan(n);
+    }
+    let planned = plan_ag(g, agno);
+    let plan = planned.plan;
+    Planned { number: 0, plan }
+}
+
+// The log's first block, with the same: 31, 27, 30, or 0.
+pub fn read_log(g: Geometry, uuid: [u8; 16], block: &[u8]) -> u32
+    ensures { λ r. ⌜ r ≡ readLog g uuid (now (block .entry)) ⌝ }
+{
+    if !is_answer(g) {
+        return NO_ANSWER;
+    }
+    if block.len() != g.blocksize as usize {
+        return WRONG_LENGTH;
+    }
+    let plans = plans_number(g);
+    if plans != 0 {
+        return NOT_LEFT;
+    }
+    if logs::is_log(g, uuid, block) {
+        return 0;
+    }
+    NOT_LEFT
+}

@@ -1,0 +1,24 @@
+-- `rows::low` meets its contract: below 2 ^ 64 every number is its own remainder.
+-- Assumes nothing.
+use native.Mathlib.Omega.{arith}
+use borrow.Author.Needs.{needs}
+use mathlib.Core.Path.{sym}
+use Prim.Native.Nat.{_^_, _≤_}
+use native.Mathlib.Nat.{mod-eq-of-lt}
+use lib.Pow.{pow-mono}
+use Rattle.rows.proofs.low.Statement.{statement}
+use Rattle.rows.proofs.low.Tie as tie
+
+returns : tie.Need-returns
+returns c = cc
+
+returns-2 : tie.Need-returns-2
+returns-2 c =
+    let h : 2 ^ 64 ≤ 2 ^ c .before .args .log = pow-mono {i = 64} (omega arith) in
+    sym (mod-eq-of-lt (omega arith))
+
+pub low-spec : {M : Type 1} → statement M
+low-spec =
+    tie.close
+    (tie.spec
+    (λ c κs. search needs) (λ c κs. tt) returns returns-2)
