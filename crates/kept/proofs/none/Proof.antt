@@ -1,0 +1,11 @@
+-- `kept::none` meets its contract.
+-- Assumes nothing.
+use borrow.Author.Needs.{needs}
+use Rattle.kept.proofs.none.Statement.{statement}
+use Rattle.kept.proofs.none.Tie as tie
+
+returns : tie.Need-returns
+returns c = rw (c .no-row .ensures)
+
+pub none-spec : {M : Type 1} → statement M
+none-spec = tie.close (tie.spec (λ c κs. search needs) returns)
