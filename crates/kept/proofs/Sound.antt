@@ -1,7 +1,7 @@
 -- Where all rows were the same as the kept ones, the kept ones give every row again, whatever the rows.
 -- Assumes nothing.
-use mathlib.Core.Path.{_≡_, refl, sym, ap, subst, _∙_}
-use mathlib.Core.Bool.{Bool, true, _&&_}
+use mathlib.Core.Path.{_≡_, sym, ap, subst, _∙_}
+use mathlib.Core.Bool.{true, _&&_}
 use mathlib.Core.Logic.{⊎-elim}
 use Prim.Native.Nat.{ℕ, zero, suc, _<_}
 use native.Mathlib.Omega.{arith}
@@ -13,7 +13,7 @@ use Rattle.seqs.proofs.Laws.{lt-or-le}
 use Rattle.geometry.specs.declared.Geometry.{Geometry}
 use Rattle.totals.specs.declared.Row.{Row}
 use Rattle.kept.specs.declared.Kept.{Kept}
-use Rattle.kept.specs.Kept.{kindOf, keptAt, inGroup, rowKept, eqRow, placed, keptRow, keptTo}
+use Rattle.kept.specs.Kept.{kindOf, inGroup, rowKept, eqRow, placed, keptRow, keptTo}
 use Rattle.kept.proofs.Laws.{eq-row, row-stays, row-placed}
 
 -- ---- one row more

@@ -1,6 +1,6 @@
 -- Rows of planlist's table kept by kind of group, and every group's row from the kept ones.
 -- Assumes nothing.
-use mathlib.Core.Bool.{Bool, true, false, _&&_}
+use mathlib.Core.Bool.{Bool, true, _&&_}
 use Prim.Native.Nat.{ℕ, zero, suc, _-_}
 use lib.Dec.{eqb}
 use Rattle.seqs.specs.Lists.{choose}

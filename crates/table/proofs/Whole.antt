@@ -1,4 +1,5 @@
--- On a disk that is read whole every row and the sums of the rows, taken from the bytes, are planlist's.
+-- On a disk that is read whole every row and the sums of the rows, taken from the bytes, are planlist's; and so is every row that the rows
+-- kept by kind give.
 -- Assumes nothing.
 use mathlib.Core.Path.{_≡_, refl, ap, sym, subst, _∙_}
 use mathlib.Core.List.{List}
@@ -7,6 +8,7 @@ use mathlib.Core.Logic.{⊎-elim}
 use Prim.Native.Nat.{ℕ, zero, suc, _+_, _*_, _%_, _^_, _≤_, _<_}
 use native.Mathlib.Omega.{arith}
 use native.Mathlib.Nat.{mod-eq-of-lt, mul-le-mul}
+use lib.ListN.{length}
 use Rattle.arith.specs.Choice.{when}
 use Rattle.seqs.proofs.Laws.{lt-or-le}
 use Rattle.params.specs.declared.Features.{Features}
@@ -18,7 +20,7 @@ use Rattle.layout.proofs.Inside.{few-blocks}
 use Rattle.plan.specs.declared.Planned.{Planned}
 use Rattle.totals.specs.declared.Row.{Row}
 use Rattle.totals.specs.declared.Total.{Total}
-use Rattle.totals.specs.Totals.{sumTo, rowOf, totalOf, constCount, closedTotal}
+use Rattle.totals.specs.Totals.{sumTo, plansNumber, rowOf, totalOf, constCount, closedTotal}
 use Rattle.totals.proofs.Whole.{all-planned, total-closed}
 use Rattle.run.specs.Runs.{runOf}
 use Rattle.accepted.specs.Accepted.{Source}
@@ -33,6 +35,9 @@ use Rattle.byuse.specs.ByUse.{rowIn, LeftHeads}
 use Rattle.byuse.proofs.Table.{row-is}
 use Rattle.rows.specs.declared.LogAt.{LogAt}
 use Rattle.rows.specs.Rows.{sumsOf, logAt, logHere, chunkBlocks, rowAt, added}
+use Rattle.kept.specs.Kept.{rowKept, keptTo}
+use Rattle.kept.proofs.Sound.{kept-sound}
+use Rattle.kept.proofs.Plans.{kept-plans}
 use Rattle.table.specs.Table.{rowRead, sumsRead}
 use Rattle.table.proofs.Laws.{accepted-row}
 
@@ -150,8 +155,11 @@ module _ (g : Geometry) (u : List ℕ) (s : Source g u) (heads : ℕ → List �
 
 -- ---- EVERY DISK THAT THE READER ACCEPTS WHOLE, with the geometry and the UUID that group 0's head gives
 
+abbrev rowsRead : Found → (ℕ → List ℕ) → ℕ → Row
+rowsRead f heads k = rowRead (f .geometry) (f .uuid) (logAt (f .geometry) (heads 0)) k (heads k)
+
 abbrev Rows : Found → (ℕ → List ℕ) → Type 0
-Rows f heads = (k : ℕ) → k < f .geometry .agcount → rowRead (f .geometry) (f .uuid) (logAt (f .geometry) (heads 0)) k (heads k) ≡ rowOf (f .geometry) k
+Rows f heads = (k : ℕ) → k < f .geometry .agcount → rowsRead f heads k ≡ rowOf (f .geometry) k
 
 abbrev LastLine : Found → (ℕ → List ℕ) → Type 0
 LastLine f heads = sumsRead (f .geometry) (f .uuid) (logAt (f .geometry) (heads 0)) heads (f .geometry .agcount) ≡ totalOf (f .geometry)
@@ -164,3 +172,25 @@ whole-table heads log o w =
     let s = source-of (one .request) (one .accepted) in
     let e = whole-found heads log one in
     (subst (λ (f : Found). Rows f heads) (sym e) (its-row g u s heads (one .head)), subst (λ (f : Found). LastLine f heads) (sym e) (its-total g u s heads (one .head)))
+
+-- all rows are the same as the kept ones of their kind, which give every row again
+abbrev KeptRows : Found → (ℕ → List ℕ) → Type 0
+KeptRows f heads =
+    (keptTo (f .geometry) (rowsRead f heads) (f .geometry .agcount) .same ≡ true)
+    × ((k : ℕ) → k < f .geometry .agcount → rowKept (f .geometry) (keptTo (f .geometry) (rowsRead f heads) (f .geometry .agcount)) k ≡ rowOf (f .geometry) k)
+
+kept-rows : (f : Found) (heads : ℕ → List ℕ) → length (f .geometry .label) ≡ 12 → plansNumber (f .geometry) ≡ 0 → Rows f heads → KeptRows f heads
+kept-rows f heads l p rows =
+    let s = kept-plans (f .geometry) l p (rowsRead f heads) rows (f .geometry .agcount) (omega arith) in
+    (s, λ k i. kept-sound (f .geometry) (rowsRead f heads) (f .geometry .agcount) s k i ∙ rows k i)
+
+pub whole-kept : (heads : ℕ → List ℕ) (log : List ℕ) → Octets (heads 0) → ReadWhole heads log → KeptRows (readGroup0 (heads 0)) heads
+whole-kept heads log o w =
+    let one = exact-whole heads log o .0 w in
+    let g = runOf (one .request) .geometry in
+    let u = runOf (one .request) .uuid in
+    let s = source-of (one .request) (one .accepted) in
+    let e = whole-found heads log one in
+    kept-rows (readGroup0 (heads 0)) heads (subst (λ (f : Found). length (f .geometry .label) ≡ 12) (sym e) (source-label g u s))
+    (subst (λ (f : Found). plansNumber (f .geometry) ≡ 0) (sym e) (source-plans g u s))
+    (whole-table heads log o w .0)

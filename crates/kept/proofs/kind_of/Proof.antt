@@ -1,6 +1,5 @@
 -- `kept::kind_of` meets its contract.
 -- Assumes nothing.
-use mathlib.Core.Path.{_∙_}
 use borrow.Author.Needs.{needs}
 use borrow.Author.Tests.{eq-eqb, ne-eqb}
 use Rattle.kept.specs.Kept.{kindIn}

@@ -3,7 +3,7 @@
 use mathlib.Core.Path.{_∙_}
 use borrow.Author.Needs.{needs}
 use borrow.Author.Tests.{eq-eqb, ne-eqb}
-use Rattle.kept.specs.Kept.{keptAt, placedAt}
+use Rattle.kept.specs.Kept.{placedAt}
 use Rattle.kept.proofs.placed_at.Statement.{statement}
 use Rattle.kept.proofs.placed_at.Tie as tie
 
