@@ -17,7 +17,6 @@ use Rattle.layout.specs.Bounds.{Bounds}
 use Rattle.layout.specs.Places.{chunkOf, freelistOf}
 use Rattle.layout.proofs.Bounding.{answer-bounds}
 use Rattle.layout.proofs.Inside.{few-blocks}
-use Rattle.plan.specs.declared.Planned.{Planned}
 use Rattle.totals.specs.declared.Row.{Row}
 use Rattle.totals.specs.declared.Total.{Total}
 use Rattle.totals.specs.Totals.{sumTo, plansNumber, rowOf, totalOf, constCount, closedTotal}
@@ -26,20 +25,17 @@ use Rattle.run.specs.Runs.{runOf}
 use Rattle.accepted.specs.Accepted.{Source}
 use Rattle.accepted.proofs.Runs.{source-plans, source-label, source-uuid, source-of}
 use Rattle.exact.specs.declared.Found.{Found}
-use Rattle.exact.specs.Read.{readGroup0, groupNumber}
+use Rattle.exact.specs.Read.{readGroup0}
 use Rattle.exact.specs.Left.{Octets, ReadWhole}
-use Rattle.exact.proofs.Others.{number-read, complete-group}
 use Rattle.exact.proofs.Whole.{exact-whole, whole-found}
 use Rattle.written.specs.Listing.{headLeft}
 use Rattle.byuse.specs.ByUse.{rowIn, LeftHeads}
 use Rattle.byuse.proofs.Table.{row-is}
-use Rattle.rows.specs.declared.LogAt.{LogAt}
 use Rattle.rows.specs.Rows.{sumsOf, logAt, logHere, chunkBlocks, rowAt, added}
 use Rattle.kept.specs.Kept.{rowKept, keptTo}
 use Rattle.kept.proofs.Sound.{kept-sound}
 use Rattle.kept.proofs.Plans.{kept-plans}
-use Rattle.table.specs.Table.{rowRead, sumsRead}
-use Rattle.table.proofs.Laws.{accepted-row}
+use Rattle.table.specs.Table.{rowsAt, sumsAt}
 
 -- the row by the bytes, with the log that group 0's head names, is byuse's
 same-row : (g : Geometry) (sb xs : List ℕ) (k : ℕ) → rowAt g (logAt g sb) xs k ≡ rowIn g sb xs k
@@ -94,16 +90,8 @@ module _ (g : Geometry) (u : List ℕ) (s : Source g u) (heads : ℕ → List �
   its : LeftHeads g u heads
   its = record { label = source-label g u s; uuid = source-uuid g u s; plans = source-plans g u s; bytes = left }
 
-  abbrev log : LogAt
-  log = logAt g (heads 0)
-
-  accepted : (k : ℕ) → k < g .agcount → 0 ≡ groupNumber g u k (heads k)
-  accepted k i =
-      sym (ap (λ (p : Planned). p .number) (complete-group g u k (heads k) (record { source = s; group = i; bytes = left k i })))
-      ∙ number-read g u k (heads k)
-
-  its-row : (k : ℕ) → k < g .agcount → rowRead g u log k (heads k) ≡ rowOf g k
-  its-row k i = sym (accepted-row g u log k (heads k) 0 (accepted k i) refl) ∙ same-row g (heads 0) (heads k) k ∙ row-is g u heads its k i
+  its-row : (k : ℕ) → k < g .agcount → rowsAt g heads k ≡ rowOf g k
+  its-row k i = same-row g (heads 0) (heads k) k ∙ row-is g u heads its k i
 
   bounds : Bounds g
   bounds = answer-bounds g (source-label g u s) (all-planned g (source-label g u s) (source-plans g u s) .0)
@@ -135,8 +123,8 @@ module _ (g : Geometry) (u : List ℕ) (s : Source g u) (heads : ℕ → List �
         frees = let e = ap (λ (t : Total). t .free) closed in omega arith;
       }
 
-  its-sums : (n : ℕ) → n ≤ g .agcount → sumsRead g u log heads n ≡ firstSums g n
-  unfolding sumsRead added sumTo
+  its-sums : (n : ℕ) → n ≤ g .agcount → sumsAt g heads n ≡ firstSums g n
+  unfolding sumsAt added sumTo
   its-sums zero h = refl
   its-sums (suc n) h =
       let t = its-sums n (omega arith) in
@@ -149,20 +137,17 @@ module _ (g : Geometry) (u : List ℕ) (s : Source g u) (heads : ℕ → List �
       (sum-added (λ k. rowOf g k .chunk) n (g .agcount) h (f .chunks) _ _ (ap (λ (x : Total). x .chunk) t) (ap (λ (x : Row). x .chunk) r))
       (sum-added (λ k. rowOf g k .free) n (g .agcount) h (f .frees) _ _ (ap (λ (x : Total). x .free) t) (ap (λ (x : Row). x .free) r))
 
-  its-total : sumsRead g u log heads (g .agcount) ≡ totalOf g
+  its-total : sumsAt g heads (g .agcount) ≡ totalOf g
   unfolding totalOf
   its-total = its-sums (g .agcount) (omega arith)
 
 -- ---- EVERY DISK THAT THE READER ACCEPTS WHOLE, with the geometry and the UUID that group 0's head gives
 
-abbrev rowsRead : Found → (ℕ → List ℕ) → ℕ → Row
-rowsRead f heads k = rowRead (f .geometry) (f .uuid) (logAt (f .geometry) (heads 0)) k (heads k)
-
 abbrev Rows : Found → (ℕ → List ℕ) → Type 0
-Rows f heads = (k : ℕ) → k < f .geometry .agcount → rowsRead f heads k ≡ rowOf (f .geometry) k
+Rows f heads = (k : ℕ) → k < f .geometry .agcount → rowsAt (f .geometry) heads k ≡ rowOf (f .geometry) k
 
 abbrev LastLine : Found → (ℕ → List ℕ) → Type 0
-LastLine f heads = sumsRead (f .geometry) (f .uuid) (logAt (f .geometry) (heads 0)) heads (f .geometry .agcount) ≡ totalOf (f .geometry)
+LastLine f heads = sumsAt (f .geometry) heads (f .geometry .agcount) ≡ totalOf (f .geometry)
 
 pub whole-table : (heads : ℕ → List ℕ) (log : List ℕ) → Octets (heads 0) → ReadWhole heads log → Rows (readGroup0 (heads 0)) heads × LastLine (readGroup0 (heads 0)) heads
 whole-table heads log o w =
@@ -176,13 +161,13 @@ whole-table heads log o w =
 -- all rows are the same as the kept ones of their kind, which give every row again
 abbrev KeptRows : Found → (ℕ → List ℕ) → Type 0
 KeptRows f heads =
-    (keptTo (f .geometry) (rowsRead f heads) (f .geometry .agcount) .same ≡ true)
-    × ((k : ℕ) → k < f .geometry .agcount → rowKept (f .geometry) (keptTo (f .geometry) (rowsRead f heads) (f .geometry .agcount)) k ≡ rowOf (f .geometry) k)
+    (keptTo (f .geometry) (rowsAt (f .geometry) heads) (f .geometry .agcount) .same ≡ true)
+    × ((k : ℕ) → k < f .geometry .agcount → rowKept (f .geometry) (keptTo (f .geometry) (rowsAt (f .geometry) heads) (f .geometry .agcount)) k ≡ rowOf (f .geometry) k)
 
 kept-rows : (f : Found) (heads : ℕ → List ℕ) → length (f .geometry .label) ≡ 12 → plansNumber (f .geometry) ≡ 0 → Rows f heads → KeptRows f heads
 kept-rows f heads l p rows =
-    let s = kept-plans (f .geometry) l p (rowsRead f heads) rows (f .geometry .agcount) (omega arith) in
-    (s, λ k i. kept-sound (f .geometry) (rowsRead f heads) (f .geometry .agcount) s k i ∙ rows k i)
+    let s = kept-plans (f .geometry) l p (rowsAt (f .geometry) heads) rows (f .geometry .agcount) (omega arith) in
+    (s, λ k i. kept-sound (f .geometry) (rowsAt (f .geometry) heads) (f .geometry .agcount) s k i ∙ rows k i)
 
 pub whole-kept : (heads : ℕ → List ℕ) (log : List ℕ) → Octets (heads 0) → ReadWhole heads log → KeptRows (readGroup0 (heads 0)) heads
 whole-kept heads log o w =
