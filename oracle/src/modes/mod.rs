@@ -122,6 +122,7 @@ pub fn named(name: &str) -> Option<Box<dyn Mode + Sync>> {
         "structs" => Box::new(replayed::Structs),
         "records" => Box::new(records::Records),
         "reader" => Box::new(reader::Reader),
+        "tables" => Box::new(reader::Tables),
         "damage" => Box::new(damage::Damage::new()),
         "mkfs" => Box::new(made::Made),
         "readings" => Box::new(readings::Readings::new()),

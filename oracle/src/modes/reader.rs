@@ -4,7 +4,7 @@
 use std::io;
 
 use super::geometry::feature_bits;
-use super::plans::{accepted, few, plan};
+use super::plans::{accepted, few, plan, Planlist};
 use super::{Mode, Out, Told};
 use crate::disk::Disk;
 use crate::random::Random;
@@ -99,5 +99,30 @@ impl Mode for Reader {
 
     fn show_answer(&self, answer: &[u8]) -> String {
         String::from_utf8_lossy(answer).into_owned()
+    }
+}
+
+/// Program readdisk on disks of the same runs: the answer is planlist's.
+pub struct Tables;
+
+impl Mode for Tables {
+    fn case(&self, r: &mut Random) -> Vec<u8> {
+        Reader.case(r)
+    }
+
+    fn answer(&self, case: &[u8], out: Out) -> io::Result<Told> {
+        Planlist.answer(case, out)
+    }
+
+    fn traits(&self, case: &[u8]) -> Vec<(&'static str, String)> {
+        Reader.traits(case)
+    }
+
+    fn show_case(&self, case: &[u8]) -> String {
+        Reader.show_case(case)
+    }
+
+    fn show_answer(&self, answer: &[u8]) -> String {
+        Reader.show_answer(answer)
     }
 }
