@@ -1,40 +1,45 @@
-// The first pass over a disk: every head and the log's first block, taken in order.
+// One pass over a disk: every head and the log's first block, taken in order, and the rows of the heads.
+ghost use mathlib.Core.Path.{_≡_};
+ghost use Rattle.disk.specs.Parts.{headTaken};
 use crate::WHOLE;
-use crate::input::fill_first;
+use crate::input::fill;
 use disk::Disk;
 use geometry::Geometry;
-use geometry::log::prealloc_of;
+use kept::Kept;
+use kept::keep;
 use names::LEAST_SECTOR;
 use names::named_by;
 use places::GroupBlock;
 use places::ToByteOffset;
 use places::units::agb_to_byte;
-use wrapping::wrapping_mul;
+use rows::LogAt;
+use rows::add_row;
+use rows::log_of;
+use rows::row_of;
+use shared::head_left;
+use shared::head_length;
+use totals::Total;
 
-// A disk as far as it is read, how it stands with the reading, the last place that was read (a group, or the number of groups for the
-// log's block), and the bytes of a head.
+// How it stands with the reading, the last place that was read (a group, or the number of groups for the log's block), the disk as far as
+// it is read, the log that group 0's superblock names, and the rows with their sums.
 pub(crate) struct Pass {
     pub(crate) stop: u8,
     pub(crate) place: u64,
-    pub(crate) n: usize,
     pub(crate) disk: Disk,
-}
-
-// Bytes of a head.
-fn head_bytes(g: Geometry) -> usize {
-    let f = g.features;
-    let bs = g.blocksize as u64;
-    wrapping_mul(prealloc_of(f, g.sectsize, bs), bs) as usize
+    pub(crate) log: LogAt,
+    pub(crate) rows: Kept,
+    pub(crate) total: Total,
 }
 
 // Bytes of the head that begins with this sector; a sector that names no geometry is all that is read.
-fn named_bytes(sector: &[u8]) -> usize {
+pub(crate) fn named_bytes(sector: &[u8]) -> usize {
     let named = named_by(sector);
     let g = named.geometry;
     if named.number != 0 {
         return LEAST_SECTOR;
     }
-    head_bytes(g)
+    let f = g.features;
+    head_length(f, g.sectsize, g.blocksize)
 }
 
 // The offset, or for a place that is not there one behind every file.
@@ -45,64 +50,76 @@ fn byte_of(place: ToByteOffset) -> u64 {
     }
 }
 
-pub(crate) fn head_at(g: Geometry, k: u64) -> u64 {
-    let place = agb_to_byte(g, GroupBlock(k, 0));
-    byte_of(place)
-}
-
-fn log_at(g: Geometry) -> u64 {
-    let place = agb_to_byte(g, GroupBlock(g.logagno, g.log_agbno));
-    byte_of(place)
-}
-
-// The first `n` bytes of the buffer as group 0's head, as the next head, and as the log's block.
-fn start_first(n: usize, buf: &[u8]) -> Disk {
-    if buf.len() < n {
-        return disk::start(buf);
+// The next group's head, compared with what is made in `work`.
+fn take_next(d: Disk, work: &mut [u8], head: &[u8]) -> Disk
+    ensures { λ r. ⌜ r ≡ headTaken d (now (head .entry)) ⌝ }
+{
+    let g = d.geometry;
+    let uuid = d.uuid;
+    if head_left(g, uuid, d.next, work) != 0 {
+        return disk::take_head(d, head);
     }
-    disk::start(&buf[..n])
+    disk::take_head(d, head)
 }
 
-fn head_first(d: Disk, n: usize, buf: &[u8]) -> Disk {
-    if buf.len() < n {
-        return disk::take_head(d, buf);
-    }
-    disk::take_head(d, &buf[..n])
-}
-
-fn log_first(d: Disk, n: usize, buf: &[u8]) -> Disk {
-    if buf.len() < n {
-        return disk::take_log(d, buf);
-    }
-    disk::take_log(d, &buf[..n])
-}
-
-// Group 0: its first sector says how long its head is.
-pub(crate) fn begin(fd: i32, buf: &mut [u8]) -> Pass {
-    fill_first(fd, 0, LEAST_SECTOR, buf);
-    let n = named_bytes(buf);
-    let stop = fill_first(fd, 0, n, buf);
-    let disk = start_first(n, buf);
+// What group 0's head gives.
+fn first_taken(stop: u8, head: &[u8]) -> Pass {
+    let disk = disk::start(head);
+    let g = disk.geometry;
+    let log = log_of(g, head);
+    let row = row_of(g, log, 0, head);
+    let none = Total {
+        length: 0,
+        log: 0,
+        list: 0,
+        chunk: 0,
+        free: 0,
+    };
+    let total = add_row(none, row);
+    let rows = keep(kept::none(), g, 0, row);
     Pass {
         stop,
         place: 0,
-        n,
         disk,
+        log,
+        rows,
+        total,
     }
 }
 
-fn next_head(fd: i32, p: Pass, buf: &mut [u8]) -> Pass {
+// Group 0's head.
+pub(crate) fn begin(fd: i32, buf: &mut [u8]) -> Pass {
+    let stop = fill(fd, 0, buf);
+    first_taken(stop, buf)
+}
+
+// What the next group's head gives.
+fn head_taken(p: Pass, stop: u8, work: &mut [u8], head: &[u8]) -> Pass {
     let d = p.disk;
     let g = d.geometry;
-    let n = p.n;
-    let stop = fill_first(fd, head_at(g, d.next), n, buf);
-    let disk = head_first(d, n, buf);
+    let log = p.log;
+    let rows = p.rows;
+    let total = p.total;
+    let disk = take_next(d, work, head);
+    let row = row_of(g, log, d.next, head);
+    let rows = keep(rows, g, d.next, row);
+    let total = add_row(total, row);
     Pass {
         stop,
         place: d.next,
-        n,
         disk,
+        log,
+        rows,
+        total,
     }
+}
+
+fn next_head(fd: i32, p: Pass, work: &mut [u8], buf: &mut [u8]) -> Pass {
+    let d = p.disk;
+    let g = d.geometry;
+    let place = agb_to_byte(g, GroupBlock(d.next, 0));
+    let stop = fill(fd, byte_of(place), buf);
+    head_taken(p, stop, work, buf)
 }
 
 // Whether a head is still to be read. A refusal ends it: every later one would be the same, 30, or more.
@@ -113,30 +130,43 @@ fn goes_on(p: Pass) -> bool {
 }
 
 // The other heads, in rising order.
-pub(crate) fn take_heads(fd: i32, first: Pass, buf: &mut [u8]) -> Pass {
+pub(crate) fn take_heads(fd: i32, first: Pass, work: &mut [u8], buf: &mut [u8]) -> Pass {
     let mut p = first;
     let mut turns = u64::MAX;
     while 0 < turns && goes_on(p) {
-        p = next_head(fd, p, buf);
+        p = next_head(fd, p, work, buf);
         turns -= 1;
     }
     p
 }
 
-// The log's first block.
+// The log's first block, in a buffer of its length.
+fn take_block(fd: i32, p: Pass, block: &mut [u8]) -> Pass {
+    let d = p.disk;
+    let g = d.geometry;
+    let log = p.log;
+    let rows = p.rows;
+    let total = p.total;
+    let place = agb_to_byte(g, GroupBlock(g.logagno, g.log_agbno));
+    let stop = fill(fd, byte_of(place), block);
+    let disk = disk::take_log(d, block);
+    Pass {
+        stop,
+        place: g.agcount,
+        disk,
+        log,
+        rows,
+        total,
+    }
+}
+
+// The same in the first bytes of a head's buffer, where the heads were accepted.
 pub(crate) fn take_log(fd: i32, p: Pass, buf: &mut [u8]) -> Pass {
     let d = p.disk;
     let g = d.geometry;
     let n = g.blocksize as usize;
-    if p.stop != WHOLE || d.number != 0 {
+    if p.stop != WHOLE || d.number != 0 || buf.len() < n {
         return p;
     }
-    let stop = fill_first(fd, log_at(g), n, buf);
-    let disk = log_first(d, n, buf);
-    Pass {
-        stop,
-        place: g.agcount,
-        n: p.n,
-        disk,
-    }
+    take_block(fd, p, &mut buf[0..n])
 }

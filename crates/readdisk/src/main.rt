@@ -1,36 +1,49 @@
 // Reads the disk or image that PATH names and prints planlist's table from its bytes, or `refused N`. It is opened for reading alone.
-// `disk` says whether an accepted run leaves it, `table` gives the rows; here their bytes are only read, and the lines written.
-// It is read twice, so that no row is printed before every head and the log's block are accepted, and no disk is too large.
-mod heads; // the first pass
+// `disk` says whether an accepted run leaves it, `rows` and `kept` give the rows; here their bytes are only read, and the lines written.
+// Each byte is read once: no line is printed before every head and the log's block are accepted, and `kept` holds the rows till then.
+mod heads; // the heads and the log's block
 mod input; // reading
-mod printed; // the second pass
+mod printed; // the table
 mod words; // standard error
 
 ghost use mathlib.Core.Path.{_≡_};
+ghost use Prim.Native.Nat.{_≤_};
 ghost use lib.ListN.{length};
-use disk::Disk;
+use arith::numbers::min_usize;
 use heads::Pass;
 use libc::STDERR_FILENO;
+use names::LEAST_SECTOR;
 
-// How it stands with the reading: all bytes were there, or why it stopped.
+// How it stands with the reading and the writing: nothing stopped it, or why it stopped.
 pub(crate) const WHOLE: u8 = 0;
 
 pub(crate) const ENDED: u8 = 1;
 
 pub(crate) const READ_FAILED: u8 = 2;
 
-pub(crate) const CHANGED: u8 = 3;
+pub(crate) const UNLIKE: u8 = 3;
 
 pub(crate) const WRITE_FAILED: u8 = 4;
 
+// Bytes of ten blocks of 4096 bytes: room for the heads of most disks.
+const FEW: usize = 40960;
+
+fn few_bytes() -> [u8; 40960]
+    ensures { λ r. ⌜ 40960 ≡ length r ⌝ }
+{
+    [0; 40960]
+}
+
 // Room for the largest head: 10 blocks of 16,384 bytes.
-fn room() -> [u8; 163840]
+const MOST: usize = 163840;
+
+fn most_bytes() -> [u8; 163840]
     ensures { λ r. ⌜ 163840 ≡ length r ⌝ }
 {
     [0; 163840]
 }
 
-// Where the reading stopped: a head, or behind the last the log's block.
+// Where the reading stopped, and why.
 fn report(p: Pass) {
     let d = p.disk;
     let g = d.geometry;
@@ -38,39 +51,75 @@ fn report(p: Pass) {
     words::say_stop(p.stop);
 }
 
-fn refuse(d: Disk, number: u32, place: u64, out: &mut [u8]) -> u8 {
-    let g = d.geometry;
-    words::say_place(place, g.agcount);
-    words::say_refused();
-    printed::print_refused(number, out)
-}
-
-// An accepted disk or a refused one.
-fn answer(fd: i32, p: Pass, buf: &mut [u8], out: &mut [u8]) -> u8 {
+// The table of an accepted disk, or the refusal.
+fn answer(p: Pass) -> u8 {
     let d = p.disk;
-    let v = disk::finish(d);
-    if v.number != 0 {
-        return refuse(d, v.number, v.place, out);
-    }
     let g = d.geometry;
     let uuid = d.uuid;
+    let v = disk::finish(d);
+    if v.number != 0 {
+        words::say_place(v.place, g.agcount);
+        words::say_refused();
+        return printed::print_refused(v.number);
+    }
     words::say_disk(g, uuid);
-    printed::print_table(fd, d, p.n, buf, out)
+    let rows = p.rows;
+    let total = p.total;
+    printed::print_table(g, rows, total)
 }
 
-fn read_disk(fd: i32, buf: &mut [u8], out: &mut [u8]) {
-    let first = heads::begin(fd, buf);
-    let others = heads::take_heads(fd, first, buf);
-    let p = heads::take_log(fd, others, buf);
+// What is said of a disk that was read.
+fn say_read(p: Pass) {
     if p.stop != WHOLE {
         report(p);
         return;
     }
-    let stop = answer(fd, p, buf, out);
+    let stop = answer(p);
     if stop != WHOLE {
         io::write_all(STDERR_FILENO, b"table");
         words::say_stop(stop);
     }
+}
+
+// The disk whose heads have as many bytes as each buffer.
+fn read_disk(fd: i32, work: &mut [u8], buf: &mut [u8]) {
+    let first = heads::begin(fd, buf);
+    let others = heads::take_heads(fd, first, work, buf);
+    let p = heads::take_log(fd, others, buf);
+    say_read(p);
+}
+
+fn read_few(fd: i32, n: usize)
+    requires { ⌜ n ≤ 40960 ⌝ }
+{
+    let mut work = few_bytes();
+    let mut buf = few_bytes();
+    read_disk(fd, &mut work[..n], &mut buf[..n]);
+}
+
+fn read_most(fd: i32, n: usize)
+    requires { ⌜ n ≤ 163840 ⌝ }
+{
+    let mut work = most_bytes();
+    let mut buf = most_bytes();
+    read_disk(fd, &mut work[..n], &mut buf[..n]);
+}
+
+// Its first sector says how long a head is.
+fn read_open(fd: i32) {
+    let mut sector = [0u8; 512];
+    let stop = input::fill(fd, 0, &mut sector);
+    if stop != WHOLE {
+        words::say_place(0, 0);
+        words::say_stop(stop);
+        return;
+    }
+    let n = heads::named_bytes(&sector);
+    if n <= FEW {
+        read_few(fd, n);
+        return;
+    }
+    read_most(fd, min_usize(n, MOST));
 }
 
 // Opens the file that the argument names.
@@ -93,7 +142,5 @@ fn main() {
         os::fail(b"open");
         return;
     }
-    let mut buf = room();
-    let mut out = io::large_buffer();
-    read_disk(fd, &mut buf, &mut out);
+    read_open(fd);
 }

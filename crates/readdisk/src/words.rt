@@ -1,7 +1,9 @@
 // What is said of a disk in words, on standard error.
-use crate::CHANGED;
+ghost use Prim.Native.Nat.{_≤_};
+ghost use lib.ListN.{length};
 use crate::ENDED;
 use crate::READ_FAILED;
+use crate::UNLIKE;
 use endian::be16;
 use endian::be32;
 use geometry::Geometry;
@@ -40,10 +42,21 @@ fn say_uuid(uuid: &[u8]) {
     say_long(uuid, 12);
 }
 
-// The label, whose unused bytes are zeros.
+// The bytes of a label before the zeros at its end.
+fn label_length(label: &[u8]) -> usize
+    ensures { λ r. ⌜ r ≤ length (now (label .entry)) ⌝ }
+{
+    let mut n = label.len();
+    while 0 < n && label[n - 1] == 0 {
+        n -= 1;
+    }
+    n
+}
+
 fn say_label(label: &[u8]) {
+    let n = label_length(label);
     say(b", label \"");
-    say(label);
+    say(&label[..n]);
     say(b"\"");
 }
 
@@ -84,7 +97,7 @@ pub(crate) fn say_place(k: u64, agcount: u64) {
 pub(crate) fn say_stop(stop: u8) {
     match stop {
         ENDED => say(b": the file ends before it\n"),
-        CHANGED => say(b": it was changed while it was read\n"),
+        UNLIKE => say(b": rows of one kind differ\n"),
         READ_FAILED => os::fail(b": read"),
         _ => os::fail(b": standard output"),
     }

@@ -7,10 +7,10 @@ use Rattle.readdisk.proofs.heads.take_heads.Statement.{statement}
 use Rattle.readdisk.proofs.heads.take_heads.Tie as tie
 
 abbrev Inv-loop : tie.InvT-loop
-Inv-loop fd buf₀ p₀ turns₀ buf p turns = length buf ≡ length buf₀
+Inv-loop fd work₀ buf₀ p₀ turns₀ work buf p turns = (length work ≡ length work₀) × (length buf ≡ length buf₀)
 
 abbrev μ-loop : tie.MeasureT-loop
-μ-loop fd buf₀ p₀ turns₀ buf p turns = turns
+μ-loop fd work₀ buf₀ p₀ turns₀ work buf p turns = turns
 
 sub-turns : tie.Need-sub-turns Inv-loop μ-loop
 sub-turns c = omega arith
@@ -19,16 +19,11 @@ loop-less : tie.Need-loop-less Inv-loop μ-loop
 loop-less c = omega arith
 
 loop-again : tie.Need-loop-again Inv-loop μ-loop
-loop-again c = omega arith
-
-same-length : tie.Need-same-length Inv-loop μ-loop
-same-length c = omega arith
-
-same-length-2 : tie.Need-same-length-2 Inv-loop μ-loop
-same-length-2 c = omega arith
+loop-again c = (omega arith, omega arith)
 
 pub take-heads-spec : {M : Type 1} → statement M
 take-heads-spec =
     tie.close
     (tie.spec
-    Inv-loop μ-loop (λ c. refl) (λ c κs. tt) (λ c κs. tt) sub-turns loop-less loop-again same-length (λ c. tt) same-length-2 (λ c. tt))
+    Inv-loop μ-loop (λ c. (refl, refl)) (λ c κs. tt) (λ c κs. tt) sub-turns loop-less loop-again (λ c. omega arith) (λ c. omega arith) (λ c. tt)
+    (λ c. omega arith) (λ c. omega arith) (λ c. tt))

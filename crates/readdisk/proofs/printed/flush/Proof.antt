@@ -1,22 +1,17 @@
 -- `readdisk::printed::flush` meets its contract.
 -- Assumes nothing.
 use mathlib.Core.Path.{sym}
-use Prim.Native.Nat.{_≤_}
-use native.Mathlib.Omega.{arith}
-use lib.ListN.{length}
 use lib.Seq.{length-take-le}
 use borrow.Author.Needs.{needs}
 use Rattle.readdisk.proofs.printed.flush.Statement.{statement}
 use Rattle.readdisk.proofs.printed.flush.Tie as tie
 
-slice-aggregate-write-all : tie.Need-slice-aggregate-write-all
-slice-aggregate-write-all c =
-    let a = c .before .before .before .args in
-    let h : a .end ≤ length (a .buf .now) = omega arith in
-    sym (length-take-le (a .end) (a .buf .now) h)
+slice-aggregate-write-out : tie.Need-slice-aggregate-write-out
+slice-aggregate-write-out c =
+    let m = c .before in
+    let a = m .before .before .args in
+    sym (length-take-le (a .end) (a .buf .now) (m .if1 .taken))
 
 pub flush-spec : {M : Type 1} → statement M
 flush-spec =
-    tie.close
-    (tie.spec
-    (λ c. search needs) slice-aggregate-write-all (λ c κs. search needs) (λ c. search needs) (λ c. search needs))
+    tie.close (tie.spec slice-aggregate-write-out (λ c κs. search needs) (λ c. search needs) (λ c. search needs))
