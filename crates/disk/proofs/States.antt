@@ -1,6 +1,6 @@
 -- The state of a disk after each part, and what is said at the end, by its numbers.
 -- Assumes nothing.
-use mathlib.Core.Path.{_≡_, refl}
+use mathlib.Core.Path.{_≡_, refl, sym, ap, _∙_}
 use mathlib.Core.Bool.{Bool, true, false}
 use mathlib.Core.List.{List}
 use Prim.Native.Nat.{ℕ, _<_, _≤_}
@@ -10,8 +10,12 @@ use Rattle.arith.specs.Choice.{when}
 use Rattle.plan.specs.declared.Planned.{Planned}
 use Rattle.exact.specs.declared.Found.{Found}
 use Rattle.exact.specs.Read.{readGroup0, readGroup, readLog}
+use Rattle.exact.proofs.Others.{number-read}
+use Rattle.written.specs.Listing.{headLeft}
+use Rattle.reader.specs.Places.{comparedNumber}
+use Rattle.reader.proofs.Made.{compared-group}
 use Rattle.disk.specs.declared.Disk.{Disk}
-use Rattle.disk.specs.Parts.{smaller, following, started, headTaken, logTaken, verdict, at}
+use Rattle.disk.specs.Parts.{smaller, following, started, headNoted, headTaken, headCompared, logTaken, verdict, at}
 
 -- ---- a smaller refusal
 
@@ -35,17 +39,29 @@ pub is-started : (xs : List ℕ) (f : Found) → f ≡ readGroup0 xs
 unfolding started
 is-started xs f e = rw e refl
 
-module _ (d : Disk) (xs : List ℕ) (t : Bool) (n p : ℕ) where
-  pub head-is : (k : ℕ) (q : Planned) → q ≡ readGroup (d .geometry) (d .uuid) (d .next) xs → t ≡ smaller (d .number) (q .number) → n ≡ when t (q .number) (d .number) → p ≡ when t (d .next) (d .place)
-      → k ≡ following (d .next) (d .geometry .agcount)
-      → _≡_ {A = Disk} (record { number = n; place = p; next = k; logged = d .logged; geometry = d .geometry; uuid = d .uuid }) (headTaken d xs)
-  unfolding headTaken
-  head-is k q e s a b f = rw (a, b, f, s, e) refl
+module _ (d : Disk) (t : Bool) (n p : ℕ) where
+  pub head-is : (k q : ℕ) → t ≡ smaller (d .number) q → n ≡ when t q (d .number) → p ≡ when t (d .next) (d .place) → k ≡ following (d .next) (d .geometry .agcount)
+      → _≡_ {A = Disk} (record { number = n; place = p; next = k; logged = d .logged; geometry = d .geometry; uuid = d .uuid }) (headNoted d q)
+  head-is k q s a b f = rw (a, b, f, s) refl
 
-  pub log-is : (q : ℕ) → q ≡ readLog (d .geometry) (d .uuid) xs → t ≡ smaller (d .number) q → n ≡ when t q (d .number) → p ≡ when t (d .geometry .agcount) (d .place)
+  pub log-is : (xs : List ℕ) (q : ℕ) → q ≡ readLog (d .geometry) (d .uuid) xs → t ≡ smaller (d .number) q → n ≡ when t q (d .number) → p ≡ when t (d .geometry .agcount) (d .place)
       → _≡_ {A = Disk} (record { number = n; place = p; next = d .next; logged = true; geometry = d .geometry; uuid = d .uuid }) (logTaken d xs)
   unfolding logTaken
-  log-is q e s a b = rw (a, b, s, e) refl
+  log-is xs q e s a b = rw (a, b, s, e) refl
+
+module _ (d : Disk) (xs : List ℕ) where
+  pub is-taken : (q : Planned) → q ≡ readGroup (d .geometry) (d .uuid) (d .next) xs → headNoted d (q .number) ≡ headTaken d xs
+  unfolding headTaken
+  is-taken q e = ap (λ (x : Planned). headNoted d (x .number)) e
+
+  pub is-compared : (left : List ℕ) (n : ℕ) → n ≡ comparedNumber (d .geometry) (d .next) left xs → headNoted d n ≡ headCompared d left xs
+  unfolding headCompared
+  is-compared left n e = ap (headNoted d) e
+
+  -- COMPARED WITH WHAT IS LEFT IT IS TAKEN
+  pub compared-taken : headCompared d (headLeft (d .geometry) (d .uuid) (d .next)) xs ≡ headTaken d xs
+  unfolding headCompared headTaken
+  compared-taken = ap (headNoted d) (compared-group (d .geometry) (d .uuid) xs (d .next) ∙ sym (number-read (d .geometry) (d .uuid) (d .next) xs))
 
 -- ---- the end
 

@@ -8,6 +8,7 @@ use Rattle.arith.specs.Choice.{when}
 use Rattle.endian.specs.Answer.{wrongLength}
 use Rattle.seqs.specs.Lists.{choose}
 use Rattle.exact.specs.Read.{readGroup0, readGroup, readLog}
+use Rattle.reader.specs.Places.{comparedNumber}
 use Rattle.disk.specs.declared.Disk.{Disk}
 use Rattle.disk.specs.declared.Verdict.{Verdict}
 
@@ -31,17 +32,25 @@ keptNumber d n = when (smaller (d .number) n) n (d .number)
 abbrev pub keptPlace : Disk → ℕ → ℕ → ℕ
 keptPlace d n p = when (smaller (d .number) n) p (d .place)
 
--- the next group's head, with what group 0's gave
-unfoldable pub headTaken : Disk → List ℕ → Disk
-headTaken d xs =
+-- the next group's head has the number n
+abbrev pub headNoted : Disk → ℕ → Disk
+headNoted d n =
     record {
-      number = keptNumber d (readGroup (d .geometry) (d .uuid) (d .next) xs .number);
-      place = keptPlace d (readGroup (d .geometry) (d .uuid) (d .next) xs .number) (d .next);
+      number = keptNumber d n;
+      place = keptPlace d n (d .next);
       next = following (d .next) (d .geometry .agcount);
       logged = d .logged;
       geometry = d .geometry;
       uuid = d .uuid;
     }
+
+-- the next group's head, with what group 0's gave
+unfoldable pub headTaken : Disk → List ℕ → Disk
+headTaken d xs = headNoted d (readGroup (d .geometry) (d .uuid) (d .next) xs .number)
+
+-- the same, compared with the bytes that the caller made for it
+unfoldable pub headCompared : Disk → List ℕ → List ℕ → Disk
+headCompared d left xs = headNoted d (comparedNumber (d .geometry) (d .next) left xs)
 
 -- the log's first block: its place is behind all groups
 unfoldable pub logTaken : Disk → List ℕ → Disk

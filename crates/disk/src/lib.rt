@@ -1,11 +1,12 @@
 // A whole disk read in parts: a state by value that starts with group 0's head, takes the other heads in rising order and the log's first
 // block, and at the end says accepted, or the smallest refusal and where it stood.
 ghost use mathlib.Core.Path.{_≡_};
-ghost use Rattle.disk.specs.Parts.{smaller, following, started, headTaken, logTaken, verdict};
+ghost use Rattle.disk.specs.Parts.{smaller, following, started, headNoted, headTaken, headCompared, logTaken, verdict};
 use arith::choice::pick_u32;
 use arith::choice::pick_u64;
 use geometry::Geometry;
 use reader::WRONG_LENGTH;
+use reader::compare_head;
 use reader::read_group;
 use reader::read_group0;
 use reader::read_log;
@@ -67,6 +68,23 @@ pub fn start(head: &[u8]) -> Disk
     }
 }
 
+// The next group's head has this number.
+fn head_noted(d: Disk, number: u32) -> Disk
+    ensures { λ r. ⌜ r ≡ headNoted d number ⌝ }
+{
+    let geometry = d.geometry;
+    let uuid = d.uuid;
+    let kept = is_smaller(d.number, number);
+    Disk {
+        number: pick_u32(kept, number, d.number),
+        place: pick_u64(kept, d.next, d.place),
+        next: following_of(d.next, geometry.agcount),
+        logged: d.logged,
+        geometry,
+        uuid,
+    }
+}
+
 // The head of the next group: 29 where all were taken, 31 where group 0 was refused, 27, 30.
 pub fn take_head(d: Disk, head: &[u8]) -> Disk
     ensures { λ r. ⌜ r ≡ headTaken d (now (head .entry)) ⌝ }
@@ -74,15 +92,16 @@ pub fn take_head(d: Disk, head: &[u8]) -> Disk
     let geometry = d.geometry;
     let uuid = d.uuid;
     let read = read_group(geometry, uuid, d.next, head);
-    let kept = is_smaller(d.number, read.number);
-    Disk {
-        number: pick_u32(kept, read.number, d.number),
-        place: pick_u64(kept, d.next, d.place),
-        next: following_of(d.next, geometry.agcount),
-        logged: d.logged,
-        geometry,
-        uuid,
-    }
+    head_noted(d, read.number)
+}
+
+// The head of the next group, compared with the bytes that the caller made for it.
+pub fn take_compared(d: Disk, left: &[u8], head: &[u8]) -> Disk
+    ensures { λ r. ⌜ r ≡ headCompared d (now (left .entry)) (now (head .entry)) ⌝ }
+{
+    let geometry = d.geometry;
+    let number = compare_head(geometry, d.next, left, head);
+    head_noted(d, number)
 }
 
 // The log's first block: 31 where group 0 was refused, 27, 30.

@@ -1,50 +1,70 @@
--- The head that is made for a group is the one that an accepted run leaves there.
+-- The bytes that are made for a place are the ones that an accepted run leaves there, or the place is refused whatever they are.
 -- Assumes nothing.
-use mathlib.Core.Path.{_≡_, refl, ap, _∙_}
+use mathlib.Core.Path.{_≡_, refl, sym, _∙_}
 use mathlib.Core.Bool.{Bool, true, false}
 use mathlib.Core.List.{List}
-use Prim.Native.Nat.{ℕ, _*_, _<_, _≤_}
-use native.Mathlib.Nat.{mul-le-mul}
+use Prim.Native.Nat.{ℕ, _<_}
 use native.Mathlib.Omega.{arith}
-use borrow.Author.Tests.{eqb-true}
-use lib.Dec.{eqb}
+use borrow.Author.Tests.{eqb-true, leb-false}
+use lib.Dec.{eqb, leb}
 use lib.ListN.{length}
-use Rattle.seqs.specs.Lists.{choose}
+use Rattle.arith.specs.Choice.{when}
+use Rattle.refusals.specs.Table.{first}
 use Rattle.structs.specs.Written.{Written}
+use Rattle.structs.proofs.Written.{written-in}
 use Rattle.geometry.specs.declared.Geometry.{Geometry}
-use Rattle.geometry.specs.Log.{preallocOf}
-use Rattle.layout.specs.Bounds.{Bounds}
-use Rattle.plan.specs.declared.Planned.{Planned}
-use Rattle.plan.specs.Plan.{planned}
+use Rattle.answers.specs.Named.{isAnswer}
 use Rattle.totals.specs.Totals.{plansNumber}
-use Rattle.head.specs.Head.{headBytes, headLength, headNumber}
-use Rattle.states.specs.declared.Stated.{Stated}
-use Rattle.states.specs.States.{stated, finished}
-use Rattle.written.specs.Listing.{headWritten, headFinished, headLeft}
-use Rattle.writes.proofs.Accepted.{size-most, head-made, finished-made}
-use Rattle.reader.specs.Places.{leftState}
+use Rattle.head.specs.Head.{headLength}
+use Rattle.written.specs.Listing.{headLeft, logBlock}
+use Rattle.shared.specs.Answers.{headRefusal, logRefusal}
+use Rattle.shared.proofs.Accepted.{bounded, size-most, head-most}
+use Rattle.shared.proofs.Made.{head-fits}
+use Rattle.shared.proofs.Logging.{block-fits}
+use Rattle.exact.specs.Read.{placeTests, groupNumber, readLog}
+use Rattle.reader.specs.Places.{comparedNumber}
 
--- ---- sizes
+-- ---- what is left counts only where a place is there, and long enough, and planned
 
-module _ (g : Geometry) (z : Bounds g) where
-  -- the largest head has 10 blocks of 16,384 bytes
-  pub head-most : preallocOf (g .features) (g .sectsize) (g .blocksize) * g .blocksize ≤ 163840
-  head-most =
-      let m : preallocOf (g .features) (g .sectsize) (g .blocksize) * g .blocksize ≤ 10 * 16384 = mul-le-mul (z .places .head-most) (size-most g z) in
-      omega arith
+module _ (g : Geometry) (past : Bool) (size : ℕ) (left other xs : List ℕ) where
+  same-at : (a b c d : Bool) → isAnswer g ≡ a → past ≡ b → eqb (length xs) size ≡ c → eqb (plansNumber g) 0 ≡ d
+      → (past ≡ false → length xs ≡ size → plansNumber g ≡ 0 → left ≡ other) → first (placeTests g past size left xs) 0 ≡ first (placeTests g past size other xs) 0
+  unfolding placeTests when
+  same-at false b c d e f i j h = rw e refl
+  same-at true true c d e f i j h = rw (e, f) refl
+  same-at true false false d e f i j h = rw (e, f, i) refl
+  same-at true false true false e f i j h = rw (e, f, i, j) refl
+  same-at true false true true e f i j h = rw (h f (eqb-true (length xs) size i) (eqb-true (plansNumber g) 0 j)) refl
 
--- ---- the head
+  pub same-left : (past ≡ false → length xs ≡ size → plansNumber g ≡ 0 → left ≡ other) → first (placeTests g past size left xs) 0 ≡ first (placeTests g past size other xs) 0
+  same-left h = same-at (isAnswer g) past (eqb (length xs) size) (eqb (plansNumber g) 0) refl refl refl refl h
 
-module _ (g : Geometry) (l : length (g .label) ≡ 12) (p : plansNumber g ≡ 0) where
-  -- group 0's with the finished superblock, or another's
-  made-at : {r : ℕ} (u : List ℕ) (k : ℕ) (q : Planned) (s : Stated) (xs ys : List ℕ) (t : Bool) → eqb k 0 ≡ t → k < g .agcount → length xs ≡ headLength g → q ≡ planned g k → s ≡ choose t (finished g u) (stated g u k)
-      → Written (headNumber g (q .plan) (length xs)) (headBytes g (q .plan) u (s .state)) xs r ys → ys ≡ choose t (headFinished g u) (headWritten g u k)
-  unfolding headLength
-  made-at u k q s xs ys true e h n a b w = finished-made g l p u q s xs ys n (a ∙ ap (λ (j : ℕ). planned g j) (eqb-true k 0 e)) b w
-  made-at u k q s xs ys false e h n a b w = head-made g l p u k q s xs ys h n a b w
+module _ (g : Geometry) (u xs : List ℕ) where
+  -- ---- a head
 
-  -- WHAT IS MADE IS WHAT IS LEFT
-  pub made : {r : ℕ} (u : List ℕ) (k : ℕ) (q : Planned) (s : Stated) (xs ys : List ℕ) → k < g .agcount → length xs ≡ headLength g → q ≡ planned g k → s ≡ leftState g u k
-      → Written (headNumber g (q .plan) (length xs)) (headBytes g (q .plan) u (s .state)) xs r ys → ys ≡ headLeft g u k
-  unfolding headLeft leftState
-  made u k q s xs ys h n a b w = made-at u k q s xs ys (eqb k 0) refl h n a b w
+  -- compared with what is left
+  pub compared-group : (k : ℕ) → comparedNumber g k (headLeft g u k) xs ≡ groupNumber g u k xs
+  unfolding comparedNumber groupNumber
+  compared-group k = refl
+
+  pub head-compared : {r : ℕ} (k : ℕ) (ws ys : List ℕ) → length ws ≡ length xs → Written (headRefusal g k (length ws)) (headLeft g u k) ws r ys → comparedNumber g k ys xs ≡ groupNumber g u k xs
+  unfolding comparedNumber groupNumber
+  head-compared k ws ys e w =
+      same-left g (leb (g .agcount) k) (headLength g) ys (headLeft g u k) xs
+      (λ b n p. written-in w (sym (head-fits g k (length ws) p (e ∙ n) (leb-false (g .agcount) k b))))
+
+  pub head-too-long : (k : ℕ) (any : List ℕ) → length (g .label) ≡ 12 → 163840 < length xs → comparedNumber g k any xs ≡ groupNumber g u k xs
+  unfolding comparedNumber groupNumber headLength
+  head-too-long k any l h =
+      same-left g (leb (g .agcount) k) (headLength g) any (headLeft g u k) xs
+      (λ b n p. absurd (let m = head-most g (bounded g l p) in omega arith))
+
+  -- ---- the log's first block
+
+  pub log-compared : {r : ℕ} (ws ys : List ℕ) → length ws ≡ length xs → Written (logRefusal g (length ws)) (logBlock g u) ws r ys → first (placeTests g false (g .blocksize) ys xs) 0 ≡ readLog g u xs
+  unfolding readLog
+  log-compared ws ys e w = same-left g false (g .blocksize) ys (logBlock g u) xs (λ b n p. written-in w (sym (block-fits g (length ws) p (e ∙ n))))
+
+  pub log-too-long : (any : List ℕ) → length (g .label) ≡ 12 → 16384 < length xs → first (placeTests g false (g .blocksize) any xs) 0 ≡ readLog g u xs
+  unfolding readLog
+  log-too-long any l h = same-left g false (g .blocksize) any (logBlock g u) xs (λ b n p. absurd (let m = size-most g (bounded g l p) in omega arith))

@@ -1,18 +1,16 @@
 // The reader: whether an accepted run leaves the bytes that stand in a place. What the bytes name is read, the place's bytes are made anew
 // from it, and the two are compared.
 ghost use mathlib.Core.Path.{_≡_};
-ghost use mathlib.Core.Bool.{true};
-ghost use Prim.Native.Nat.{_<_};
-ghost use lib.ListN.{length};
 ghost use Rattle.refusals.specs.Table.{first};
-ghost use Rattle.answers.specs.Named.{isAnswer};
 ghost use Rattle.plan.specs.Plan.{refusedPlan};
-ghost use Rattle.exact.specs.Read.{notFound, groupNumber, readGroup0, readGroup, readLog};
-ghost use Rattle.reader.specs.Places.{headTests};
+ghost use Rattle.exact.specs.Read.{notFound, placeTests, readGroup0, readGroup, readLog};
+ghost use Rattle.reader.specs.Places.{comparedNumber};
 
 pub mod heads; // heads.rt: a head, made and compared
 pub mod logs; // logs.rt: the log's first block, made and compared
 
+use crate::heads::group_number;
+use crate::logs::log_number;
 use answers::is_answer;
 use exact::Found;
 use geometry::Geometry;
@@ -23,6 +21,8 @@ use plan::AgPlan;
 use plan::Agfl;
 use plan::Planned;
 use plan::plan_ag;
+use sameas::same_bytes;
+use shared::head_length;
 use summary::plans_number;
 
 // The refusals: a length that is not the place's, a group that is not there, bytes that no accepted run leaves here, and a geometry that is
@@ -69,35 +69,35 @@ fn not_found(n: u32) -> Found
     }
 }
 
-// A group that is there, of an answer: 27, 30, or 0.
-fn head_number(g: Geometry, uuid: [u8; 16], k: u64, head: &[u8]) -> u32
-    requires { ⌜ (isAnswer g ≡ true) × (k < g .agcount) ⌝ }
-    ensures { λ r. ⌜ r ≡ first (headTests g uuid k (now (head .entry))) 0 ⌝ }
+// The number of a place: 31, 29 where it is past the last, 27 for another length, 30 unless it holds what is left there, or 0.
+pub(crate) fn place_number(g: Geometry, past: bool, size: usize, left: &[u8], bytes: &[u8]) -> u32
+    ensures { λ r. ⌜ r ≡ first (placeTests g past size (now (left .entry)) (now (bytes .entry))) 0 ⌝ }
 {
-    let n = heads::head_bytes(g);
-    if head.len() != n {
+    if !is_answer(g) {
+        return NO_ANSWER;
+    }
+    if past {
+        return NO_GROUP;
+    }
+    if bytes.len() != size {
         return WRONG_LENGTH;
     }
     if plans_number(g) != 0 {
         return NOT_LEFT;
     }
-    if heads::is_head(g, uuid, k, n, head) {
+    if same_bytes(bytes, left) {
         return 0;
     }
     NOT_LEFT
 }
 
-// Any group: 31, 29, 27, 30, or 0.
-fn group_number(g: Geometry, uuid: [u8; 16], k: u64, head: &[u8]) -> u32
-    ensures { λ r. ⌜ r ≡ groupNumber g uuid k (now (head .entry)) ⌝ }
+// The number of group agno's head, whose left bytes the caller made: 31, 29, 27, 30, or 0.
+pub fn compare_head(g: Geometry, agno: u64, left: &[u8], head: &[u8]) -> u32
+    ensures { λ r. ⌜ r ≡ comparedNumber g agno (now (left .entry)) (now (head .entry)) ⌝ }
 {
-    if !is_answer(g) {
-        return NO_ANSWER;
-    }
-    if g.agcount <= k {
-        return NO_GROUP;
-    }
-    head_number(g, uuid, k, head)
+    let f = g.features;
+    let size = head_length(f, g.sectsize, g.blocksize);
+    place_number(g, g.agcount <= agno, size, left, head)
 }
 
 // The head of group 0: its geometry, UUID and plan. 27 under 512 bytes; 30 where the superblock names no geometry that the geometry step
@@ -114,7 +114,7 @@ pub fn read_group0(head: &[u8]) -> Found
     }
     let geometry = named.geometry;
     let uuid = uuid_of(head);
-    let n = head_number(geometry, uuid, 0, head);
+    let n = group_number(geometry, uuid, 0, head);
     if n != 0 {
         return not_found(n);
     }
@@ -146,18 +146,5 @@ pub fn read_group(g: Geometry, uuid: [u8; 16], agno: u64, head: &[u8]) -> Planne
 pub fn read_log(g: Geometry, uuid: [u8; 16], block: &[u8]) -> u32
     ensures { λ r. ⌜ r ≡ readLog g uuid (now (block .entry)) ⌝ }
 {
-    if !is_answer(g) {
-        return NO_ANSWER;
-    }
-    if block.len() != g.blocksize as usize {
-        return WRONG_LENGTH;
-    }
-    let plans = plans_number(g);
-    if plans != 0 {
-        return NOT_LEFT;
-    }
-    if logs::is_log(g, uuid, block) {
-        return 0;
-    }
-    NOT_LEFT
+    log_number(g, uuid, block)
 }

@@ -3,18 +3,17 @@
 use mathlib.Core.Path.{_≡_, refl, sym, ap, _∙_}
 use mathlib.Core.Bool.{Bool, true, false}
 use mathlib.Core.List.{List, _++_}
-use Prim.Native.Nat.{ℕ, _+_, _*_, _-_, _/_, _≤_, _^_, max}
+use Prim.Native.Nat.{ℕ, _+_, _*_, _-_, _≤_, _^_, max}
 use native.Mathlib.Omega.{arith}
 use borrow.Author.Tests.{eq-eqb, ne-eqb, eqb-true, le-leb}
 use borrow.Rule.Slice.PartMut.{putMid}
 use lib.Dec.{leb, ltb, eqb}
 use lib.ListN.{length, take, drop, replicate, length-replicate, replicate-append-replicate}
-use lib.Seq.{drop-at, take-at, length-take-le}
-use lib.Pow.{pow-add, pow-mono}
+use lib.Seq.{drop-at}
+use lib.Pow.{pow-add}
 use Rattle.arith.specs.Choice.{when}
 use Rattle.endian.specs.Answer.{Put}
 use Rattle.endian.specs.Bytes.{patch}
-use Rattle.endian.specs.Fields.{write}
 use Rattle.endian.proofs.Laws.{part-back, patch-split, put-in}
 use Rattle.endian.proofs.Fields.{write-length}
 use Rattle.structs.specs.Written.{Written, require}
@@ -29,7 +28,7 @@ use Rattle.head.specs.Head.{zeros}
 use Rattle.head.proofs.Lending.{part-length}
 use Rattle.written.specs.Listing.{logUnit, firstRecord, logBlock}
 use Rattle.shared.specs.Answers.{logRefusal}
-use Rattle.shared.proofs.Accepted.{or-second, or-zero, bounded, size-least, size-most}
+use Rattle.shared.proofs.Accepted.{or-second, or-zero, size-least, size-most}
 
 -- ---- the number
 
