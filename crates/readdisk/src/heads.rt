@@ -59,7 +59,7 @@ fn take_next(d: Disk, work: &mut [u8], head: &[u8]) -> Disk
     if head_left(g, uuid, d.next, work) != 0 {
         return disk::take_head(d, head);
     }
-    disk::take_head(d, head)
+    disk::take_compared(d, work, head)
 }
 
 // What group 0's head gives.
