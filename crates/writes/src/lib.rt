@@ -33,7 +33,7 @@ use summary::plans_number;
 pub const NO_CHUNK: u32 = 29;
 
 // The largest head: 10 blocks of 16,384 bytes.
-pub const LARGEST_HEAD: usize = 163840;
+pub const LARGEST_HEAD: usize = shared::LARGEST_HEAD;
 
 // A count of chunks or bytes; a refusal has 0 beside its number.
 pub struct Counted {
