@@ -1,63 +1,39 @@
 -- What an accepted run gives: its numbers, the room that its parts need, and that every part is accepted.
 -- Assumes nothing.
-use mathlib.Core.Path.{_≡_, refl, sym, ap, ap₂, _∙_}
+use mathlib.Core.Path.{_≡_, refl, sym, ap, _∙_}
 use mathlib.Core.Bool.{Bool, true, false}
-use mathlib.Core.List.{List, [], _∷_, _++_}
-use Prim.Native.Nat.{ℕ, zero, suc, _+_, _*_, _-_, _<_, _≤_, _^_, max}
+use mathlib.Core.List.{List}
+use Prim.Native.Nat.{ℕ, _+_, _*_, _-_, _<_, _≤_, _^_}
 use native.Mathlib.Omega.{arith}
 use native.Mathlib.Nat.{mul-le-mul, mul-le-mul-right}
-use borrow.Author.Tests.{eq-eqb, ne-eqb, eqb-true, eqb-false, leb-true, leb-false, le-leb, lt-leb}
-use lib.Dec.{leb, ltb, eqb}
-use lib.ListN.{length, replicate, length-replicate}
-use lib.Pow.{pow-mono, pow-add}
+use borrow.Author.Tests.{eq-eqb, ne-eqb, eqb-true, leb-true, leb-false, le-leb, lt-leb}
+use lib.Dec.{leb, eqb}
+use lib.ListN.{length}
+use lib.Pow.{pow-mono}
 use Rattle.arith.specs.Choice.{when}
 use Rattle.structs.specs.Written.{Written, require}
 use Rattle.structs.proofs.Written.{passed, written-in}
-use Rattle.seqs.specs.Lists.{choose}
 use Rattle.params.specs.declared.Timestamp.{Timestamp}
 use Rattle.inode.specs.Time.{timeInside}
 use Rattle.geometry.specs.declared.Geometry.{Geometry}
-use Rattle.answers.specs.Named.{isAnswer}
 use Rattle.layout.specs.Bounds.{Bounds}
-use Rattle.layout.specs.Places.{groupBlocks, chunkOf}
-use Rattle.layout.proofs.Bounding.{answer-bounds}
 use Rattle.layout.proofs.Inside.{blocks-least, fitting}
 use Rattle.places.specs.Answers.{rootChunk}
-use Rattle.plan.specs.declared.Planned.{Planned}
-use Rattle.plan.specs.Plan.{planned}
-use Rattle.sameplan.proofs.Planners.{planned-is-plan}
 use Rattle.totals.specs.Totals.{plansNumber}
-use Rattle.totals.proofs.Whole.{all-planned}
-use Rattle.head.specs.Head.{headBytes, headLength, headNumber}
-use Rattle.head.proofs.Ready.{head-accepted}
-use Rattle.sb.specs.declared.SbState.{SbState}
-use Rattle.states.specs.declared.Stated.{Stated}
-use Rattle.states.specs.States.{stateOf, finishedState, stateNumber, stated, finished}
 use Rattle.rootchunk.specs.Chunk.{chunkNumber, chunkBytes, ChunkMade}
 use Rattle.rootchunk.specs.Chunk as chunk
 use Rattle.rootchunk.proofs.Chunks.{a-place, first-group, whole-chunk, chunk-in}
 use Rattle.run.specs.declared.Run.{Run}
-use Rattle.run.specs.Runs.{orNext, timeRefusal}
-use Rattle.written.specs.Listing.{headBlocks, headerBlocks, chunkBlocks, headWritten, headFinished, chunkCount}
-use Rattle.written.proofs.Whole.{group-planned}
+use Rattle.run.specs.Runs.{timeRefusal}
+use Rattle.head.specs.Head.{headLength}
+use Rattle.written.specs.Listing.{headBlocks, chunkBlocks, chunkCount, logBlock, headWritten, headFinished, headLeft}
+use Rattle.shared.specs.Answers.{headRefusal, logRefusal}
+use Rattle.shared.proofs.Accepted.{or-second, or-zero, answered, bounded, size-least}
+use Rattle.shared.proofs.Made.{head-fits}
+use Rattle.shared.proofs.Logging.{block-fits}
 use Rattle.writes.specs.declared.Counted.{Counted}
 use Rattle.writes.specs.declared.lengths.Sizes.{Sizes}
 use Rattle.writes.specs.Writing.{formatNumber, placeNumber, writeNumber, chunkLength, partLength, counted, Sized, Ready}
-
--- ---- the first of two numbers that isn't 0
-
-pub or-first : (a b n : ℕ) → n ≡ a → (n ≡ 0 → ⊥) → n ≡ orNext a b
-or-first a b n e h = e ∙ rw (ne-eqb a 0 (λ z. h (e ∙ z))) refl
-
-pub or-second : (a b n : ℕ) → a ≡ 0 → n ≡ b → n ≡ orNext a b
-or-second a b n z e = e ∙ rw z refl
-
-pick-zero : (t : Bool) (a b : ℕ) → eqb a 0 ≡ t → choose t b a ≡ 0 → (a ≡ 0) × (b ≡ 0)
-pick-zero true a b e z = (eqb-true a 0 e, z)
-pick-zero false a b e z = absurd (eqb-false a 0 e z)
-
-pub or-zero : (a b : ℕ) → orNext a b ≡ 0 → (a ≡ 0) × (b ≡ 0)
-or-zero a b z = pick-zero (eqb a 0) a b refl z
 
 -- ---- the numbers of a run
 
@@ -110,43 +86,18 @@ module _ (run : Run) where
 -- ---- the parts of an accepted geometry
 
 module _ (g : Geometry) (l : length (g .label) ≡ 12) (p : plansNumber g ≡ 0) where
-  pub answered : isAnswer g ≡ true
-  answered = all-planned g l p .0
-
-  pub bounded : Bounds g
-  bounded = answer-bounds g l answered
-
-  -- a head
-  is-accepted : (k len : ℕ) → k < g .agcount → len ≡ headBlocks g * g .blocksize → headNumber g (planned g k .plan) len ≡ 0
+  pub group-made : {r : ℕ} (uuid : List ℕ) (k : ℕ) (xs ys : List ℕ) → k < g .agcount → length xs ≡ headBlocks g * g .blocksize
+      → Written (headRefusal g k (length xs)) (headWritten g uuid k) xs r ys → ys ≡ headWritten g uuid k
   unfolding headLength
-  is-accepted k len h e = head-accepted g (planned g k .plan) len (planned-is-plan g k (group-planned g l p k h)) e
+  group-made uuid k xs ys h e w = written-in w (sym (head-fits g k (length xs) p e h))
 
-  state-there : (uuid : List ℕ) (k : ℕ) → k < g .agcount → stated g uuid k .state ≡ stateOf g uuid k
-  unfolding stated stateNumber when
-  state-there uuid k h = rw (p, lt-leb (g .agcount) k h) refl
+  pub finished-made : {r : ℕ} (uuid xs ys : List ℕ) → length xs ≡ headBlocks g * g .blocksize
+      → Written (headRefusal g 0 (length xs)) (headLeft g uuid 0) xs r ys → ys ≡ headFinished g uuid
+  unfolding headLength headLeft
+  finished-made uuid xs ys e w = let c = bounded g l p .groups .count-least in written-in w (sym (head-fits g 0 (length xs) p e (omega arith)))
 
-  finished-there : (uuid : List ℕ) → finished g uuid .state ≡ finishedState g uuid
-  unfolding finished
-  finished-there uuid = rw p refl
-
-  module _ {r : ℕ} (uuid : List ℕ) (k : ℕ) (q : Planned) (s : Stated) (t : SbState) (xs ys : List ℕ) where
-    with-state : k < g .agcount → length xs ≡ headBlocks g * g .blocksize → q ≡ planned g k → s .state ≡ t
-        → Written (headNumber g (q .plan) (length xs)) (headBytes g (q .plan) uuid (s .state)) xs r ys → ys ≡ headBytes g (planned g k .plan) uuid t
-    with-state h e a b w =
-        written-in w (ap (λ (x : Planned). headNumber g (x .plan) (length xs)) a ∙ is-accepted k (length xs) h e)
-        ∙ ap₂ (λ (x : Planned) (y : SbState). headBytes g (x .plan) uuid y) a b
-
-  pub head-made : {r : ℕ} (uuid : List ℕ) (k : ℕ) (q : Planned) (s : Stated) (xs ys : List ℕ) → k < g .agcount → length xs ≡ headBlocks g * g .blocksize → q ≡ planned g k → s ≡ stated g uuid k
-      → Written (headNumber g (q .plan) (length xs)) (headBytes g (q .plan) uuid (s .state)) xs r ys → ys ≡ headWritten g uuid k
-  unfolding headWritten
-  head-made uuid k q s xs ys h e a b w = with-state uuid k q s (stateOf g uuid k) xs ys h e a (ap (λ (x : Stated). x .state) b ∙ state-there uuid k h) w
-
-  pub finished-made : {r : ℕ} (uuid : List ℕ) (q : Planned) (s : Stated) (xs ys : List ℕ) → length xs ≡ headBlocks g * g .blocksize → q ≡ planned g 0 → s ≡ finished g uuid
-      → Written (headNumber g (q .plan) (length xs)) (headBytes g (q .plan) uuid (s .state)) xs r ys → ys ≡ headFinished g uuid
-  unfolding headFinished
-  finished-made uuid q s xs ys e a b w =
-      let c = bounded .groups .count-least in
-      with-state uuid 0 q s (finishedState g uuid) xs ys (omega arith) e a (ap (λ (x : Stated). x .state) b ∙ finished-there uuid) w
+  pub log-made : {r : ℕ} (uuid xs ys : List ℕ) → length xs ≡ g .blocksize → Written (logRefusal g (length xs)) (logBlock g uuid) xs r ys → ys ≡ logBlock g uuid
+  log-made uuid xs ys e w = written-in w (sym (block-fits g (length xs) p e))
 
   -- the root chunk
   stored : (time : Timestamp) → timeRefusal g time ≡ 0 → timeInside (g .features .bigtime) (time .secs) (time .nsecs) ≡ true
@@ -155,11 +106,11 @@ module _ (g : Geometry) (l : length (g .label) ≡ 12) (p : plansNumber g ≡ 0)
 
   chunk-there : rootChunk g + chunkBlocks g ≤ g .agsize
   unfolding rootChunk
-  chunk-there = let b = bounded .places .chunk-room in let a = bounded .places .chunk-inside in omega arith
+  chunk-there = let z = bounded g l p in let b = z .places .chunk-room in let a = z .places .chunk-inside in omega arith
 
   root-accepted : (time : Timestamp) (len : ℕ) → timeRefusal g time ≡ 0 → len ≡ chunkBlocks g * g .blocksize → chunkNumber g (rootChunk g) time len ≡ 0
   root-accepted time len z e =
-      sym (a-place g (rootChunk g) time len true (chunkBlocks g) (sym (le-leb (rootChunk g + chunkBlocks g) (g .agsize) chunk-there)) refl (first-group g bounded) answered (stored time z) e refl)
+      sym (a-place g (rootChunk g) time len true (chunkBlocks g) (sym (le-leb (rootChunk g + chunkBlocks g) (g .agsize) chunk-there)) refl (first-group g (bounded g l p)) (answered g l p) (stored time z) e refl)
 
   pub root-made : {number state next : ℕ} (at : ℕ) (uuid : List ℕ) (time : Timestamp) (seed : ℕ) (xs ys : List ℕ) → timeRefusal g time ≡ 0 → length xs ≡ chunkBlocks g * g .blocksize
       → at ≡ rootChunk g → ChunkMade (chunkNumber g at time (length xs)) next (chunkBytes g at uuid time seed) xs number state ys
@@ -171,12 +122,6 @@ module _ (g : Geometry) (l : length (g .label) ≡ 12) (p : plansNumber g ≡ 0)
 -- ---- room
 
 module _ (g : Geometry) (z : Bounds g) where
-  pub size-least : 1024 ≤ g .blocksize
-  size-least = let w : 2 ^ 10 ≤ 2 ^ g .blocklog = pow-mono {i = 10} (z .sizes .block-least) in let e = z .sizes .block-power in omega arith
-
-  pub size-most : g .blocksize ≤ 16384
-  size-most = let w : 2 ^ g .blocklog ≤ 2 ^ 14 = pow-mono {j = 14} (z .sizes .block-most) in let e = z .sizes .block-power in omega arith
-
   pub count-fits : g .agcount + 3 < 2 ^ 64
   count-fits = let c = z .groups .count-most in omega arith
 
@@ -185,7 +130,7 @@ module _ (g : Geometry) (z : Bounds g) where
   group-room k b h few =
       let f = fitting g z k b h (let m = blocks-least g z k in omega arith) in
       let d = f .before-disk in
-      let s = size-least in
+      let s = size-least g z in
       let v = mul-le-mul (let u : k * g .agsize + b + 1 ≤ g .dblocks = omega arith in u) s in
       let m = z .groups .disk-most in
       let w = mul-le-mul-right (g .blocksize) (let u : k * g .agsize + b ≤ g .dblocks = omega arith in u) in

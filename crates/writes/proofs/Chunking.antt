@@ -1,6 +1,6 @@
 -- The records of each chunk, one after the other over a buffer of the chunk's length.
 -- Assumes nothing.
-use mathlib.Core.Path.{_≡_, refl, sym, ap, ap₂, _∙_}
+use mathlib.Core.Path.{_≡_, refl, sym, ap, _∙_}
 use mathlib.Core.List.{List, [], _∷_, _++_, append-assoc, append-nil}
 use Prim.Native.Nat.{ℕ, _+_, _*_, _-_, _/_, _<_, _≤_, _^_, min}
 use native.Mathlib.Omega.{arith}
@@ -20,7 +20,8 @@ use Rattle.records.specs.Records.{WZ, WB, FL, recordBytes, listBytes, blocks}
 use Rattle.run.specs.declared.Run.{Run}
 use Rattle.written.specs.Listing.{blocksEnd, tailStart, logOffset, logBlock, headBlocks, headerBlocks, chunkBlocks, headWritten, headFinished, opening, headRecords, chunkRecords, closing}
 use Rattle.writes.specs.Writing.{recordHead, blocksLength, zeroHeads}
-use Rattle.writes.proofs.Accepted.{size-least, size-most, group-room, group-blocks}
+use Rattle.shared.proofs.Accepted.{size-least, size-most}
+use Rattle.writes.proofs.Accepted.{group-room, group-blocks}
 use Rattle.writes.proofs.Splitting.{zeros-head, flush-bytes, head-length, zeros-length, block-length, list-append, blocks-length}
 
 -- the header blocks are of the head

@@ -1,6 +1,5 @@
 pub mod Splitting
 pub mod Accepted
 pub mod Which
-pub mod Logging
 pub mod Chunking
 pub mod Parts

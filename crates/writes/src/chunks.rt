@@ -9,9 +9,6 @@ ghost use Rattle.records.specs.Records.{listBytes};
 ghost use Rattle.rootchunk.specs.Chunk.{chunkBytes};
 ghost use Rattle.written.specs.Listing.{headBlocks, headerBlocks, chunkBlocks, logBlock, headWritten, headFinished, opening, headRecords, chunkRecords, closing};
 ghost use Rattle.writes.specs.Writing.{Ready, blocksLength, zeroHeads};
-use crate::blocks::finished_head;
-use crate::blocks::group_head;
-use crate::blocks::log_block;
 use crate::blocks::root_blocks;
 use crate::lengths::Sizes;
 use crate::lengths::blocks_length;
@@ -25,6 +22,9 @@ use arith::numbers::minus;
 use arith::numbers::round_down;
 use counts::inodes::root_chunk_of;
 use run::Run;
+use shared::head_left;
+use shared::head_written;
+use shared::log_block;
 
 // So much is zeroed at each end of the device.
 const WHACK_SIZE: u64 = 131072;
@@ -55,7 +55,8 @@ pub(crate) fn put_opening(run: Run, s: Sizes, device: u64, work: &mut [u8], buf:
     ensures { λ _. ⌜ (now (buf .exit) ≡ listBytes (opening run device)) × (now (work .exit) ≡ logBlock (run .geometry) (run .uuid)) ⌝ }
 {
     let g = run.geometry;
-    log_block(run, s, work);
+    let uuid = run.uuid;
+    log_block(g, uuid, work);
     let at = byte_of(s.block, g.agsize, g.logagno, g.log_agbno);
     put_block(at, work, 54, buf);
     put_zeros(s.block, device, at, g.logblocks * (s.block as u64), buf);
@@ -67,7 +68,8 @@ pub(crate) fn put_group(run: Run, s: Sizes, k: u64, work: &mut [u8], buf: &mut [
     ensures { λ _. ⌜ (now (buf .exit) ≡ listBytes (headRecords run k)) × (now (work .exit) ≡ headWritten (run .geometry) (run .uuid) k) ⌝ }
 {
     let g = run.geometry;
-    group_head(run, s, k, work);
+    let uuid = run.uuid;
+    head_written(g, uuid, k, work);
     let at = byte_of(s.block, g.agsize, k, 0);
     put_blocks(s.block, at, s.head, work, 0, buf);
 }
@@ -90,7 +92,9 @@ pub(crate) fn put_closing(run: Run, s: Sizes, work: &mut [u8], buf: &mut [u8])
     requires { ⌜ (Ready run s) × (length (now work) ≡ headBlocks (run .geometry) * run .geometry .blocksize) × (length (now buf) ≡ 2 + blocksLength (run .geometry .blocksize) (headerBlocks (run .geometry)) + 2) ⌝ }
     ensures { λ _. ⌜ (now (buf .exit) ≡ listBytes (closing run)) × (now (work .exit) ≡ headFinished (run .geometry) (run .uuid)) ⌝ }
 {
-    finished_head(run, s, work);
+    let g = run.geometry;
+    let uuid = run.uuid;
+    head_left(g, uuid, 0, work);
     let end = 2 + blocks_length(s.block, s.header);
     endian::put16(buf, end, FLUSH);
     put_blocks(s.block, 0, s.header, work, 2, buf);

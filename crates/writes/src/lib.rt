@@ -13,7 +13,7 @@ ghost use Rattle.writes.specs.Writing.{formatNumber, placeNumber, writeN
 
 pub mod lengths; // lengths.rt: blocks of a head, of its headers and of the root chunk
 pub mod split; // split.rt: one record, and a write that is split into its blocks
-pub mod blocks; // blocks.rt: the log's first block, heads and root chunk
+pub mod blocks; // blocks.rt: the root chunk
 pub mod chunks; // chunks.rt: the records of each chunk
 
 use crate::chunks::put_closing;
@@ -33,7 +33,7 @@ use summary::plans_number;
 pub const NO_CHUNK: u32 = 29;
 
 // The largest head: 10 blocks of 16,384 bytes.
-pub const LARGEST_HEAD: usize = 163840;
+pub const LARGEST_HEAD: usize = shared::LARGEST_HEAD;
 
 // A count of chunks or bytes; a refusal has 0 beside its number.
 pub struct Counted {

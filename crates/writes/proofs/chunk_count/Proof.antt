@@ -1,6 +1,7 @@
 -- `writes::chunk_count` meets its contract.
 -- Assumes nothing.
-use Rattle.writes.proofs.Accepted.{format-zero, bounded, count-fits, count-refused, count-given}
+use Rattle.shared.proofs.Accepted.{bounded}
+use Rattle.writes.proofs.Accepted.{format-zero, count-fits, count-refused, count-given}
 use Rattle.writes.specs.Writing.{countAnswer, counted}
 use Rattle.written.specs.Listing.{chunkCount}
 use Prim.Native.Nat.{ℕ}

@@ -7,7 +7,7 @@ use Rattle.endian.specs.Bytes.{patch}
 use Prim.Native.Nat.{ℕ}
 use Rattle.records.specs.Records.{Record, listBytes}
 use mathlib.Core.List.{List}
-use mathlib.Core.Path.{_≡_, sym, ap, _∙_}
+use mathlib.Core.Path.{sym, ap, _∙_}
 use borrow.Author.Needs.{needs}
 use Rattle.writes.proofs.fill.Statement.{statement}
 use Rattle.writes.proofs.fill.Tie as tie

@@ -1,10 +1,11 @@
 -- `writes::fill_root` meets its contract.
 -- Assumes nothing.
-use Rattle.writes.proofs.Accepted.{bounded, root-work}
+use Rattle.shared.proofs.Accepted.{bounded}
+use Rattle.writes.proofs.Accepted.{root-work}
 use Rattle.writes.proofs.Parts.{lent-part}
 use Rattle.head.proofs.Lending.{part-length}
 use Prim.Native.Nat.{_*_, _≤_}
-use mathlib.Core.Path.{_≡_, ap₂, sym, _∙_}
+use mathlib.Core.Path.{ap₂, _∙_}
 use native.Mathlib.Omega.{arith}
 use borrow.Author.Needs.{needs}
 use Rattle.writes.proofs.fill_root.Statement.{statement}

@@ -1,6 +1,6 @@
 -- `writes::format_number` meets its contract.
 -- Assumes nothing.
-use Rattle.writes.proofs.Accepted.{or-first, or-second}
+use Rattle.shared.proofs.Accepted.{or-first, or-second}
 use Rattle.writes.specs.Writing.{formatNumber}
 use Rattle.run.specs.Runs.{timeRefusal}
 use mathlib.Core.Path.{sym, _∙_}

@@ -1,8 +1,8 @@
 -- `writes::place_number` meets its contract.
 -- Assumes nothing.
-use Rattle.writes.proofs.Accepted.{or-first, place-there, place-none}
+use Rattle.shared.proofs.Accepted.{or-first}
+use Rattle.writes.proofs.Accepted.{place-there, place-none}
 use Rattle.writes.specs.Writing.{placeNumber}
-use Prim.Native.Nat.{_-_, _<_, _≤_}
 use mathlib.Core.Path.{sym, _∙_}
 use borrow.Author.Needs.{needs}
 use Rattle.writes.proofs.place_number.Statement.{statement}

@@ -1,6 +1,7 @@
 -- `writes::write_number` meets its contract.
 -- Assumes nothing.
-use Rattle.writes.proofs.Accepted.{or-first, place-zero, write-fits, write-other, write-narrow}
+use Rattle.shared.proofs.Accepted.{or-first}
+use Rattle.writes.proofs.Accepted.{place-zero, write-fits, write-other, write-narrow}
 use Rattle.writes.specs.Writing.{writeNumber}
 use mathlib.Core.Path.{sym, _∙_}
 use native.Mathlib.Omega.{arith}

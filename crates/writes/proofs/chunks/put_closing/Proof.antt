@@ -1,5 +1,6 @@
 -- `writes::chunks::put_closing` meets its contract.
 -- Assumes nothing.
+use Rattle.writes.proofs.Accepted.{finished-made}
 use Rattle.writes.proofs.Chunking.{closing-room, header-within, closing-done}
 use Rattle.writes.proofs.Which.{blocks-most}
 use Prim.Native.Nat.{ℕ, _+_}
@@ -10,13 +11,18 @@ use Rattle.writes.proofs.chunks.put_closing.Statement.{statement}
 use Rattle.writes.proofs.chunks.put_closing.Tie as tie
 
 add-end : tie.Need-add-end
-add-end c = let s = c .before .before .before .before .before .before .before in let z = s .pre .0 .sized in omega (arith, c .blocks-length .ensures, blocks-most (s .args .s .block) (s .args .s .header) (z .block-most) (let h = z .header-most in omega arith))
+add-end c = let s = c .before .before .before .before .before .before .before .before .before in let z = s .pre .0 .sized in omega (arith, c .blocks-length .ensures, blocks-most (s .args .s .block) (s .args .s .header) (z .block-most) (let h = z .header-most in omega arith))
 
 put-blocks-requires : tie.Need-put-blocks-requires
-put-blocks-requires c κs = let s = c .before .before .before .before .before .before .before .before .before .before .before .before .before in let z = s .pre .0 .sized in let l = z .block-least in closing-room (s .args .s .block) (s .args .s .header) (s .args .s .head) _ _ (omega arith) (z .block-most) (z .header-most) (rw (z .header-is, z .head-is) (header-within (s .args .run .geometry))) (rw (z .head-is, z .block-is) (c .before .before .before .before .before .before .before .before .before .finished-head .kept .1 .1 .0 ∙ s .pre .1)) (rw (z .header-is, z .block-is) (c .before .before .before .before .put16 .kept .0 ∙ s .pre .2))
+put-blocks-requires c κs = let s = c .before .before .before .before .before .before .before .before .before .before .before .before .before .before .before in let z = s .pre .0 .sized in let l = z .block-least in closing-room (s .args .s .block) (s .args .s .header) (s .args .s .head) _ _ (omega arith) (z .block-most) (z .header-most) (rw (z .header-is, z .head-is) (header-within (s .args .run .geometry))) (rw (z .head-is, z .block-is) (c .before .before .before .before .before .before .before .before .before .head-left .kept .1 .1 .1 .0 ∙ s .pre .1)) (rw (z .header-is, z .block-is) (c .before .before .before .before .put16 .kept .0 ∙ s .pre .2))
 
 returns : tie.Need-returns
-returns c = let s = c .before .before .before .before .before .before .before .before .before .before .before .before .before .before .before .before .before .before .before .before in let z = s .pre .0 .sized in (closing-done (s .args .run) _ _ _ _ _ _ _ _ (z .block-is) (z .header-is) (ap (λ (x : ℕ). 2 + x) (c .before .before .before .before .before .before .before .before .before .before .before .before .before .blocks-length .ensures)) (c .before .before .before .before .before .before .before .before .before .before .before .before .before .before .before .before .finished-head .ensures) (c .before .before .before .before .before .before .before .before .before .before .before .before .before .before .before .before .finished-head .kept .1 .1 .0 ∙ s .pre .1) (s .pre .2) (c .before .before .before .before .before .before .before .before .before .before .before .put16 .ensures) (c .before .before .before .before .before .before .put-blocks .ensures) (c .before .before .put162 .ensures), c .before .before .before .before .before .before .before .before .before .before .before .before .before .before .before .before .finished-head .ensures)
+returns c =
+    let s = c .before .before .before .before .before .before .before .before .before .before .before .before .before .before .before .before .before .before .before .before .before .before in
+    let z = s .pre .0 .sized in
+    let w = c .before .before .before .before .before .before .before .before .before .before .before .before .before .before .before .before .head-left in
+    let m = finished-made (s .args .run .geometry) (s .pre .0 .label) (s .pre .0 .plans) _ _ _ (s .pre .1) (w .ensures) in
+    (closing-done (s .args .run) _ _ _ _ _ _ _ _ (z .block-is) (z .header-is) (ap (λ (x : ℕ). 2 + x) (c .before .before .before .before .before .before .before .before .before .before .before .before .before .blocks-length .ensures)) m (w .kept .1 .1 .1 .0 ∙ s .pre .1) (s .pre .2) (c .before .before .before .before .before .before .before .before .before .before .before .put16 .ensures) (c .before .before .before .before .before .before .put-blocks .ensures) (c .before .before .put162 .ensures), m)
 
 pub put-closing-spec : {M : Type 1} → statement M
 put-closing-spec =

@@ -1,9 +1,10 @@
 -- `writes::chunks::put_root` meets its contract.
 -- Assumes nothing.
-use Rattle.writes.proofs.Accepted.{bounded, group-room}
+use Rattle.shared.proofs.Accepted.{bounded}
+use Rattle.writes.proofs.Accepted.{group-room}
 use Rattle.writes.proofs.Chunking.{blocks-room, root-few, root-done}
 use Rattle.places.specs.Answers.{rootChunk}
-use mathlib.Core.Path.{refl, sym, ap, _∙_}
+use mathlib.Core.Path.{_∙_}
 use native.Mathlib.Omega.{arith}
 use borrow.Author.Needs.{needs}
 use Rattle.writes.proofs.chunks.put_root.Statement.{statement}

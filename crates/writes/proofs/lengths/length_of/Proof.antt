@@ -1,7 +1,7 @@
 -- `writes::lengths::length_of` meets its contract.
 -- Assumes nothing.
 use Prim.Native.Nat.{ℕ, _+_}
-use mathlib.Core.Path.{refl, sym, ap, ap₂, _∙_}
+use mathlib.Core.Path.{sym, ap, ap₂, _∙_}
 use native.Mathlib.Omega.{arith}
 use Rattle.writes.proofs.Which.{blocks-most, opening-length, group-length, root-length, closing-length}
 use Rattle.writes.specs.Writing.{blocksLength}

@@ -1,6 +1,7 @@
 -- `writes::lengths::sizes_of` meets its contract.
 -- Assumes nothing.
-use Rattle.writes.proofs.Accepted.{format-zero, bounded, size-least, size-most, ready}
+use Rattle.shared.proofs.Accepted.{bounded, size-least, size-most}
+use Rattle.writes.proofs.Accepted.{format-zero, ready}
 use lib.ListN.{length}
 use mathlib.Core.Path.{_≡_, refl}
 use borrow.Author.Needs.{needs}

@@ -3,10 +3,9 @@
 use Rattle.writes.proofs.Splitting.{copy-turn, copy-all}
 use Rattle.endian.specs.Bytes.{patch}
 use Prim.Native.Nat.{_-_, _≤_}
-use mathlib.Core.Path.{_≡_, refl, _∙_}
+use mathlib.Core.Path.{_≡_, refl}
 use lib.ListN.{length, take, length-set}
 use native.Mathlib.Omega.{arith}
-use borrow.Author.Needs.{needs}
 use Rattle.writes.proofs.split.copy.Statement.{statement}
 use Rattle.writes.proofs.split.copy.Tie as tie
 
