@@ -106,8 +106,14 @@ impl Mode for Reader {
 pub struct Tables;
 
 impl Mode for Tables {
+    /// No file is longer than 2^63 - 1 bytes.
     fn case(&self, r: &mut Random) -> Vec<u8> {
-        Reader.case(r)
+        loop {
+            let case = Reader.case(r);
+            if Request::parse(&case).is_some_and(|q| i64::try_from(q.device).is_ok()) {
+                return case;
+            }
+        }
     }
 
     fn answer(&self, case: &[u8], out: Out) -> io::Result<Told> {
