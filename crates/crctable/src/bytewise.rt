@@ -4,7 +4,7 @@ ghost use Prim.Native.Nat.{_+_, _≤_};
 ghost use lib.ListN.{length};
 ghost use Rattle.castagnoli.specs.Register.{crcBits, crcBytes, zeroed};
 ghost use Rattle.castagnoli.specs.Tables.{byteTable};
-use crate::tables::bytes;
+use crcconst::bytes;
 
 // One byte goes into the register.
 fn step(t: &[u32; 256], c: u32, b: u8) -> u32

@@ -5,7 +5,7 @@ ghost use lib.ListN.{length, drop};
 ghost use Rattle.endian.specs.Bytes.{leAt};
 ghost use Rattle.castagnoli.specs.Register.{crcBits, crcBytes, zeroed};
 ghost use Rattle.castagnoli.specs.Tables.{sliceTable};
-use crate::tables::slices;
+use crcconst::slices;
 
 // The entry of the byte `i` in the table `k`.
 fn look(t: &[u32; 2048], k: usize, i: u32) -> u32

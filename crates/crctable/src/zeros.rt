@@ -5,7 +5,7 @@ ghost use Prim.Native.Nat.{ℕ, _+_, _-_, _*_, _^_, _%_, _≤_, _<_};
 ghost use lib.ListN.{length, getD, drop, replicate};
 ghost use Rattle.castagnoli.specs.Register.{crcBits};
 ghost use Rattle.castagnoli.specs.Tables.{leapTable};
-use crate::tables::leaps;
+use crcconst::leaps;
 
 // Whether the 64 bytes at `at` are zeros.
 fn is_zero(s: &[u8], at: usize) -> bool

@@ -1,11 +1,11 @@
--- `crctable::tables::slices` meets its contract.
+-- `crcconst::slices` meets its contract.
 -- Assumes nothing.
 use Rattle.castagnoli.proofs.Words.{slice-right}
 use Rattle.castagnoli.specs.Tables.{made}
 use Rattle.castagnoli.specs.Register.{crcBit, crcBits}
 use mathlib.Core.Path.{refl}
-use Rattle.crctable.proofs.tables.slices.Statement.{statement}
-use Rattle.crctable.proofs.tables.slices.Tie as tie
+use Rattle.crcconst.proofs.slices.Statement.{statement}
+use Rattle.crcconst.proofs.slices.Tie as tie
 
 returns : tie.Need-returns
 unfolding made crcBits crcBit

@@ -1,11 +1,11 @@
--- `crctable::tables::leaps` meets its contract.
+-- `crcconst::leaps` meets its contract.
 -- Assumes nothing.
 use Rattle.castagnoli.specs.Tables.{made, through}
 use Rattle.castagnoli.proofs.Linear.{leap-right}
 use Rattle.castagnoli.specs.Register.{crcBit, crcBits}
 use mathlib.Core.Path.{refl}
-use Rattle.crctable.proofs.tables.leaps.Statement.{statement}
-use Rattle.crctable.proofs.tables.leaps.Tie as tie
+use Rattle.crcconst.proofs.leaps.Statement.{statement}
+use Rattle.crcconst.proofs.leaps.Tie as tie
 
 returns : tie.Need-returns
 unfolding through made crcBits crcBit

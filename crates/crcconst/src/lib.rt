@@ -1,4 +1,5 @@
-// The tables, each proved equal to its definition by computing that definition once.
+// The constant tables of CRC32C, each proved equal to its definition by computing that definition once. A crate of their own, so that an
+// edit of the loops over them does not compute them again.
 ghost use mathlib.Core.Path.{_≡_};
 ghost use Rattle.castagnoli.specs.Tables.{byteTable, leapTable, sliceTable};
 
@@ -2604,21 +2605,21 @@ const SLICES: [u32; 2048] = [
 ];
 
 // A byte of the register.
-pub(crate) fn bytes() -> [u32; 256]
+pub fn bytes() -> [u32; 256]
     ensures { λ r. ⌜ r ≡ byteTable ⌝ }
 {
     BYTES
 }
 
 // A bit of the register, after 64, 128, .. 16,384 zero bytes.
-pub(crate) fn leaps() -> [u32; 288]
+pub fn leaps() -> [u32; 288]
     ensures { λ r. ⌜ r ≡ leapTable ⌝ }
 {
     LEAPS
 }
 
 // A byte of the register, after 1 to 8 zero bytes.
-pub(crate) fn slices() -> [u32; 2048]
+pub fn slices() -> [u32; 2048]
     ensures { λ r. ⌜ r ≡ sliceTable ⌝ }
 {
     SLICES

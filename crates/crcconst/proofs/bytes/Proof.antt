@@ -1,10 +1,10 @@
--- `crctable::tables::bytes` meets its contract.
+-- `crcconst::bytes` meets its contract.
 -- Assumes nothing.
 use Rattle.castagnoli.specs.Tables.{made, byteTable}
 use Rattle.castagnoli.specs.Register.{crcBit, crcBits}
 use mathlib.Core.Path.{refl}
-use Rattle.crctable.proofs.tables.bytes.Statement.{statement}
-use Rattle.crctable.proofs.tables.bytes.Tie as tie
+use Rattle.crcconst.proofs.bytes.Statement.{statement}
+use Rattle.crcconst.proofs.bytes.Tie as tie
 
 returns : tie.Need-returns
 unfolding byteTable made crcBits crcBit
