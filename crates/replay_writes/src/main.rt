@@ -57,7 +57,7 @@ fn add_chunk(run: Run, device: u64, k: u64, whole: bool, s: Sum, part: &mut [u8]
 
 // The next chunk; a chunk that has no room is refused.
 fn next_chunk(run: Run, device: u64, k: u64, whole: bool, s: Sum, buf: &mut [u8]) -> Sum {
-    let length = writes::chunk_length(run, k);
+    let length = listing::chunk_length(run, k);
     let n = length.value as usize;
     if n <= buf.len() {
         return add_chunk(run, device, k, whole, s, &mut buf[0..n]);
@@ -71,7 +71,7 @@ fn next_chunk(run: Run, device: u64, k: u64, whole: bool, s: Sum, buf: &mut [u8]
 
 // All chunks, or those before the first that is refused.
 fn all_chunks(run: Run, device: u64, whole: bool, buf: &mut [u8]) -> Sum {
-    let count = writes::chunk_count(run);
+    let count = listing::chunk_count(run);
     let n = count.value;
     let mut s = Sum {
         number: 0,

@@ -18,7 +18,7 @@ use Rattle.records.specs.Records.{Record, WZ, WB, FL, recordBytes, listBytes, b
 use Rattle.run.specs.declared.Run.{Run}
 use Rattle.written.specs.Listing.{blocksEnd, tailStart, logOffset, logBlock, headBlocks, headerBlocks, chunkBlocks, headWritten, headFinished, opening, headRecords, chunkRecords, closing, listChunk}
 use Rattle.written.specs.Sound.{Sound}
-use Rattle.writes.specs.Writing.{blocksLength, chunkLength}
+use Rattle.listing.specs.Chunks.{blocksLength, chunkLength}
 use Rattle.writelaws.specs.Long.{Long}
 use Rattle.writes.proofs.Splitting.{zeros-length, block-length, list-append, blocks-length}
 

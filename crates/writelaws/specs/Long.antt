@@ -6,7 +6,7 @@ use lib.ListN.{length}
 use Rattle.records.specs.Records.{listBytes}
 use Rattle.run.specs.declared.Run.{Run}
 use Rattle.written.specs.Listing.{listChunk}
-use Rattle.writes.specs.Writing.{chunkLength}
+use Rattle.listing.specs.Chunks.{chunkLength}
 
 -- the bytes of chunk k's records, one after the other, are as many as its length
 abbrev pub Long : Run → ℕ → ℕ → Type 0

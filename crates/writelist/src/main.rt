@@ -79,12 +79,12 @@ fn make(run: Run, device: u64, k: u64, n: usize, work: &mut [u8], buf: &mut [u8]
     if n <= buf.len() {
         return writes::write_chunk(run, device, k, work, &mut buf[0..n]);
     }
-    writes::NO_CHUNK
+    listing::NO_CHUNK
 }
 
 // Makes chunk k and writes it; false where a write failed.
 fn write_one(run: Run, device: u64, k: u64, work: &mut [u8], buf: &mut [u8]) -> bool {
-    let length = writes::chunk_length(run, k);
+    let length = listing::chunk_length(run, k);
     let n = length.value as usize;
     if make(run, device, k, n, work, buf) != 0 {
         return false;
@@ -94,7 +94,7 @@ fn write_one(run: Run, device: u64, k: u64, work: &mut [u8], buf: &mut [u8]) -> 
 
 // Writes all chunks; false where a write failed, and then nothing more is written.
 fn write_list(run: Run, device: u64, work: &mut [u8], buf: &mut [u8]) -> bool {
-    let count = writes::chunk_count(run);
+    let count = listing::chunk_count(run);
     let n = count.value;
     let mut left = n;
     let mut written = true;
@@ -119,9 +119,9 @@ fn write_most(run: Run, device: u64) -> bool {
 
 // Whether little room is enough: the first head and the root chunk, which is the chunk before the last, are the longest.
 fn needs_few(run: Run) -> bool {
-    let count = writes::chunk_count(run);
-    let head = writes::chunk_length(run, 1);
-    let root = writes::chunk_length(run, minus(count.value, 2));
+    let count = listing::chunk_count(run);
+    let head = listing::chunk_length(run, 1);
+    let root = listing::chunk_length(run, minus(count.value, 2));
     head.value <= FEW as u64 && root.value <= FEW as u64
 }
 

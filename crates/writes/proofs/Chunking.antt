@@ -19,7 +19,8 @@ use Rattle.rootchunk.specs.Chunk.{chunkBytes}
 use Rattle.records.specs.Records.{WZ, WB, FL, recordBytes, listBytes, blocks}
 use Rattle.run.specs.declared.Run.{Run}
 use Rattle.written.specs.Listing.{blocksEnd, tailStart, logOffset, logBlock, headBlocks, headerBlocks, chunkBlocks, headWritten, headFinished, opening, headRecords, chunkRecords, closing}
-use Rattle.writes.specs.Writing.{recordHead, blocksLength, zeroHeads}
+use Rattle.listing.specs.Chunks.{blocksLength}
+use Rattle.writes.specs.Writing.{recordHead, zeroHeads}
 use Rattle.shared.proofs.Accepted.{size-least, size-most}
 use Rattle.writes.proofs.Accepted.{group-room, group-blocks}
 use Rattle.writes.proofs.Splitting.{zeros-head, flush-bytes, head-length, zeros-length, block-length, list-append, blocks-length}
@@ -112,7 +113,7 @@ module _ (run : Run) where
   unfolding closing listBytes
   closing-is = ap (λ (l : List ℕ). recordBytes FL ++ l) (list-append (blocks (run .geometry .blocksize) 0 (headerBlocks (run .geometry)) (headFinished (run .geometry) (run .uuid))) (FL ∷ []) ∙ rw append-nil refl)
 
-  pub closing-done : {r t : ℕ} (bs n end : ℕ) (src xs ys zs ws : List ℕ) → bs ≡ run .geometry .blocksize → n ≡ headerBlocks (run .geometry) → end ≡ 2 + blocksLength bs n
+  pub closing-done : {r t : ℕ} (bs n end : ℕ) (src xs ys zs ws : List ℕ) → bs ≡ run .geometry .blocksize → n ≡ headerBlocks (run .geometry) → end ≡ length xs - 2
       → src ≡ headFinished (run .geometry) (run .uuid) → length src ≡ headBlocks (run .geometry) * run .geometry .blocksize → length xs ≡ 2 + blocksLength (run .geometry .blocksize) (headerBlocks (run .geometry)) + 2
       → Put (end + 2) (patch end (beBytes 2 0x464c) xs) xs r ys → zs ≡ patch 2 (listBytes (blocks bs 0 n src)) ys → Put (0 + 2) (patch 0 (beBytes 2 0x464c) zs) zs t ws
       → ws ≡ listBytes (closing run)

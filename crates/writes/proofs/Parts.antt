@@ -1,22 +1,20 @@
--- The part that chunk k is split from: its bytes, its length, and what it leaves in the work room.
+-- The part that chunk k is split from: its bytes, and what it leaves in the work room.
 -- Assumes nothing.
 use mathlib.Core.Path.{_≡_, refl, ap, _∙_}
 use mathlib.Core.List.{List}
-use Prim.Native.Nat.{ℕ, _+_, _*_, _-_, _<_, _≤_}
+use Prim.Native.Nat.{ℕ, _+_, _-_, _<_, _≤_}
 use native.Mathlib.Omega.{arith}
 use lib.ListN.{length, take, drop}
 use borrow.Author.Tests.{eq-eqb, ne-eqb, le-leb, lt-leb}
 use borrow.Rule.Slice.PartMut.{putMid}
-use Rattle.arith.specs.Choice.{when}
 use Rattle.endian.specs.Bytes.{patch}
 use Rattle.endian.proofs.Laws.{part-back}
 use Rattle.head.proofs.Lending.{part-length}
 use Rattle.places.specs.Answers.{rootChunk}
 use Rattle.rootchunk.specs.Chunk.{chunkBytes}
 use Rattle.run.specs.declared.Run.{Run}
-use Rattle.written.specs.Listing.{headBlocks, chunkBlocks, logBlock, headWritten, headFinished}
-use Rattle.writes.specs.declared.lengths.Sizes.{Sizes}
-use Rattle.writes.specs.Writing.{Sized, partLength, partBytes}
+use Rattle.written.specs.Listing.{logBlock, headWritten, headFinished}
+use Rattle.writes.specs.Writing.{partBytes}
 
 -- a part that is lent from the start of the work room
 pub lent-part : (n : ℕ) (new xs ys : List ℕ) → n ≤ length xs → length ys ≡ length (take (0 + n - 0) (drop 0 xs)) → ys ≡ new → putMid 0 (0 + n - 0) xs ys ≡ patch 0 new xs
@@ -25,23 +23,8 @@ lent-part n new xs ys h l e =
     part-back 0 n xs ys q (l ∙ part-length 0 n xs q) ∙ ap (λ (v : List ℕ). patch 0 v xs) e
 
 module _ (run : Run) (k : ℕ) where
-  abbrev bs : ℕ
-  bs = run .geometry .blocksize
-
   abbrev groups : ℕ
   groups = run .geometry .agcount
-
-  pub opening-size : k ≡ 0 → partLength run k ≡ bs
-  unfolding partLength when
-  opening-size e = rw (eq-eqb k 0 e) refl
-
-  pub root-size : (k ≡ 0 → ⊥) → k - 1 ≡ groups → partLength run k ≡ chunkBlocks (run .geometry) * bs
-  unfolding partLength when
-  root-size n e = rw (ne-eqb k 0 n, eq-eqb k (groups + 1) (omega arith)) refl
-
-  pub head-size : (k ≡ 0 → ⊥) → (k - 1 ≡ groups → ⊥) → partLength run k ≡ headBlocks (run .geometry) * bs
-  unfolding partLength when
-  head-size n h = rw (ne-eqb k 0 n, ne-eqb k (groups + 1) (λ q. h (omega arith))) refl
 
   pub opening-part : k ≡ 0 → partBytes run k ≡ logBlock (run .geometry) (run .uuid)
   unfolding partBytes
@@ -58,17 +41,3 @@ module _ (run : Run) (k : ℕ) where
   pub closing-part : groups < k → (k - 1 ≡ groups → ⊥) → partBytes run k ≡ headFinished (run .geometry) (run .uuid)
   unfolding partBytes
   closing-part h n = rw (ne-eqb k 0 (λ q. omega arith), lt-leb k groups h, ne-eqb k (groups + 1) (λ q. n (omega arith))) refl
-
-  -- room for the part, in the code's sizes
-  module _ (s : Sizes) (z : Sized (run .geometry) s) (room : ℕ) (r : partLength run k ≤ room) where
-    pub opening-roomy : k ≡ 0 → s .block ≤ room
-    opening-roomy e = let p = opening-size e in rw (z .block-is) (omega arith)
-
-    pub root-roomy : groups < k → k - 1 ≡ groups → s .chunk * s .block ≤ room
-    root-roomy h e = let p = root-size (λ q. omega arith) e in rw (z .chunk-is, z .block-is) (omega arith)
-
-    pub group-roomy : (k ≡ 0 → ⊥) → k ≤ groups → s .head * s .block ≤ room
-    group-roomy n h = let p = head-size n (λ q. n (omega arith)) in rw (z .head-is, z .block-is) (omega arith)
-
-    pub closing-roomy : groups < k → (k - 1 ≡ groups → ⊥) → s .head * s .block ≤ room
-    closing-roomy h n = let p = head-size (λ q. omega arith) n in rw (z .head-is, z .block-is) (omega arith)

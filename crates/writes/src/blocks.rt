@@ -5,9 +5,9 @@ ghost use lib.ListN.{length};
 ghost use Rattle.places.specs.Answers.{rootChunk};
 ghost use Rattle.rootchunk.specs.Chunk.{chunkBytes};
 ghost use Rattle.written.specs.Listing.{chunkBlocks};
-ghost use Rattle.writes.specs.Writing.{Ready};
-use crate::lengths::Sizes;
+ghost use Rattle.listing.specs.Chunks.{Ready};
 use counts::inodes::root_chunk_of;
+use listing::lengths::Sizes;
 use rootchunk::root_chunk;
 use run::Run;
 

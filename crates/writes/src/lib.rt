@@ -9,9 +9,9 @@ ghost use Rattle.records.specs.Records.{listBytes};
 ghost use Rattle.places.specs.Answers.{rootChunk};
 ghost use Rattle.rootchunk.specs.Chunk.{chunkBytes};
 ghost use Rattle.written.specs.Listing.{headBlocks, headerBlocks, chunkBlocks, logBlock, headWritten, headFinished, opening, headRecords, chunkRecords, closing, listChunk};
-ghost use Rattle.writes.specs.Writing.{formatNumber, placeNumber, writeNumber, countAnswer, lengthAnswer, partAnswer, partBytes, Ready, blocksLength};
+ghost use Rattle.listing.specs.Chunks.{writeNumber, blocksLength, Ready};
+ghost use Rattle.writes.specs.Writing.{partBytes};
 
-pub mod lengths; // lengths.rt: blocks of a head, of its headers and of the root chunk
 pub mod split; // split.rt: one record, and a write that is split into its blocks
 pub mod blocks; // blocks.rt: the root chunk
 pub mod chunks; // chunks.rt: the records of each chunk
@@ -20,74 +20,10 @@ use crate::chunks::put_closing;
 use crate::chunks::put_group;
 use crate::chunks::put_opening;
 use crate::chunks::put_root;
-use crate::lengths::Sizes;
-use crate::lengths::length_of;
-use crate::lengths::part_of;
-use crate::lengths::sizes_of;
-use arith::numbers::minus;
-use inode::time::encode_time;
+use listing::lengths::Sizes;
+use listing::lengths::sizes_of;
+use listing::write_number;
 use run::Run;
-use summary::plans_number;
-
-// The refusal of a chunk that is not there.
-pub const NO_CHUNK: u32 = 29;
-
-// The largest head: 10 blocks of 16,384 bytes.
-pub const LARGEST_HEAD: usize = shared::LARGEST_HEAD;
-
-// A count of chunks or bytes; a refusal has 0 beside its number.
-pub struct Counted {
-    pub number: u32,
-    pub value: u64,
-}
-
-// 31, 25, 26, or 0.
-fn format_number(run: Run) -> u32
-    ensures { λ r. ⌜ r ≡ formatNumber run ⌝ }
-{
-    let g = run.geometry;
-    let plans = plans_number(g);
-    if plans != 0 {
-        return plans;
-    }
-    let f = g.features;
-    let time = run.time;
-    let stored = encode_time(time, f.bigtime);
-    stored.number
-}
-
-// The same, 29, or 0.
-fn place_number(run: Run, k: u64) -> u32
-    ensures { λ r. ⌜ r ≡ placeNumber run k ⌝ }
-{
-    let n = format_number(run);
-    if n != 0 {
-        return n;
-    }
-    let g = run.geometry;
-    if minus(k, 2) <= g.agcount {
-        return 0;
-    }
-    NO_CHUNK
-}
-
-// 31, 25, 26, 29, 27, or 0.
-fn write_number(run: Run, k: u64, len: usize, room: usize) -> u32
-    ensures { λ r. ⌜ r ≡ writeNumber run k len room ⌝ }
-{
-    let n = place_number(run, k);
-    if n != 0 {
-        return n;
-    }
-    let s = sizes_of(run);
-    if len != length_of(run, s, k) {
-        return endian::WRONG_LENGTH;
-    }
-    if part_of(run, s, k) <= room {
-        return 0;
-    }
-    endian::WRONG_LENGTH
-}
 
 fn fill_opening(run: Run, s: Sizes, device: u64, work: &mut [u8], buf: &mut [u8])
     requires { ⌜ (Ready run s) × (s .block ≤ length (now work)) × (length (now buf) ≡ 3 * 18 + blocksLength (run .geometry .blocksize) 1) ⌝ }
@@ -141,51 +77,6 @@ fn fill(run: Run, device: u64, k: u64, work: &mut [u8], buf: &mut [u8])
         return;
     }
     fill_closing(run, s, work, buf);
-}
-
-fn refused(number: u32) -> Counted
-    ensures { λ r. ⌜ r ≡ record { number = number; value = 0 } ⌝ }
-{
-    Counted { number, value: 0 }
-}
-
-// How many chunks the list has: 31, 25, 26.
-pub fn chunk_count(run: Run) -> Counted
-    ensures { λ r. ⌜ r ≡ countAnswer run ⌝ }
-{
-    let n = format_number(run);
-    if n != 0 {
-        return refused(n);
-    }
-    let g = run.geometry;
-    let value = g.agcount + 3;
-    Counted { number: 0, value }
-}
-
-// How many bytes chunk k has: 31, 25, 26, 29.
-pub fn chunk_length(run: Run, k: u64) -> Counted
-    ensures { λ r. ⌜ r ≡ lengthAnswer run k ⌝ }
-{
-    let n = place_number(run, k);
-    if n != 0 {
-        return refused(n);
-    }
-    let s = sizes_of(run);
-    let value = length_of(run, s, k) as u64;
-    Counted { number: 0, value }
-}
-
-// How many bytes of work room chunk k needs: 31, 25, 26, 29. No chunk needs more than LARGEST_HEAD.
-pub fn part_length(run: Run, k: u64) -> Counted
-    ensures { λ r. ⌜ r ≡ partAnswer run k ⌝ }
-{
-    let n = place_number(run, k);
-    if n != 0 {
-        return refused(n);
-    }
-    let s = sizes_of(run);
-    let value = part_of(run, s, k) as u64;
-    Counted { number: 0, value }
 }
 
 // Chunk k of the list of a run on a device of so many bytes: all of its bytes. The part that it is split from is made in the first bytes

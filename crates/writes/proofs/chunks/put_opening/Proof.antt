@@ -3,7 +3,7 @@
 use Rattle.shared.proofs.Accepted.{bounded}
 use Rattle.writes.proofs.Accepted.{log-made}
 use Rattle.writes.proofs.Chunking.{log-place, log-bytes, opening-done}
-use Rattle.writes.specs.Writing.{blocksLength}
+use Rattle.listing.specs.Chunks.{blocksLength}
 use mathlib.Core.Path.{refl, _∙_}
 use native.Mathlib.Omega.{arith}
 use borrow.Author.Needs.{needs}

@@ -1,12 +1,12 @@
--- `writes::place_number` meets its contract.
+-- `listing::place_number` meets its contract.
 -- Assumes nothing.
 use Rattle.shared.proofs.Accepted.{or-first}
-use Rattle.writes.proofs.Accepted.{place-there, place-none}
-use Rattle.writes.specs.Writing.{placeNumber}
+use Rattle.listing.proofs.Numbers.{place-there, place-none}
+use Rattle.listing.specs.Chunks.{placeNumber}
 use mathlib.Core.Path.{sym, _∙_}
 use borrow.Author.Needs.{needs}
-use Rattle.writes.proofs.place_number.Statement.{statement}
-use Rattle.writes.proofs.place_number.Tie as tie
+use Rattle.listing.proofs.place_number.Statement.{statement}
+use Rattle.listing.proofs.place_number.Tie as tie
 
 returns : tie.Need-returns
 unfolding placeNumber

@@ -1,13 +1,13 @@
--- `writes::lengths::part_of` meets its contract.
+-- `listing::lengths::part_of` meets its contract.
 -- Assumes nothing.
-use Rattle.writes.proofs.Parts.{opening-size, root-size, head-size}
+use Rattle.listing.proofs.Which.{opening-size, root-size, head-size}
 use Prim.Native.Nat.{_*_, _≤_}
 use native.Mathlib.Nat.{mul-le-mul}
 use mathlib.Core.Path.{sym, ap₂, _∙_}
 use native.Mathlib.Omega.{arith}
 use borrow.Author.Needs.{needs}
-use Rattle.writes.proofs.lengths.part_of.Statement.{statement}
-use Rattle.writes.proofs.lengths.part_of.Tie as tie
+use Rattle.listing.proofs.lengths.part_of.Statement.{statement}
+use Rattle.listing.proofs.lengths.part_of.Tie as tie
 
 returns : tie.Need-returns
 returns c = let s = c .before .before in s .pre .sized .block-is ∙ sym (opening-size (s .args .run) (s .args .k) (c .if1 .taken))

@@ -1,16 +1,16 @@
--- `writes::chunk_count` meets its contract.
+-- `listing::chunk_count` meets its contract.
 -- Assumes nothing.
 use Rattle.shared.proofs.Accepted.{bounded}
-use Rattle.writes.proofs.Accepted.{format-zero, count-fits, count-refused, count-given}
-use Rattle.writes.specs.Writing.{countAnswer, counted}
+use Rattle.listing.proofs.Numbers.{format-zero, count-fits, count-refused, count-given}
+use Rattle.listing.specs.Chunks.{countAnswer, counted}
 use Rattle.written.specs.Listing.{chunkCount}
 use Prim.Native.Nat.{ℕ}
 use mathlib.Core.Path.{_≡_, refl, sym, ap, _∙_}
 use lib.ListN.{length}
 use native.Mathlib.Omega.{arith}
 use borrow.Author.Needs.{needs}
-use Rattle.writes.proofs.chunk_count.Statement.{statement}
-use Rattle.writes.proofs.chunk_count.Tie as tie
+use Rattle.listing.proofs.chunk_count.Statement.{statement}
+use Rattle.listing.proofs.chunk_count.Tie as tie
 
 label : (s : tie.Start) → length (s .args .run .geometry .label) ≡ 12
 label s = search (needs, s .good .0 .1 .1 .1 .0 .0 .1 .1 .1 .1 .1 .1 .1 .1 .1 .1 .1 .1 .1 .1 .1 .1)

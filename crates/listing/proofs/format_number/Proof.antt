@@ -1,12 +1,12 @@
--- `writes::format_number` meets its contract.
+-- `listing::format_number` meets its contract.
 -- Assumes nothing.
 use Rattle.shared.proofs.Accepted.{or-first, or-second}
-use Rattle.writes.specs.Writing.{formatNumber}
+use Rattle.listing.specs.Chunks.{formatNumber}
 use Rattle.run.specs.Runs.{timeRefusal}
 use mathlib.Core.Path.{sym, _∙_}
 use borrow.Author.Needs.{needs}
-use Rattle.writes.proofs.format_number.Statement.{statement}
-use Rattle.writes.proofs.format_number.Tie as tie
+use Rattle.listing.proofs.format_number.Statement.{statement}
+use Rattle.listing.proofs.format_number.Tie as tie
 
 returns : tie.Need-returns
 unfolding formatNumber

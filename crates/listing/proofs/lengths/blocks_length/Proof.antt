@@ -1,12 +1,12 @@
--- `writes::lengths::blocks_length` meets its contract.
+-- `listing::lengths::blocks_length` meets its contract.
 -- Assumes nothing.
 use mathlib.Core.Path.{refl}
 use native.Mathlib.Omega.{arith}
-use Rattle.writes.proofs.Which.{blocks-most}
-use Rattle.writes.specs.Writing.{blocksLength}
+use Rattle.listing.proofs.Which.{blocks-most}
+use Rattle.listing.specs.Chunks.{blocksLength}
 use borrow.Author.Needs.{needs}
-use Rattle.writes.proofs.lengths.blocks_length.Statement.{statement}
-use Rattle.writes.proofs.lengths.blocks_length.Tie as tie
+use Rattle.listing.proofs.lengths.blocks_length.Statement.{statement}
+use Rattle.listing.proofs.lengths.blocks_length.Tie as tie
 
 mul-result : tie.Need-mul-result
 unfolding blocksLength

@@ -1,7 +1,7 @@
 // How many blocks the parts of a run have, and how many bytes a chunk.
 ghost use mathlib.Core.Path.{_≡_};
 ghost use Prim.Native.Nat.{_≤_, _+_, _*_};
-ghost use Rattle.writes.specs.Writing.{formatNumber, blocksLength, chunkLength, partLength, Ready};
+ghost use Rattle.listing.specs.Chunks.{sizesOf, blocksLength, chunkLength, partLength, Ready};
 use counts::inodes::chunk_of;
 use geometry::log::header_of;
 use geometry::log::prealloc_of;
@@ -18,10 +18,9 @@ pub struct Sizes {
     pub chunk: usize,
 }
 
-// The sizes of an accepted run.
-pub(crate) fn sizes_of(run: Run) -> Sizes
-    requires { ⌜ formatNumber run ≡ 0 ⌝ }
-    ensures { λ r. ⌜ Ready run r ⌝ }
+// The sizes of a run.
+pub fn sizes_of(run: Run) -> Sizes
+    ensures { λ r. ⌜ r ≡ sizesOf (run .geometry) ⌝ }
 {
     let g = run.geometry;
     let f = g.features;
