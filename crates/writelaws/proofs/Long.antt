@@ -15,12 +15,13 @@ use Rattle.layout.specs.Places.{byteOf}
 use Rattle.places.specs.Answers.{rootChunk}
 use Rattle.rootchunk.specs.Chunk.{chunkBytes}
 use Rattle.records.specs.Records.{Record, WZ, WB, FL, recordBytes, listBytes, blocks}
+use Rattle.records.proofs.Sizes.{zeros-bytes, block-bytes, list-append}
 use Rattle.run.specs.declared.Run.{Run}
 use Rattle.written.specs.Listing.{blocksEnd, tailStart, logOffset, logBlock, headBlocks, headerBlocks, chunkBlocks, headWritten, headFinished, opening, headRecords, chunkRecords, closing, listChunk}
 use Rattle.written.specs.Sound.{Sound}
 use Rattle.listing.specs.Chunks.{blocksLength, chunkLength}
 use Rattle.writelaws.specs.Long.{Long}
-use Rattle.writes.proofs.Splitting.{zeros-length, block-length, list-append, blocks-length}
+use Rattle.writes.proofs.Splitting.{blocks-length}
 
 module _ (run : Run) (device : ℕ) (s : Sound run device) where
   abbrev bs : ℕ
@@ -36,10 +37,10 @@ module _ (run : Run) (device : ℕ) (s : Sound run device) where
       let b = recordBytes (WZ (tailStart bs device) (blocksEnd bs device - tailStart bs device)) in
       let c = recordBytes (WZ (logOffset (run .geometry)) (run .geometry .logblocks * bs)) in
       let d = recordBytes (WB (logOffset (run .geometry)) (logBlock (run .geometry) (run .uuid))) in
-      let la : length a ≡ 18 = zeros-length 0 (min 131072 (blocksEnd bs device)) in
-      let lb : length b ≡ 18 = zeros-length (tailStart bs device) (blocksEnd bs device - tailStart bs device) in
-      let lc : length c ≡ 18 = zeros-length (logOffset (run .geometry)) (run .geometry .logblocks * bs) in
-      let ld : length d ≡ 18 + length (logBlock (run .geometry) (run .uuid)) = block-length (logOffset (run .geometry)) (logBlock (run .geometry) (run .uuid)) in
+      let la : length a ≡ 18 = zeros-bytes 0 (min 131072 (blocksEnd bs device)) in
+      let lb : length b ≡ 18 = zeros-bytes (tailStart bs device) (blocksEnd bs device - tailStart bs device) in
+      let lc : length c ≡ 18 = zeros-bytes (logOffset (run .geometry)) (run .geometry .logblocks * bs) in
+      let ld : length d ≡ 18 + length (logBlock (run .geometry) (run .uuid)) = block-bytes (logOffset (run .geometry)) (logBlock (run .geometry) (run .uuid)) in
       let ll : length (logBlock (run .geometry) (run .uuid)) ≡ bs = s .log-long in
       let i : length (a ++ (b ++ (c ++ (d ++ [])))) ≡ length a + length (b ++ (c ++ (d ++ []))) = length-append a (b ++ (c ++ (d ++ []))) in
       let j : length (b ++ (c ++ (d ++ []))) ≡ length b + length (c ++ (d ++ [])) = length-append b (c ++ (d ++ [])) in
@@ -62,8 +63,7 @@ module _ (run : Run) (device : ℕ) (s : Sound run device) where
       let again = blocks bs 0 (headerBlocks (run .geometry)) (headFinished (run .geometry) (run .uuid)) in
       let v = mul-le-mul-right bs (s .header-head) in
       let b : length (listBytes again) ≡ blocksLength bs (headerBlocks (run .geometry)) = blocks-length bs 0 (headerBlocks (run .geometry)) (headFinished (run .geometry) (run .uuid)) (omega (arith, s .finished-long)) in
-      let e : length (listBytes (again ++ (FL ∷ []))) ≡ length (listBytes again ++ listBytes (FL ∷ [])) = ap (λ (l : List ℕ). length l) (list-append again (FL ∷ [])) in
-      let f : length (listBytes again ++ listBytes (FL ∷ [])) ≡ length (listBytes again) + 2 = length-append (listBytes again) (listBytes (FL ∷ [])) in
+      let e : length (listBytes (again ++ (FL ∷ []))) ≡ length (listBytes again) + 2 = list-append again (FL ∷ []) in
       let w : 2 + length (listBytes (again ++ (FL ∷ []))) ≡ 2 + blocksLength bs (headerBlocks (run .geometry)) + 2 = omega arith in
       length-append (recordBytes FL) (listBytes (again ++ (FL ∷ []))) ∙ w
 

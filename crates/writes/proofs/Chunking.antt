@@ -23,7 +23,8 @@ use Rattle.listing.specs.Chunks.{blocksLength}
 use Rattle.writes.specs.Writing.{recordHead, zeroHeads}
 use Rattle.shared.proofs.Accepted.{size-least, size-most}
 use Rattle.writes.proofs.Accepted.{group-room, group-blocks}
-use Rattle.writes.proofs.Splitting.{zeros-head, flush-bytes, head-length, zeros-length, block-length, list-append, blocks-length}
+use Rattle.records.proofs.Sizes.{zeros-bytes, block-bytes}
+use Rattle.writes.proofs.Splitting.{zeros-head, flush-bytes, head-length, list-append, blocks-length}
 
 -- the header blocks are of the head
 pub header-within : (g : Geometry) → headerBlocks g ≤ headBlocks g
@@ -58,9 +59,9 @@ module _ (bs device log n : ℕ) where
       let a = recordBytes (WZ 0 (min 131072 (blocksEnd bs device))) in
       let b = recordBytes (WZ (tailStart bs device) (blocksEnd bs device - tailStart bs device)) in
       let c = recordBytes (WZ log n) in
-      let la : length a ≡ 18 = zeros-length 0 (min 131072 (blocksEnd bs device)) in
-      let lb : length b ≡ 18 = zeros-length (tailStart bs device) (blocksEnd bs device - tailStart bs device) in
-      let lc : length c ≡ 18 = zeros-length log n in
+      let la : length a ≡ 18 = zeros-bytes 0 (min 131072 (blocksEnd bs device)) in
+      let lb : length b ≡ 18 = zeros-bytes (tailStart bs device) (blocksEnd bs device - tailStart bs device) in
+      let lc : length c ≡ 18 = zeros-bytes log n in
       let i : length (a ++ (b ++ c)) ≡ length a + length (b ++ c) = length-append a (b ++ c) in
       let j : length (b ++ c) ≡ length b + length c = length-append b c in
       omega arith
@@ -78,7 +79,7 @@ module _ (run : Run) (device : ℕ) where
       let Z = zeroHeads bs device at n in
       let D = recordBytes (WB at block) in
       let lz : length Z ≡ 54 = zeros-long bs device at n in
-      let ld : length D ≡ 18 + length block = block-length at block in
+      let ld : length D ≡ 18 + length block = block-bytes at block in
       let lzd : length (Z ++ D) ≡ length Z + length D = length-append Z D in
       let w : length xs ≡ 3 * 18 + 1 * (18 + run .geometry .blocksize) = lx in
       q

@@ -13,6 +13,7 @@ use Rattle.endian.specs.Bytes.{beBytes, patch}
 use Rattle.endian.proofs.Laws.{length-be, length-patch, patch-append, put-in}
 use Rattle.structs.proofs.Reading.{patch-apart}
 use Rattle.records.specs.Records.{Record, WZ, WB, FL, recordBytes, listBytes, blocks}
+use Rattle.records.proofs.Sizes.{block-bytes, blocks-bytes}
 use Rattle.listing.specs.Chunks.{blocksLength}
 use Rattle.writes.specs.Writing.{recordHead}
 
@@ -33,15 +34,6 @@ flush-bytes = refl
 pub head-length : (mark offset n : ℕ) → length (recordHead mark offset n) ≡ 18
 unfolding recordHead beBytes
 head-length mark offset n = refl
-
-pub block-length : (offset : ℕ) (bytes : List ℕ) → length (recordBytes (WB offset bytes)) ≡ 18 + length bytes
-block-length offset bytes =
-    ap (λ (l : List ℕ). length l) (block-head offset bytes)
-    ∙ length-append (recordHead 0x5742 offset (length bytes)) bytes
-    ∙ ap (λ (n : ℕ). n + length bytes) (head-length 0x5742 offset (length bytes))
-
-pub zeros-length : (offset n : ℕ) → length (recordBytes (WZ offset n)) ≡ 18
-zeros-length offset n = ap (λ (l : List ℕ). length l) (zeros-head offset n) ∙ head-length 0x575a offset n
 
 -- mark, offset and length, the last written first
 pub head-done : {p q r : ℕ} (mark offset n at : ℕ) (xs ys zs ws : List ℕ) → at + 18 ≤ length xs
@@ -104,13 +96,8 @@ list-append [] ss = refl
 list-append (r ∷ rs) ss = ap (λ (l : List ℕ). recordBytes r ++ l) (list-append rs ss) ∙ sym (append-assoc (recordBytes r) (listBytes rs) (listBytes ss))
 
 pub blocks-length : (bs offset n : ℕ) (bytes : List ℕ) → n * bs ≤ length bytes → length (listBytes (blocks bs offset n bytes)) ≡ blocksLength bs n
-unfolding listBytes blocks blocksLength
-blocks-length bs offset zero bytes h = omega arith
-blocks-length bs offset (suc n) bytes h =
-    let t : length (take bs bytes) ≡ bs = length-take-le bs bytes (omega arith) in
-    let b = block-length offset (take bs bytes) in
-    let r : length (listBytes (blocks bs (offset + bs) n (drop bs bytes))) ≡ n * (18 + bs) = blocks-length bs (offset + bs) n (drop bs bytes) (omega (arith, length-drop bs bytes)) in
-    length-append (recordBytes (WB offset (take bs bytes))) (listBytes (blocks bs (offset + bs) n (drop bs bytes))) ∙ omega arith
+unfolding blocksLength
+blocks-length = blocks-bytes
 
 -- the blocks of a write from j on, as records from the j-th on
 pub blocksFrom : ℕ → ℕ → ℕ → List ℕ → ℕ → List ℕ
@@ -126,7 +113,7 @@ module _ (bs offset n at : ℕ) (src : List ℕ) where
       let w = mul-le-mul-right bs h in
       let b = recordBytes (WB (offset + i * bs) (take bs (drop (i * bs) src))) in
       let lt : length (take bs (drop (i * bs) src)) ≡ bs = length-take-le bs (drop (i * bs) src) (omega (arith, length-drop (i * bs) src)) in
-      let lb : length b ≡ 18 + length (take bs (drop (i * bs) src)) = block-length (offset + i * bs) (take bs (drop (i * bs) src)) in
+      let lb : length b ≡ 18 + length (take bs (drop (i * bs) src)) = block-bytes (offset + i * bs) (take bs (drop (i * bs) src)) in
       let p : at + suc i * (18 + bs) ≡ at + i * (18 + bs) + length b = omega arith in
       let o : offset + suc i * bs ≡ offset + i * bs + bs = omega arith in
       let k : suc i * bs ≡ i * bs + bs = omega arith in
@@ -142,7 +129,7 @@ module _ (bs offset n at : ℕ) (src : List ℕ) where
       let b = recordBytes (WB (offset + j * bs) (take bs (drop (j * bs) src))) in
       let r = blocksFrom bs offset n src (suc j) in
       let lt : length (take bs (drop (j * bs) src)) ≡ bs = length-take-le bs (drop (j * bs) src) (omega (arith, length-drop (j * bs) src)) in
-      let lb : length b ≡ 18 + length (take bs (drop (j * bs) src)) = block-length (offset + j * bs) (take bs (drop (j * bs) src)) in
+      let lb : length b ≡ 18 + length (take bs (drop (j * bs) src)) = block-bytes (offset + j * bs) (take bs (drop (j * bs) src)) in
       let p : at + j * (18 + bs) + length b ≤ at + suc j * (18 + bs) = omega arith in
       ap (λ (i : ℕ). patch (at + i * (18 + bs)) (blocksFrom bs offset n src i) zs) (add-one j)
       ∙ ap (λ (v : List ℕ). patch (at + suc j * (18 + bs)) r v) d
