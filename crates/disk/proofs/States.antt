@@ -12,7 +12,7 @@ use Rattle.exact.specs.declared.Found.{Found}
 use Rattle.exact.specs.Read.{readGroup0, readGroup, readLog}
 use Rattle.exact.proofs.Others.{number-read}
 use Rattle.written.specs.Listing.{headLeft}
-use Rattle.reader.specs.Places.{comparedNumber}
+use Rattle.compare.specs.Places.{comparedNumber}
 use Rattle.reader.proofs.Made.{compared-group}
 use Rattle.disk.specs.declared.Disk.{Disk}
 use Rattle.disk.specs.Parts.{smaller, following, started, headNoted, headTaken, headCompared, logTaken, verdict, at}

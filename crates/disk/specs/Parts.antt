@@ -8,7 +8,7 @@ use Rattle.arith.specs.Choice.{when}
 use Rattle.endian.specs.Answer.{wrongLength}
 use Rattle.seqs.specs.Lists.{choose}
 use Rattle.exact.specs.Read.{readGroup0, readGroup, readLog}
-use Rattle.reader.specs.Places.{comparedNumber}
+use Rattle.compare.specs.Places.{comparedNumber}
 use Rattle.disk.specs.declared.Disk.{Disk}
 use Rattle.disk.specs.declared.Verdict.{Verdict}
 

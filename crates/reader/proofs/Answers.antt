@@ -20,32 +20,6 @@ use Rattle.named.specs.Named.{namedBy, uuidAt}
 use Rattle.exact.specs.declared.Found.{Found}
 use Rattle.exact.specs.Read.{notFound, found, firstTests, foundAs, readGroup0, placeTests, groupNumber, readGroup}
 
--- ---- any place
-
-module _ (g : Geometry) (past : Bool) (size : ℕ) (left xs : List ℕ) where
-  pub no-answer : isAnswer g ≡ false → 31 ≡ first (placeTests g past size left xs) 0
-  unfolding placeTests when
-  no-answer h = rw h refl
-
-  module _ (a : isAnswer g ≡ true) where
-    pub no-place : past ≡ true → 29 ≡ first (placeTests g past size left xs) 0
-    unfolding placeTests when
-    no-place h = rw (a, h) refl
-
-    module _ (p : past ≡ false) where
-      pub wrong-length : (length xs ≡ size → ⊥) → 27 ≡ first (placeTests g past size left xs) 0
-      unfolding placeTests when
-      wrong-length h = rw (a, p, ne-eqb (length xs) size h) refl
-
-      module _ (e : length xs ≡ size) where
-        pub no-plans : (plansNumber g ≡ 0 → ⊥) → 30 ≡ first (placeTests g past size left xs) 0
-        unfolding placeTests when
-        no-plans h = rw (a, p, eq-eqb (length xs) size e, ne-eqb (plansNumber g) 0 h) refl
-
-        pub compared : (t : Bool) → plansNumber g ≡ 0 → t ≡ eqList eqb xs left → when (not t) 30 0 ≡ first (placeTests g past size left xs) 0
-        unfolding placeTests when
-        compared t h d = rw (a, p, eq-eqb (length xs) size e, eq-eqb (plansNumber g) 0 h, d) refl
-
 -- ---- any group
 
 module _ (g : Geometry) (u : List ℕ) (k : ℕ) (xs : List ℕ) where

@@ -22,7 +22,7 @@ use Rattle.shared.proofs.Accepted.{bounded, size-most, head-most}
 use Rattle.shared.proofs.Made.{head-fits}
 use Rattle.shared.proofs.Logging.{block-fits}
 use Rattle.exact.specs.Read.{placeTests, groupNumber, readLog}
-use Rattle.reader.specs.Places.{comparedNumber}
+use Rattle.compare.specs.Places.{comparedNumber}
 
 -- ---- what is left counts only where a place is there, and long enough, and planned
 

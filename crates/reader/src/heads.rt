@@ -3,7 +3,7 @@ ghost use mathlib.Core.Path.{_≡_};
 ghost use Prim.Native.Nat.{_≤_};
 ghost use lib.ListN.{length};
 ghost use Rattle.exact.specs.Read.{groupNumber};
-use crate::compare_head;
+use compare::compare_head;
 use geometry::Geometry;
 use shared::LARGEST_HEAD;
 use shared::head_left;

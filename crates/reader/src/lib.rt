@@ -1,17 +1,16 @@
 // The reader: whether an accepted run leaves the bytes that stand in a place. What the bytes name is read, the place's bytes are made anew
 // from it, and the two are compared.
 ghost use mathlib.Core.Path.{_≡_};
-ghost use Rattle.refusals.specs.Table.{first};
 ghost use Rattle.plan.specs.Plan.{refusedPlan};
-ghost use Rattle.exact.specs.Read.{notFound, placeTests, readGroup0, readGroup, readLog};
-ghost use Rattle.reader.specs.Places.{comparedNumber};
+ghost use Rattle.exact.specs.Read.{notFound, readGroup0, readGroup, readLog};
 
 pub mod heads; // heads.rt: a head, made and compared
 pub mod logs; // logs.rt: the log's first block, made and compared
 
 use crate::heads::group_number;
 use crate::logs::log_number;
-use answers::is_answer;
+use compare::NOT_LEFT;
+use compare::WRONG_LENGTH;
 use exact::Found;
 use geometry::Geometry;
 use names::named_by;
@@ -21,19 +20,6 @@ use plan::AgPlan;
 use plan::Agfl;
 use plan::Planned;
 use plan::plan_ag;
-use sameas::same_bytes;
-use shared::head_length;
-use summary::plans_number;
-
-// The refusals: a length that is not the place's, a group that is not there, bytes that no accepted run leaves here, and a geometry that is
-// no answer of the geometry step.
-pub const WRONG_LENGTH: u32 = 27;
-
-pub const NO_GROUP: u32 = 29;
-
-pub const NOT_LEFT: u32 = 30;
-
-pub const NO_ANSWER: u32 = 31;
 
 fn no_plan(n: u32) -> Planned
     ensures { λ r. ⌜ r ≡ refusedPlan n ⌝ }
@@ -67,37 +53,6 @@ fn not_found(n: u32) -> Found
         uuid,
         plan,
     }
-}
-
-// The number of a place: 31, 29 where it is past the last, 27 for another length, 30 unless it holds what is left there, or 0.
-pub(crate) fn place_number(g: Geometry, past: bool, size: usize, left: &[u8], bytes: &[u8]) -> u32
-    ensures { λ r. ⌜ r ≡ first (placeTests g past size (now (left .entry)) (now (bytes .entry))) 0 ⌝ }
-{
-    if !is_answer(g) {
-        return NO_ANSWER;
-    }
-    if past {
-        return NO_GROUP;
-    }
-    if bytes.len() != size {
-        return WRONG_LENGTH;
-    }
-    if plans_number(g) != 0 {
-        return NOT_LEFT;
-    }
-    if same_bytes(bytes, left) {
-        return 0;
-    }
-    NOT_LEFT
-}
-
-// The number of group agno's head, whose left bytes the caller made: 31, 29, 27, 30, or 0.
-pub fn compare_head(g: Geometry, agno: u64, left: &[u8], head: &[u8]) -> u32
-    ensures { λ r. ⌜ r ≡ comparedNumber g agno (now (left .entry)) (now (head .entry)) ⌝ }
-{
-    let f = g.features;
-    let size = head_length(f, g.sectsize, g.blocksize);
-    place_number(g, g.agcount <= agno, size, left, head)
 }
 
 // The head of group 0: its geometry, UUID and plan. 27 under 512 bytes; 30 where the superblock names no geometry that the geometry step

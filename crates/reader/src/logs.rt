@@ -3,7 +3,7 @@ ghost use mathlib.Core.Path.{_≡_};
 ghost use Prim.Native.Nat.{_≤_};
 ghost use lib.ListN.{length};
 ghost use Rattle.exact.specs.Read.{readLog};
-use crate::place_number;
+use compare::place_number;
 use geometry::Geometry;
 use shared::log_block;
 

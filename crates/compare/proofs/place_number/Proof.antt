@@ -1,13 +1,13 @@
--- `reader::place_number` meets its contract.
+-- `compare::place_number` meets its contract.
 -- Assumes nothing.
 use mathlib.Core.Path.{sym, _∙_}
 use mathlib.Core.Bool.{true, false}
 use borrow.Author.Tests.{not-true, not-false}
 use borrow.Author.Needs.{needs}
 use Rattle.arith.specs.Choice.{when}
-use Rattle.reader.proofs.Answers.{no-answer, no-place, wrong-length, no-plans, compared}
-use Rattle.reader.proofs.place_number.Statement.{statement}
-use Rattle.reader.proofs.place_number.Tie as tie
+use Rattle.compare.proofs.Answers.{no-answer, no-place, wrong-length, no-plans, compared}
+use Rattle.compare.proofs.place_number.Statement.{statement}
+use Rattle.compare.proofs.place_number.Tie as tie
 
 returns : tie.Need-returns
 returns c = no-answer _ _ _ _ _ (sym (c .before .is-answer .ensures) ∙ not-true _ (c .if1 .taken))

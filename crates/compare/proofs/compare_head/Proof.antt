@@ -1,11 +1,11 @@
--- `reader::compare_head` meets its contract.
+-- `compare::compare_head` meets its contract.
 -- Assumes nothing.
 use mathlib.Core.Path.{refl, _∙_}
 use borrow.Author.Needs.{needs}
 use Rattle.head.specs.Head.{headLength}
-use Rattle.reader.specs.Places.{comparedNumber}
-use Rattle.reader.proofs.compare_head.Statement.{statement}
-use Rattle.reader.proofs.compare_head.Tie as tie
+use Rattle.compare.specs.Places.{comparedNumber}
+use Rattle.compare.proofs.compare_head.Statement.{statement}
+use Rattle.compare.proofs.compare_head.Tie as tie
 
 returns : tie.Need-returns
 unfolding comparedNumber headLength
