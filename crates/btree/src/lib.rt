@@ -7,9 +7,6 @@ pub use leaf::leaf_block;
 pub use records::AllocRec;
 pub use records::InobtRec;
 pub use records::RmapRec;
-pub use records::alloc_recs_64;
-pub use records::inobt_recs_64;
-pub use records::rmap_recs_64;
 
 // Magic numbers of the trees.
 pub mod magic {

@@ -41,7 +41,7 @@ fn put_free(
     let n = l.len;
     let used = ALLOC_REC * n;
     let recs = l.recs;
-    btree::alloc_recs_64(recs, n, &mut room[0..used]);
+    recs::alloc_recs_64(recs, n, &mut room[0..used]);
     leaf_block(magic, daddr, agno, uuid, &room[0..used], n as u16, block)
 }
 
@@ -81,7 +81,7 @@ fn put_maps(
     let n = l.len;
     let used = RMAP_REC * n;
     let recs = l.recs;
-    btree::rmap_recs_64(recs, n, &mut room[0..used]);
+    recs::rmap_recs_64(recs, n, &mut room[0..used]);
     leaf_block(magic, daddr, agno, uuid, &room[0..used], n as u16, block)
 }
 
@@ -136,7 +136,7 @@ fn put_chunk(
     let used = INOBT_REC * n;
     let rec = chunk_rec(startino);
     let recs = [rec; 64];
-    btree::inobt_recs_64(recs, n, sparse, &mut room[0..used]);
+    recs::inobt_recs_64(recs, n, sparse, &mut room[0..used]);
     leaf_block(magic, daddr, agno, uuid, &room[0..used], n as u16, block)
 }
 

@@ -1,10 +1,10 @@
--- `btree::records::put_full` meets its contract.
+-- `recs::put_full` meets its contract.
 -- Assumes nothing.
 use Rattle.btree.proofs.Laws.{full-put}
 use Rattle.endian.proofs.Laws.{put-in}
 use borrow.Author.Needs.{needs}
-use Rattle.btree.proofs.records.put_full.Statement.{statement}
-use Rattle.btree.proofs.records.put_full.Tie as tie
+use Rattle.recs.proofs.put_full.Statement.{statement}
+use Rattle.recs.proofs.put_full.Tie as tie
 
 add-put64 : tie.Need-add-put64
 add-put64 c = search needs

@@ -1,10 +1,10 @@
--- `btree::records::put_rmap` meets its contract.
+-- `recs::put_rmap` meets its contract.
 -- Assumes nothing.
 use Rattle.btree.proofs.Laws.{rmap-put}
 use Rattle.endian.proofs.Laws.{put-in}
 use borrow.Author.Needs.{needs}
-use Rattle.btree.proofs.records.put_rmap.Statement.{statement}
-use Rattle.btree.proofs.records.put_rmap.Tie as tie
+use Rattle.recs.proofs.put_rmap.Statement.{statement}
+use Rattle.recs.proofs.put_rmap.Tie as tie
 
 add-put64 : tie.Need-add-put64
 add-put64 c = search needs

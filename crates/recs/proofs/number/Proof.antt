@@ -1,12 +1,12 @@
--- `btree::records::number` meets its contract.
+-- `recs::number` meets its contract.
 -- Assumes nothing.
 use Rattle.btree.proofs.Laws.{multiple, no-multiple, no-multiple'}
 use Rattle.btree.specs.Records.{recsNumber}
 use borrow.Author.Tests.{eq-eqb, ne-eqb, le-leb, lt-leb}
 use mathlib.Core.Path.{refl}
 use borrow.Author.Needs.{needs}
-use Rattle.btree.proofs.records.number.Statement.{statement}
-use Rattle.btree.proofs.records.number.Tie as tie
+use Rattle.recs.proofs.number.Statement.{statement}
+use Rattle.recs.proofs.number.Tie as tie
 
 div-if1 : tie.Need-div-if1
 div-if1 c = search needs

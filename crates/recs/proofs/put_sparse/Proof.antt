@@ -1,10 +1,10 @@
--- `btree::records::put_sparse` meets its contract.
+-- `recs::put_sparse` meets its contract.
 -- Assumes nothing.
 use Rattle.btree.proofs.Laws.{sparse-put}
 use Rattle.endian.proofs.Laws.{put-in}
 use borrow.Author.Needs.{needs}
-use Rattle.btree.proofs.records.put_sparse.Statement.{statement}
-use Rattle.btree.proofs.records.put_sparse.Tie as tie
+use Rattle.recs.proofs.put_sparse.Statement.{statement}
+use Rattle.recs.proofs.put_sparse.Tie as tie
 
 add-put64 : tie.Need-add-put64
 add-put64 c = search needs

@@ -1,8 +1,8 @@
--- `btree::records::put_inobt` meets its contract.
+-- `recs::put_inobt` meets its contract.
 -- Assumes nothing.
 use borrow.Author.Needs.{needs}
-use Rattle.btree.proofs.records.put_inobt.Statement.{statement}
-use Rattle.btree.proofs.records.put_inobt.Tie as tie
+use Rattle.recs.proofs.put_inobt.Statement.{statement}
+use Rattle.recs.proofs.put_inobt.Tie as tie
 
 put-sparse-requires : tie.Need-put-sparse-requires
 put-sparse-requires c κs = search needs

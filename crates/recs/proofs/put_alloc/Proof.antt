@@ -1,10 +1,10 @@
--- `btree::records::put_alloc` meets its contract.
+-- `recs::put_alloc` meets its contract.
 -- Assumes nothing.
 use Rattle.btree.proofs.Laws.{alloc-put}
 use Rattle.endian.proofs.Laws.{put-in}
 use borrow.Author.Needs.{needs}
-use Rattle.btree.proofs.records.put_alloc.Statement.{statement}
-use Rattle.btree.proofs.records.put_alloc.Tie as tie
+use Rattle.recs.proofs.put_alloc.Statement.{statement}
+use Rattle.recs.proofs.put_alloc.Tie as tie
 
 add-put32 : tie.Need-add-put32
 add-put32 c = search needs

@@ -1,7 +1,7 @@
--- `btree::records::rmap_recs_64` meets its contract.
+-- `recs::rmap_recs_64` meets its contract.
 -- Assumes nothing.
 use Rattle.btree.proofs.Laws.{rmap-size, noRmap, accepted, record-turn, record-none, record-all}
 use Rattle.btree.specs.Records.{listed, rmapBytes}
 use Rattle.structs.proofs.Written.{refused, done}
 use Rattle.endian.specs.Bytes.{patch}
 use borrow.Author.Tests.{ne-eqb}
@@ -11,8 +11,8 @@ use native.Mathlib.Omega.{arith}
 use lib.ListN.{length, take, drop}
 use Prim.Native.Nat.{_*_, _≤_}
 use mathlib.Core.Path.{_≡_, refl, sym, _∙_}
-use Rattle.btree.proofs.records.rmap_recs_64.Statement.{statement}
-use Rattle.btree.proofs.records.rmap_recs_64.Tie as tie
+use Rattle.recs.proofs.rmap_recs_64.Statement.{statement}
+use Rattle.recs.proofs.rmap_recs_64.Tie as tie
 
 abbrev Inv-loop : tie.InvT-loop
 Inv-loop count out₀ recs refusal i₀ out i = (i ≤ count) × (length out ≡ length out₀) × (length out₀ ≡ 24 * count) × (count ≤ length recs) × (length recs ≡ 64) × (out ≡ patch (24 * i) (listed rmapBytes (drop i (take count recs))) out₀)
