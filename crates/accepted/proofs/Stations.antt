@@ -18,7 +18,7 @@ use Rattle.geometry.specs.declared.Geometry.{Geometry}
 use Rattle.geometry.specs.declared.Computed.{Computed}
 use Rattle.geometry.specs.Limits.{mib}
 use Rattle.geometry.specs.Compute.{computeDef}
-use Rattle.inode.specs.Time.{notEarly, shifted, timeInside, timeNumber}
+use Rattle.timestamp.specs.Time.{notEarly, shifted, timeInside, timeNumber}
 use Rattle.places.specs.Answers.{rootIno}
 use Rattle.totals.specs.Totals.{plansNumber, freeCount}
 use Rattle.states.specs.States.{finishedState}

@@ -30,7 +30,7 @@ use Rattle.free.specs.Free.{cut, takenAt, takenFrom, taken, fitter, bigger, pic
 use Rattle.rmap.specs.Rmap.{joinsLeft, joinsRight, insertedAt, takes, inserted}
 use Rattle.plan.specs.Plan.{freeAtFirst, rmapAtFirst, atFirst, failed, noted, moved, turn, listed, chunked, answer, planOf, planned}
 use Rattle.totals.specs.Totals.{firstTo, plansNumber}
-use Rattle.inode.specs.Time.{timeInside, notEarly, shifted}
+use Rattle.timestamp.specs.Time.{timeInside, notEarly, shifted}
 use Rattle.request.specs.declared.Request.{Request}
 use Rattle.request.specs.Defaults.{timeOf, seedOf}
 use Rattle.run.specs.Runs.{stepOf, timeRefusal, runNumber, runOf}

@@ -19,7 +19,7 @@ use Rattle.geometry.specs.Compute.{withGroups, withSizes, chosenOf, refusals, r
 use Rattle.answers.specs.Named.{isAnswer}
 use Rattle.naming.specs.Answers.{TypedOptions, TypedAnswer}
 use Rattle.naming.proofs.Exact.{exact}
-use Rattle.inode.specs.Time.{timeInside, notEarly, shifted, timeNumber}
+use Rattle.timestamp.specs.Time.{timeInside, notEarly, shifted, timeNumber}
 use Rattle.request.specs.declared.Request.{Request}
 use Rattle.request.specs.Defaults.{uuidOf, timeOf, seedOf}
 use Rattle.totals.specs.Totals.{plansNumber}

@@ -1,4 +1,2 @@
-pub mod Seconds
 pub mod Core
-pub mod Back
 pub mod Held

@@ -1,3 +1,2 @@
-pub mod Time
 pub mod Dinode
 pub mod Directory

@@ -8,9 +8,9 @@ use crate::lengths::length_of;
 use crate::lengths::part_of;
 use crate::lengths::sizes_of;
 use arith::numbers::minus;
-use inode::time::encode_time;
 use run::Run;
 use summary::plans_number;
+use timestamp::encode_time;
 
 // The refusal of a chunk that is not there.
 pub const NO_CHUNK: u32 = 29;

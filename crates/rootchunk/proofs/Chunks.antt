@@ -19,7 +19,7 @@ use Rattle.structs.proofs.Written.{refused, done, written-in}
 use Rattle.params.specs.declared.Features.{Features}
 use Rattle.params.specs.declared.Timestamp.{Timestamp}
 use Rattle.inode.specs.Dinode.{isBig, inside}
-use Rattle.inode.specs.Time.{timeInside, StoredAs}
+use Rattle.timestamp.specs.Time.{timeInside, StoredAs}
 use Rattle.geometry.specs.declared.Geometry.{Geometry}
 use Rattle.answers.specs.Named.{isAnswer}
 use Rattle.layout.specs.Places.{groupBlocks, fsbOf, inoOf, chunkOf}

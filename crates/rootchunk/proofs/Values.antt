@@ -14,7 +14,7 @@ use Rattle.structs.specs.Sizes.{isInode}
 use Rattle.structs.proofs.Lengths.{inode-least}
 use Rattle.inode.specs.declared.dinode.Dinode.{Dinode}
 use Rattle.inode.specs.Dinode.{isBig, inside, dinodeNumber, dinodeBytes}
-use Rattle.inode.specs.Time.{timeInside, notEarly, shifted}
+use Rattle.timestamp.specs.Time.{timeInside, notEarly, shifted}
 use Rattle.params.specs.declared.Timestamp.{Timestamp}
 use Rattle.endian.specs.Bytes.{patch}
 use Rattle.endian.proofs.Laws.{length-be}

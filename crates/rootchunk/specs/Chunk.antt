@@ -11,7 +11,7 @@ use Rattle.structs.specs.Written.{Written}
 use Rattle.params.specs.declared.Timestamp.{Timestamp}
 use Rattle.inode.specs.Dinode.{dinodeBytes}
 use Rattle.inode.specs.Directory.{emptyDir}
-use Rattle.inode.specs.Time.{timeInside, accepted}
+use Rattle.timestamp.specs.Time.{timeInside, accepted}
 use Rattle.geometry.specs.declared.Geometry.{Geometry}
 use Rattle.answers.specs.Named.{isAnswer}
 use Rattle.layout.specs.Places.{groupBlocks, inoOf, chunkOf}

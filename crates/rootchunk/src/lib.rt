@@ -13,8 +13,8 @@ use crate::inodes::flags_of;
 use answers::is_answer;
 use counts::inodes::chunk_of;
 use geometry::Geometry;
-use inode::encode_time;
 use params::Timestamp;
+use timestamp::encode_time;
 
 // The refusals of a geometry that is no answer of the geometry step, and of a block that is none of group 0.
 pub const NO_ANSWER: u32 = 31;

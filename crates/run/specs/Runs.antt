@@ -10,7 +10,7 @@ use Rattle.params.specs.declared.Timestamp.{Timestamp}
 use Rattle.geometry.specs.declared.Geometry.{Geometry}
 use Rattle.geometry.specs.declared.Computed.{Computed}
 use Rattle.geometry.specs.Compute.{zeroGeometry, computeDef}
-use Rattle.inode.specs.Time.{timeNumber}
+use Rattle.timestamp.specs.Time.{timeNumber}
 use Rattle.request.specs.declared.Request.{Request}
 use Rattle.request.specs.Parse.{parseDef}
 use Rattle.request.specs.Defaults.{uuidOf, timeOf, seedOf}

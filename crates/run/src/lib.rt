@@ -3,7 +3,6 @@ ghost use mathlib.Core.Path.{_≡_};
 ghost use Rattle.totals.specs.Totals.{plansNumber};
 ghost use Rattle.run.specs.Runs.{orNext, timeRefusal, noRun, runOf, accepted};
 use geometry::Geometry;
-use inode::time::encode_time;
 use params::Timestamp;
 use request::Request;
 use request::defaults::seed_or_zero;
@@ -11,6 +10,7 @@ use request::defaults::time_or_zero;
 use request::defaults::uuid_or_zeros;
 use request::parse;
 use summary::plans_number;
+use timestamp::encode_time;
 
 // The number is 0 for an accepted run; a refusal has zeros.
 pub struct Run {

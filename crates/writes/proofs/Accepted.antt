@@ -12,7 +12,7 @@ use lib.Pow.{pow-mono}
 use Rattle.structs.specs.Written.{Written}
 use Rattle.structs.proofs.Written.{passed, written-in}
 use Rattle.params.specs.declared.Timestamp.{Timestamp}
-use Rattle.inode.specs.Time.{timeInside}
+use Rattle.timestamp.specs.Time.{timeInside}
 use Rattle.geometry.specs.declared.Geometry.{Geometry}
 use Rattle.layout.specs.Bounds.{Bounds}
 use Rattle.layout.proofs.Inside.{blocks-least, fitting}

@@ -7,7 +7,7 @@ use native.Mathlib.Omega.{arith}
 use lib.Dec.{ltb}
 use lib.IntN.{ℤ, pos, negsuc, _-ℤ_}
 use borrow.Author.Tests.{lt-ltb, le-ltb, ltb-true, leb-true}
-use Rattle.inode.specs.Time.{second, epoch, notEarly, shifted, in32, timeInside, timeRaw, signed32, decoded}
+use Rattle.timestamp.specs.Time.{second, epoch, notEarly, shifted, in32, timeInside, timeRaw, signed32, decoded}
 
 first : (a b : Bool) → a && b ≡ true → a ≡ true
 first true b e = refl

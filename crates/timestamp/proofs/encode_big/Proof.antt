@@ -1,12 +1,12 @@
--- `inode::time::encode_big` meets its contract.
+-- `timestamp::encode_big` meets its contract.
 -- Assumes nothing.
 use borrow.Author.Tests.{lt-ltb, le-ltb}
 use native.Mathlib.Omega.{arith}
 use Prim.Native.Nat.{_+_, _*_}
 use mathlib.Core.Path.{refl}
 use borrow.Author.Needs.{needs}
-use Rattle.inode.proofs.time.encode_big.Statement.{statement}
-use Rattle.inode.proofs.time.encode_big.Tie as tie
+use Rattle.timestamp.proofs.encode_big.Statement.{statement}
+use Rattle.timestamp.proofs.encode_big.Tie as tie
 
 mul-t4 : tie.Need-mul-t4
 mul-t4 c = search needs

@@ -1,15 +1,15 @@
--- `inode::time::shift` meets its contract.
+-- `timestamp::shift` meets its contract.
 -- Assumes nothing.
-use Rattle.inode.proofs.Seconds.{early, late, between, sum-fits, sum-read, shifted-most, inside-no, inside-yes}
-use Rattle.inode.specs.Time.{shifted}
+use Rattle.timestamp.proofs.Seconds.{early, late, between, sum-fits, sum-read, shifted-most, inside-no, inside-yes}
+use Rattle.timestamp.specs.Time.{shifted}
 use mir.ValLaws.{toZ-ofZ}
 use mir.Syntax.{w64}
 use lib.IntN.{natAbs}
 use native.Mathlib.Omega.{arith}
 use Prim.Native.Nat.{_<_, _^_}
 use mathlib.Core.Path.{ap}
-use Rattle.inode.proofs.time.shift.Statement.{statement}
-use Rattle.inode.proofs.time.shift.Tie as tie
+use Rattle.timestamp.proofs.shift.Statement.{statement}
+use Rattle.timestamp.proofs.shift.Tie as tie
 
 returns : tie.Need-returns
 returns c = inside-no (c .before .args .secs) (early _ _ (toZ-ofZ w64 (c .before .args .secs) (c .before .fits .secs)) (c .if1 .taken))

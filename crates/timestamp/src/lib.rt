@@ -1,9 +1,9 @@
-// A time, and the 64 bits that an inode stores of it.
+// A time, and the 64 bits that an inode stores of it. The Rust's encode_time and decode_time of structs/inode.rs.
 ghost use mathlib.Core.Path.{_≡_};
 ghost use Prim.Native.Nat.{_+_, _*_, _%_, _^_, _≤_, _<_};
 ghost use lib.Dec.{ltb};
 ghost use Rattle.structs.specs.Written.{require};
-ghost use Rattle.inode.specs.Time.{Inside, StoredAs, accepted, decoded};
+ghost use Rattle.timestamp.specs.Time.{Inside, StoredAs, accepted, decoded};
 use params::Timestamp;
 
 // The refusal of a time that is out of range.

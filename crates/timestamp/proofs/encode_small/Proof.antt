@@ -1,11 +1,11 @@
--- `inode::time::encode_small` meets its contract.
+-- `timestamp::encode_small` meets its contract.
 -- Assumes nothing.
 use borrow.Author.Tests.{lt-ltb, le-ltb}
 use native.Mathlib.Omega.{arith}
 use mathlib.Core.Path.{refl}
 use borrow.Author.Needs.{needs}
-use Rattle.inode.proofs.time.encode_small.Statement.{statement}
-use Rattle.inode.proofs.time.encode_small.Tie as tie
+use Rattle.timestamp.proofs.encode_small.Statement.{statement}
+use Rattle.timestamp.proofs.encode_small.Tie as tie
 
 refused-requires : tie.Need-refused-requires
 refused-requires c κs = search needs

@@ -1,17 +1,17 @@
--- `inode::time::encode_time` meets its contract.
+-- `timestamp::encode_time` meets its contract.
 -- Assumes nothing.
 use mir.Syntax.{w64}
 use mir.Val.{SFits}
 use mir.ValLaws.{toZ-ofZ}
-use Rattle.inode.proofs.Seconds.{no-nanoseconds, not-storable, shifted-most, time-no, time-big, time-small}
-use Rattle.inode.specs.Time.{shifted, accepted}
+use Rattle.timestamp.proofs.Seconds.{no-nanoseconds, not-storable, shifted-most, time-no, time-big, time-small}
+use Rattle.timestamp.specs.Time.{shifted, accepted}
 use borrow.Author.Tests.{not-true, not-false}
 use native.Mathlib.Omega.{arith}
 use mathlib.Core.Bool.{Bool}
 use mathlib.Core.Path.{ap, sym, _∙_}
 use borrow.Author.Needs.{needs}
-use Rattle.inode.proofs.time.encode_time.Statement.{statement}
-use Rattle.inode.proofs.time.encode_time.Tie as tie
+use Rattle.timestamp.proofs.encode_time.Statement.{statement}
+use Rattle.timestamp.proofs.encode_time.Tie as tie
 
 cast-nsecs : tie.Need-cast-nsecs
 cast-nsecs c = search needs

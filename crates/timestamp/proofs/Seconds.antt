@@ -12,7 +12,7 @@ use mir.Val.{SFits, toZ, ofZ}
 use mir.ValLaws.{toZ-pos, toZ-ofZ}
 use borrow.Author.Tests.{lt-ltb, le-ltb, le-leb, lt-leb, ltb-true, ltb-false, leb-true, leb-false}
 use Rattle.structs.specs.Written.{require}
-use Rattle.inode.specs.Time.{second, epoch, notEarly, shifted, in32, timeInside, timeRaw, accepted, StoredAs, storable, Inside, signed32, decoded}
+use Rattle.timestamp.specs.Time.{second, epoch, notEarly, shifted, in32, timeInside, timeRaw, accepted, StoredAs, storable, Inside, signed32, decoded}
 use Rattle.params.specs.declared.Timestamp.{Timestamp}
 
 never : {A : Type 0} → false ≡ true → A

@@ -1,12 +1,12 @@
--- `inode::time::decode_time` meets its contract.
+-- `timestamp::decode_time` meets its contract.
 -- Assumes nothing.
 use Prim.Native.Nat.{_/_}
-use Rattle.inode.proofs.Seconds.{small-read, difference-fits, difference-read, decoded-big, decoded-plus, decoded-minus}
+use Rattle.timestamp.proofs.Seconds.{small-read, difference-fits, difference-read, decoded-big, decoded-plus, decoded-minus}
 use native.Mathlib.Omega.{arith}
 use mathlib.Core.Path.{refl}
 use borrow.Author.Needs.{needs}
-use Rattle.inode.proofs.time.decode_time.Statement.{statement}
-use Rattle.inode.proofs.time.decode_time.Tie as tie
+use Rattle.timestamp.proofs.decode_time.Statement.{statement}
+use Rattle.timestamp.proofs.decode_time.Tie as tie
 
 cast-t7 : tie.Need-cast-t7
 cast-t7 c = search needs
