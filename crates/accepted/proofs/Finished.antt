@@ -10,7 +10,8 @@ use borrow.Author.Tests.{eqb-false, ltb-true, ltb-false, leb-false}
 use lib.Dec.{leb, ltb, eqb}
 use lib.ListN.{getD, take, drop}
 use Rattle.arith.specs.Choice.{bit}
-use Rattle.endian.specs.Bytes.{beBytes, leBytes}
+use Rattle.endian.specs.Bytes.{beBytes}
+use Rattle.little.specs.Bytes.{leBytes}
 use Rattle.endian.specs.Fields.{field, write}
 use Rattle.crc.specs.Crc.{cksumOf, stamped}
 use Rattle.geometry.specs.declared.Geometry.{Geometry}

@@ -13,7 +13,7 @@ use lib.Bits.{bitXor, xor-shifted, xor-zero-r, xor-comm, xor-shr}
 use Rattle.castagnoli.proofs.Xor.{xor-assoc}
 use Rattle.castagnoli.proofs.Register.{bits-sum, bits-in, bits-high, byte-in}
 use Rattle.castagnoli.specs.Register.{crcBit, crcBits, crcBytes}
-use Rattle.endian.specs.Bytes.{leAt}
+use Rattle.little.specs.Bytes.{leAt}
 use Rattle.castagnoli.specs.Tables.{made, itself, rows, zeroByte, sliceTable}
 use Rattle.castagnoli.proofs.Linear.{bits-add, bits-none, slice-at, linked, linked-rows, same, same-eq}
 

@@ -5,7 +5,8 @@ use mathlib.Core.List.{List}
 use Prim.Native.Nat.{ℕ, _+_, _-_}
 use lib.Dec.{leb, eqb}
 use lib.ListN.{length}
-use Rattle.endian.specs.Bytes.{leBytes, leAt, patch}
+use Rattle.endian.specs.Bytes.{patch}
+use Rattle.little.specs.Bytes.{leBytes, leAt}
 use Rattle.castagnoli.specs.Register.{crcBytes, zeroed}
 
 -- The register starts with all bits set, and is inverted at the end.

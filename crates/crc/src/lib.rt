@@ -40,7 +40,7 @@ pub fn stamp(buf: &mut [u8], off: usize) -> u32
     ensures { λ r. ⌜ Put (off + 4) (stamped off (now (buf .entry))) (now (buf .entry)) r (now (buf .exit)) ⌝ }
 {
     let c = cksum(buf, off);
-    endian::put_le32(buf, off, c.value)
+    little::put_le32(buf, off, c.value)
 }
 
 // Whether the four bytes at `off` lie inside and are the checksum of `buf`.
@@ -48,7 +48,7 @@ pub fn verify(buf: &[u8], off: usize) -> bool
     ensures { λ r. ⌜ r ≡ verified off (now (buf .entry)) ⌝ }
 {
     if inside(buf.len(), off, 4) {
-        let stored = endian::le32(buf, off);
+        let stored = little::le32(buf, off);
         let right = cksum(buf, off);
         return stored.value == right.value;
     }

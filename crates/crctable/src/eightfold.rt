@@ -2,7 +2,7 @@
 ghost use mathlib.Core.Path.{_≡_};
 ghost use Prim.Native.Nat.{_+_, _*_, _≤_, _<_};
 ghost use lib.ListN.{length, drop};
-ghost use Rattle.endian.specs.Bytes.{leAt};
+ghost use Rattle.little.specs.Bytes.{leAt};
 ghost use Rattle.castagnoli.specs.Register.{crcBits, crcBytes, zeroed};
 ghost use Rattle.castagnoli.specs.Tables.{sliceTable};
 use crcconst::slices;

@@ -2,6 +2,5 @@ pub mod Laws
 pub mod Fields
 pub mod Tables
 pub mod Order
-pub mod Little
 pub mod Consecutive
 pub mod Widths

@@ -1,11 +1,11 @@
--- Writing a number and reading it back, as one law over the width; 2, 4 and 8 bytes are cases of it. And the two orders of bytes are each other's reverse.
+-- Writing a number and reading it back, as one law over the width; 2, 4 and 8 bytes are cases of it. And where its lowest byte stands.
 -- Assumes nothing.
 use mathlib.Core.Path.{_≡_, refl, ap, ap₂, sym, _∙_}
-use mathlib.Core.List.{List, [], _∷_, _++_, reverse, reverse-append}
+use mathlib.Core.List.{List, [], _∷_, _++_}
 use Prim.Native.Nat.{ℕ, zero, suc, _+_, _*_, _/_, _%_, _^_, _≤_, _<_}
 use native.Mathlib.Nat.{div-div-eq-div-mul, pow-suc, mul-comm, div-one}
 use lib.ListN.{length}
-use Rattle.endian.specs.Bytes.{beBytes, leBytes, beAt, patch}
+use Rattle.endian.specs.Bytes.{beBytes, beAt, patch}
 use Rattle.endian.specs.Fields.{part}
 use Rattle.endian.proofs.Laws.{length-be}
 use Rattle.endian.proofs.Fields.{patch-same, at-written}
@@ -28,16 +28,9 @@ pub back-64 : (v off : ℕ) (xs : List ℕ) → v < 2 ^ 64 → off + 8 ≤ lengt
 back-64 = written-back 8
 
 -- the lowest byte is the last
-be-last : (n v : ℕ) → beBytes (suc n) v ≡ beBytes n (v / 256) ++ (v % 256 ∷ [])
+pub be-last : (n v : ℕ) → beBytes (suc n) v ≡ beBytes n (v / 256) ++ (v % 256 ∷ [])
 unfolding beBytes
 be-last zero v = ap (λ (k : ℕ). k % 256 ∷ []) (div-one v)
 be-last (suc n) v =
     let e : v / 256 ^ suc n ≡ v / 256 / 256 ^ n = ap (λ (k : ℕ). v / k) (pow-suc 256 n ∙ mul-comm (256 ^ n) 256) ∙ sym (div-div-eq-div-mul v 256 (256 ^ n)) in
     ap₂ (λ (k : ℕ) (l : List ℕ). k % 256 ∷ l) e (be-last n v)
-
-pub le-reversed : (n v : ℕ) → leBytes n v ≡ reverse (beBytes n v)
-unfolding leBytes beBytes
-le-reversed zero v = refl
-le-reversed (suc n) v =
-    ap (λ (l : List ℕ). v % 256 ∷ l) (le-reversed n (v / 256))
-    ∙ sym (ap reverse (be-last n v) ∙ reverse-append (beBytes n (v / 256)) (v % 256 ∷ []))

@@ -9,11 +9,6 @@ unfoldable pub beBytes : ℕ → ℕ → List ℕ
 beBytes zero v = []
 beBytes (suc n) v = v / 256 ^ n % 256 ∷ beBytes n v
 
--- `v` in `n` bytes, the lowest first
-unfoldable pub leBytes : ℕ → ℕ → List ℕ
-leBytes zero v = []
-leBytes (suc n) v = v % 256 ∷ leBytes n (v / 256)
-
 -- the numbers `vs` one after the other, each in `n` bytes, the highest first
 unfoldable pub runBytes : ℕ → List ℕ → List ℕ
 runBytes n [] = []
@@ -23,11 +18,6 @@ runBytes n (v ∷ vs) = beBytes n v ++ runBytes n vs
 unfoldable pub beAt : ℕ → ℕ → List ℕ → ℕ
 beAt zero off xs = 0
 beAt (suc n) off xs = getD xs off 0 * 256 ^ n + beAt n (suc off) xs
-
--- the number that the `n` bytes at `off` are, the lowest first
-unfoldable pub leAt : ℕ → ℕ → List ℕ → ℕ
-leAt zero off xs = 0
-leAt (suc n) off xs = getD xs off 0 + 256 * leAt n (suc off) xs
 
 -- the `c` numbers that stand one after the other from `off` on, each in `n` bytes
 unfoldable pub numbersAt : ℕ → ℕ → ℕ → List ℕ → List ℕ

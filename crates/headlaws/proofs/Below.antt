@@ -8,7 +8,8 @@ use native.Mathlib.Nat.{mod-lt}
 use lib.Dec.{lit<}
 use lib.ListN.{length, set, replicate}
 use Rattle.seqs.specs.Lists.{choose}
-use Rattle.endian.specs.Bytes.{beBytes, leBytes, runBytes, below, patch}
+use Rattle.endian.specs.Bytes.{beBytes, runBytes, below, patch}
+use Rattle.little.specs.Bytes.{leBytes}
 use Rattle.endian.specs.Fields.{Field, write}
 use Rattle.crc.specs.Crc.{cksumOf, stamped}
 use Rattle.btree.specs.Records.{listed}

@@ -6,7 +6,8 @@ use Prim.Native.Nat.{ℕ, zero, suc, _+_, _*_, _-_, _≤_}
 use native.Mathlib.Omega.{arith}
 use lib.Dec.{T, leb, lit≤}
 use lib.ListN.{length, replicate, length-replicate}
-use Rattle.endian.specs.Bytes.{beBytes, leBytes}
+use Rattle.endian.specs.Bytes.{beBytes}
+use Rattle.little.specs.Bytes.{leBytes}
 use Rattle.endian.specs.Fields.{Field, field, run, spans}
 use Rattle.structs.specs.Holds.{Holds}
 use Rattle.structs.proofs.Reading.{held}

@@ -152,7 +152,7 @@ fn unmount(rec: &mut [u8], at: usize)
     endian::put32(rec, at + 4, 8);
     endian::put8(rec, at + 8, CLIENT_LOG);
     endian::put8(rec, at + 9, UNMOUNT_TRANS);
-    endian::put_le16(rec, at + 12, UNMOUNT_TYPE);
+    little::put_le16(rec, at + 12, UNMOUNT_TYPE);
 }
 
 // Every basic block behind the first: stamps, and the unmount record behind the headers.

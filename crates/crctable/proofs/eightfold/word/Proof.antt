@@ -1,6 +1,6 @@
 -- `crctable::eightfold::word` meets its contract.
 -- Assumes nothing.
-use Rattle.endian.proofs.Little.{le-four}
+use Rattle.little.proofs.Laws.{le-four}
 use borrow.Author.Needs.{needs}
 use Rattle.crctable.proofs.eightfold.word.Statement.{statement}
 use Rattle.crctable.proofs.eightfold.word.Tie as tie

@@ -1,11 +1,11 @@
--- `endian::numbers::put_le` meets its contract.
+-- `little::put_le` meets its contract.
 -- Assumes nothing.
 use borrow.Author.Needs.{needs}
 use mathlib.Core.Path.{sym, _∙_}
 use borrow.Author.Tests.{leb-true}
 use Rattle.endian.proofs.Laws.{refused-by, done-by}
-use Rattle.endian.proofs.numbers.put_le.Statement.{statement}
-use Rattle.endian.proofs.numbers.put_le.Tie as tie
+use Rattle.little.proofs.put_le.Statement.{statement}
+use Rattle.little.proofs.put_le.Tie as tie
 
 inside-requires : tie.Need-inside-requires
 inside-requires c κs = search needs

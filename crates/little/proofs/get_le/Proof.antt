@@ -1,13 +1,13 @@
--- `endian::numbers::get_le` meets its contract.
+-- `little::get_le` meets its contract.
 -- Assumes nothing.
 use Rattle.endian.proofs.Laws.{unread-by, read-by}
 use borrow.Author.Tests.{leb-true}
 use lib.Dec.{lit<}
 use native.Mathlib.Nat.{one-le-pow}
 use mathlib.Core.Path.{sym, _∙_}
 use borrow.Author.Needs.{needs}
-use Rattle.endian.proofs.numbers.get_le.Statement.{statement}
-use Rattle.endian.proofs.numbers.get_le.Tie as tie
+use Rattle.little.proofs.get_le.Statement.{statement}
+use Rattle.little.proofs.get_le.Tie as tie
 
 inside-requires : tie.Need-inside-requires
 inside-requires c κs = search needs

@@ -5,10 +5,11 @@ use Prim.Native.Nat.{_+_, _-_, _≤_}
 use native.Mathlib.Nat.{add-zero, sub-zero}
 use native.Mathlib.Omega.{arith}
 use lib.ListN.{length, length-set}
-use Rattle.endian.specs.Bytes.{leBytes, patch}
-use Rattle.endian.proofs.Little.{le-turn, le-done}
-use Rattle.endian.proofs.numbers.store_le.Statement.{statement}
-use Rattle.endian.proofs.numbers.store_le.Tie as tie
+use Rattle.endian.specs.Bytes.{patch}
+use Rattle.little.specs.Bytes.{leBytes}
+use Rattle.little.proofs.Laws.{le-turn, le-done}
+use Rattle.little.proofs.store_le.Statement.{statement}
+use Rattle.little.proofs.store_le.Tie as tie
 
 abbrev Inv-loop : tie.InvT-loop
 Inv-loop buf₀ off n v i₀ x₀ buf i x = (i ≤ n) × (patch (off + i) (leBytes (n - i) x) buf ≡ patch off (leBytes n v) buf₀) × (length buf ≡ length buf₀)

@@ -1,7 +1,7 @@
--- The laws of `leBytes` and `leAt`: the same numbers with the lowest byte first.
+-- The laws of `leBytes` and `leAt`: numbers with the lowest byte first, which is the reverse of the other order.
 -- Assumes nothing.
 use mathlib.Core.Path.{_≡_, refl, ap, ap₂, sym, _∙_}
-use mathlib.Core.List.{List, [], _∷_}
+use mathlib.Core.List.{List, [], _∷_, reverse, reverse-append}
 use Prim.Native.Nat.{ℕ, zero, suc, _+_, _-_, _*_, _/_, _%_, _^_, _≤_, _<_}
 use native.Mathlib.Nat.{pow-suc, lt-of-lt-of-le, pow-le-pow-right, add-zero, zero-add, mod-one, one-le-pow, add-comm, mul-comm, mod-eq-of-lt}
 use native.Mathlib.Numerals.{one-add, towards-suc}
@@ -10,9 +10,11 @@ use native.Mathlib.Omega.{arith}
 use lib.Dec.{lit<}
 use lib.ListN.{length, getD, set, drop}
 use lib.Seq.{getD-take, getD-drop}
-use Rattle.endian.specs.Bytes.{leBytes, leAt, patch}
+use Rattle.endian.specs.Bytes.{beBytes, patch}
 use Rattle.endian.specs.Fields.{part}
 use Rattle.endian.proofs.Order.{store-before}
+use Rattle.endian.proofs.Widths.{be-last}
+use Rattle.little.specs.Bytes.{leBytes, leAt}
 
 pub length-le : (n v : ℕ) → length (leBytes n v) ≡ n
 unfolding leBytes
@@ -88,3 +90,12 @@ le-le (suc n) v =
 
 pub le-written : (n v off : ℕ) (xs : List ℕ) → v < 256 ^ n → part off n xs ≡ leBytes n v → leAt n off xs ≡ v
 le-written n v off xs h e = le-part n off xs ∙ ap (leAt n 0) e ∙ le-le n v ∙ mod-eq-of-lt h
+
+-- ---- the other order
+
+pub le-reversed : (n v : ℕ) → leBytes n v ≡ reverse (beBytes n v)
+unfolding leBytes beBytes
+le-reversed zero v = refl
+le-reversed (suc n) v =
+    ap (λ (l : List ℕ). v % 256 ∷ l) (le-reversed n (v / 256))
+    ∙ sym (ap reverse (be-last n v) ∙ reverse-append (beBytes n (v / 256)) (v % 256 ∷ []))

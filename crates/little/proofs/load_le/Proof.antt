@@ -4,10 +4,10 @@ use mathlib.Core.Path.{_≡_, refl, _∙_}
 use Prim.Native.Nat.{_+_, _-_, _≤_}
 use native.Mathlib.Nat.{add-zero, sub-zero, sub-self}
 use native.Mathlib.Omega.{arith}
-use Rattle.endian.specs.Bytes.{leAt}
-use Rattle.endian.proofs.Little.{le-read-turn, le-read-fits, le-bound}
-use Rattle.endian.proofs.numbers.load_le.Statement.{statement}
-use Rattle.endian.proofs.numbers.load_le.Tie as tie
+use Rattle.little.specs.Bytes.{leAt}
+use Rattle.little.proofs.Laws.{le-read-turn, le-read-fits, le-bound}
+use Rattle.little.proofs.load_le.Statement.{statement}
+use Rattle.little.proofs.load_le.Tie as tie
 
 abbrev Inv-loop : tie.InvT-loop
 Inv-loop buf off n i₀ x₀ i x = (i ≤ n) × (x ≡ leAt (n - i) (off + i) buf)
