@@ -14,7 +14,7 @@ use Rattle.arith.specs.Choice.{when}
 use Rattle.endian.proofs.Fields.{write-length}
 use Rattle.seqs.specs.Lists.{both, choose}
 use Rattle.geometry.specs.declared.Geometry.{Geometry}
-use Rattle.geometry.specs.Log.{preallocOf}
+use Rattle.logsize.specs.Log.{preallocOf}
 use Rattle.layout.specs.Places.{freelistOf, groupBlocks, lsunitBytes, logsunitOf}
 use Rattle.layout.specs.Bounds.{Bounds}
 use Rattle.layout.proofs.Inside.{inside, blocks-least}

@@ -13,7 +13,7 @@ use arith::choice::pick_u64;
 use arith::numbers::div_ceil;
 use arith::numbers::quotient;
 use geometry::Geometry;
-use geometry::log::prealloc_of;
+use logsize::prealloc_of;
 use params::Features;
 
 // Blocks of an inode chunk, for these sizes.

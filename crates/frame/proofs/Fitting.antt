@@ -13,7 +13,7 @@ use borrow.Author.Tests.{eq-eqb}
 use Rattle.seqs.specs.Lists.{choose}
 use Rattle.seqs.proofs.Laws.{choose-elim, lt-or-le}
 use Rattle.geometry.specs.declared.Geometry.{Geometry}
-use Rattle.geometry.specs.Log.{headerOf}
+use Rattle.logsize.specs.Log.{headerOf}
 use Rattle.answers.specs.Named.{isAnswer}
 use Rattle.layout.specs.Bounds.{Bounds}
 use Rattle.layout.specs.Places.{groupBlocks}

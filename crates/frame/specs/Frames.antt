@@ -8,7 +8,7 @@ use Rattle.params.specs.declared.OptU64.{OptU64}
 use Rattle.params.specs.declared.OptU64.the-variants.{Absent, Given}
 use Rattle.params.specs.declared.Features.{Features}
 use Rattle.geometry.specs.declared.Geometry.{Geometry}
-use Rattle.geometry.specs.Log.{headerOf}
+use Rattle.logsize.specs.Log.{headerOf}
 use Rattle.structs.specs.Sizes.{isSector, isBlock}
 use Rattle.structs.specs.Written.{null32}
 use Rattle.plan.specs.declared.AgPlan.{AgPlan}

@@ -5,7 +5,7 @@ ghost use Prim.Native.Nat.{_*_, _<_, _^_};
 ghost use Rattle.sameplan.specs.Same.{isPlan};
 ghost use Rattle.frame.specs.Frames.{hasChunk, chunkIno, frameOf, noFrame, framed};
 use geometry::Geometry;
-use geometry::log::header_of;
+use logsize::header_of;
 use params::Features;
 use params::OptU64;
 use plan::AgPlan;

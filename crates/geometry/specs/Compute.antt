@@ -8,13 +8,15 @@ use lib.ListN.{take, replicate}
 use Rattle.arith.specs.Choice.{when}
 use Rattle.arith.specs.Powers.{powerLog, log2Up}
 use Rattle.refusals.specs.Table.{Refusal, _if_, first}
-use Rattle.geometry.specs.Limits.{minGroup, minDirBlock, minDirLog, labelRoom}
+use Rattle.grouping.specs.Limits.{minGroup}
+use Rattle.logsize.specs.Limits.{labelRoom}
+use Rattle.geometry.specs.Limits.{minDirBlock, minDirLog}
 use Rattle.sizes.specs.Sizes.{sizesOf, sizesRefusals}
-use Rattle.geometry.specs.Groups.{askedBlocks, initialGroups, isShort, trim, optionsRefusals, groupsRefusals}
-use Rattle.geometry.specs.Log.{preallocOf, logBlocks, imaxpctOf, lastRefusals}
+use Rattle.grouping.specs.Groups.{askedBlocks, initialGroups, isShort, trim, optionsRefusals, groupsRefusals}
+use Rattle.logsize.specs.Log.{preallocOf, logBlocks, imaxpctOf, lastRefusals}
 use Rattle.params.specs.declared.Params.{Params}
 use Rattle.sizes.specs.declared.Sizes.{Sizes}
-use Rattle.geometry.specs.declared.Groups.{Groups}
+use Rattle.grouping.specs.declared.Groups.{Groups}
 use Rattle.geometry.specs.declared.Chosen.{Chosen}
 use Rattle.geometry.specs.declared.Geometry.{Geometry}
 use Rattle.geometry.specs.declared.Computed.{Computed}

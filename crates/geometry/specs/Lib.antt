@@ -1,4 +1,2 @@
 pub mod Limits
-pub mod Groups
-pub mod Log
 pub mod Compute

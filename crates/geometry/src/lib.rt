@@ -1,18 +1,10 @@
 // The geometry step: what mkfs.xfs would choose for the options and the device, or the number of the refusal.
-// The types stand here; the functions stand in the modules, in the order in which the step takes them.
-pub mod grouping; // grouping.rt: block count and allocation groups, and refusals 9 to 18
-pub mod log; // log.rt: head blocks, log and imaxpct, and refusals 19 to 24
+// The types stand here.
 pub mod step; // step.rt: Geometry::compute
 
+use grouping::Groups;
 use params::Features;
 use sizes::Sizes;
-
-// Block count, blocks of a group and the number of groups.
-pub struct Groups {
-    pub dblocks: u64,
-    pub agsize: u64,
-    pub agcount: u64,
-}
 
 // All that the options and the device decide; the groups as asked for and without a short last one.
 pub struct Chosen {
@@ -73,39 +65,40 @@ impl Geometry {
 
     pub const BBSIZE: u64 = 512; // bytes of an address unit
 
-    pub const MAX_LOG_BLOCKS: u64 = 1024 * 1024; // blocks
-
-    pub const MIN_LOG_BYTES: u64 = 10 * 1024 * 1024;
-
-    pub const MAX_LOG_BYTES: u64 = 2 * 1024 * 1024 * 1024 - Geometry::MIN_LOG_BYTES;
-
-    pub const REALISTIC_LOG_BYTES: u64 = 64 * 1024 * 1024; // the least log
-
-    pub const LOG_RATIO: u64 = 2048; // blocks of the file system for one of the log
-
-    pub const MIN_SUPPORTED_BYTES: u64 = 300 * 1024 * 1024; // the least file system
-
-    pub const TIB: u64 = 1 << 40; // bytes
-
-    pub const AG_MIN_BYTES: u64 = 1 << 24;
-
-    pub const AG_MAX_BYTES: u64 = Geometry::TIB;
-
-    pub const MAX_AGNUMBER: u64 = 0xffff_fffe; // the largest number of groups
-
-    pub const MIN_AGCOUNT: u64 = 2;
-
-    pub const LARGE_BYTES: u64 = 4 * Geometry::TIB; // from here on groups have the largest size
-
-    pub const FOUR_GROUP_BYTES: u64 = 64 * 1024 * 1024; // from here on there are four groups
-
-    pub const TWO_GROUP_BYTES: u64 = 32 * 1024 * 1024; // from here on there are two
-
-    pub const ALLOCBT_AGFL_RESERVE: u64 = 4; // blocks
-
     pub const AGFL_HEADER: u32 = 36; // bytes
 
-    pub const MAX_IMAXPCT: u8 = 100; // percent
+    // Those that the crates grouping and logsize test.
+    pub const TIB: u64 = grouping::TIB;
 
-    pub const MAX_LABEL: usize = 12; // bytes
+    pub const AG_MIN_BYTES: u64 = grouping::AG_MIN_BYTES;
+
+    pub const AG_MAX_BYTES: u64 = grouping::AG_MAX_BYTES;
+
+    pub const MAX_AGNUMBER: u64 = grouping::MAX_AGNUMBER;
+
+    pub const LARGE_BYTES: u64 = grouping::LARGE_BYTES;
+
+    pub const FOUR_GROUP_BYTES: u64 = grouping::FOUR_GROUP_BYTES;
+
+    pub const TWO_GROUP_BYTES: u64 = grouping::TWO_GROUP_BYTES;
+
+    pub const MIN_AGCOUNT: u64 = logsize::MIN_AGCOUNT;
+
+    pub const MIN_SUPPORTED_BYTES: u64 = logsize::MIN_SUPPORTED_BYTES;
+
+    pub const MAX_LOG_BLOCKS: u64 = logsize::MAX_LOG_BLOCKS;
+
+    pub const MIN_LOG_BYTES: u64 = logsize::MIN_LOG_BYTES;
+
+    pub const MAX_LOG_BYTES: u64 = logsize::MAX_LOG_BYTES;
+
+    pub const REALISTIC_LOG_BYTES: u64 = logsize::REALISTIC_LOG_BYTES;
+
+    pub const LOG_RATIO: u64 = logsize::LOG_RATIO;
+
+    pub const ALLOCBT_AGFL_RESERVE: u64 = logsize::ALLOCBT_AGFL_RESERVE;
+
+    pub const MAX_IMAXPCT: u8 = logsize::MAX_IMAXPCT;
+
+    pub const MAX_LABEL: usize = logsize::MAX_LABEL;
 }

@@ -18,7 +18,7 @@ pub mod sectors; // sectors.rt: superblock, AGF, AGI and free list
 use frame::Frame;
 use frame::frame_of;
 use geometry::Geometry;
-use geometry::log::prealloc_of;
+use logsize::prealloc_of;
 use plan::AgPlan;
 use sb::SbState;
 

@@ -12,7 +12,7 @@ use borrow.Author.Tests.{eq-eqb, ne-eqb}
 use Rattle.arith.specs.Choice.{bit}
 use Rattle.seqs.specs.Lists.{choose}
 use Rattle.geometry.specs.declared.Geometry.{Geometry}
-use Rattle.geometry.specs.Log.{preallocOf}
+use Rattle.logsize.specs.Log.{preallocOf}
 use Rattle.answers.specs.Named.{isAnswer}
 use Rattle.layout.proofs.Bounding.{answer-bounds}
 use Rattle.sb.specs.declared.SbState.{SbState}

@@ -11,7 +11,7 @@ use Rattle.structs.specs.Written.{require}
 use Rattle.seqs.specs.Lists.{choose}
 use Rattle.params.specs.declared.Features.{Features}
 use Rattle.geometry.specs.declared.Geometry.{Geometry}
-use Rattle.geometry.specs.Log.{preallocOf}
+use Rattle.logsize.specs.Log.{preallocOf}
 use Rattle.layout.specs.Places.{cntBlock, ibtBlock, fibtBlock, rmapBlock, refcBlock, agflSize, daddrOf}
 use Rattle.btree.specs.declared.records.InobtRec.{InobtRec}
 use Rattle.btree.specs.Records.{listed, allocBytes, inobtBytes, rmapBytes}

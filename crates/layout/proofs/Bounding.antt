@@ -14,11 +14,12 @@ use Rattle.arith.proofs.Least as least
 use Rattle.params.specs.declared.Params.{Params}
 use Rattle.sizes.specs.declared.Sizes.{Sizes}
 use Rattle.sizes.specs.Sizes.{sizesOf}
-use Rattle.geometry.specs.declared.Groups.{Groups}
+use Rattle.grouping.specs.declared.Groups.{Groups}
 use Rattle.geometry.specs.declared.Geometry.{Geometry}
-use Rattle.geometry.specs.Limits.{mib, minGroup, maxGroup, minLogBytes}
-use Rattle.geometry.specs.Groups.{isShort, trim}
-use Rattle.geometry.specs.Log.{preallocOf, logBlocks}
+use Rattle.grouping.specs.Limits.{mib, minGroup, maxGroup}
+use Rattle.logsize.specs.Limits.{minLogBytes}
+use Rattle.grouping.specs.Groups.{isShort, trim}
+use Rattle.logsize.specs.Log.{preallocOf, logBlocks}
 use Rattle.geometry.specs.Compute.{withGroups, askedGroups, withSizes, chosenOf, refusalOf, geometryOf, computeDef}
 use Rattle.geometry.specs.declared.Computed.{Computed}
 use Rattle.answers.specs.Named.{isAnswer}

@@ -10,7 +10,7 @@ use lib.Dec.{eqb}
 use lib.Pow.{pow-mono}
 use Rattle.arith.specs.Choice.{when}
 use Rattle.geometry.specs.declared.Geometry.{Geometry}
-use Rattle.geometry.specs.Limits.{mib}
+use Rattle.grouping.specs.Limits.{mib}
 use Rattle.layout.specs.Places.{groupBlocks}
 use Rattle.layout.specs.Bounds.{Bounds}
 use Rattle.layout.proofs.Ceil.{one-more}

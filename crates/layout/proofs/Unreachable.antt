@@ -9,8 +9,8 @@ use borrow.Author.Tests.{ltb-true, ltb-false, le-ltb}
 use lib.Dec.{ltb}
 use lib.Pow.{pow-pos}
 use Rattle.arith.specs.Choice.{when}
-use Rattle.geometry.specs.Limits.{minLogBytes, maxLogBytes, maxLogBlocks, logRatio}
-use Rattle.geometry.specs.Log.{logBlocks}
+use Rattle.logsize.specs.Limits.{minLogBytes, maxLogBytes, maxLogBlocks, logRatio}
+use Rattle.logsize.specs.Log.{logBlocks}
 use Rattle.layout.specs.Places.{usableOf}
 use Rattle.layout.specs.Source.{under300, sourceWanted, sourceLog, logTooLarge}
 

@@ -4,8 +4,9 @@ use mathlib.Core.Path.{_≡_}
 use Prim.Native.Nat.{ℕ, _+_, _*_, _-_, _/_, _^_, _≤_, _<_}
 use Rattle.arith.specs.Numbers.{ceilDiv}
 use Rattle.geometry.specs.declared.Geometry.{Geometry}
-use Rattle.geometry.specs.Limits.{minGroupBytes, minGroups, maxGroups, minBytes, minLogBytes, maxLogBlocks, logReserve, maxImaxpct}
-use Rattle.geometry.specs.Log.{headerOf, preallocOf}
+use Rattle.grouping.specs.Limits.{minGroupBytes, maxGroups}
+use Rattle.logsize.specs.Limits.{minGroups, minBytes, minLogBytes, maxLogBlocks, logReserve, maxImaxpct}
+use Rattle.logsize.specs.Log.{headerOf, preallocOf}
 use Rattle.layout.specs.Places.{chunkOf, clusterOf, rootChunkOf, freelistOf}
 
 -- sizes in bytes and their logarithms

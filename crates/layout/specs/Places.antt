@@ -7,7 +7,7 @@ use Rattle.arith.specs.Choice.{when, bit}
 use Rattle.arith.specs.Numbers.{ceilDiv}
 use Rattle.params.specs.declared.Features.{Features}
 use Rattle.layout.specs.Limits.{agflHeader, agflSlot, agflReserve, rmapFreelist, plainFreelist, chunkInodes, bigCluster, leastInode, realtimeExtent, logHeader, addressUnit}
-use Rattle.geometry.specs.Log.{preallocOf}
+use Rattle.logsize.specs.Log.{preallocOf}
 
 -- ---- the head of a group, in blocks from its start: header blocks, roots by block and by count, inode root,
 -- then free inode root, rmap root and reference count root where their features are on

@@ -4,7 +4,7 @@ use mathlib.Core.Bool.{Bool}
 use Prim.Native.Nat.{ℕ, _*_, _-_, _/_, _^_, min, max}
 use lib.Dec.{ltb}
 use Rattle.arith.specs.Choice.{when}
-use Rattle.geometry.specs.Limits.{minBytes, minLogBytes, maxLogBytes, maxLogBlocks, logRatio}
+use Rattle.logsize.specs.Limits.{minBytes, minLogBytes, maxLogBytes, maxLogBlocks, logRatio}
 use Rattle.layout.specs.Places.{usableOf}
 
 -- the file system is under 300 MiB, in blocks of 2 ^ b bytes: the test of the log's size, and of the whole geometry after it

@@ -3,8 +3,8 @@ ghost use mathlib.Core.Path.{_≡_};
 ghost use Prim.Native.Nat.{_≤_, _+_, _*_};
 ghost use Rattle.listing.specs.Chunks.{sizesOf, blocksLength, chunkLength, partLength, Ready};
 use counts::inodes::chunk_of;
-use geometry::log::header_of;
-use geometry::log::prealloc_of;
+use logsize::header_of;
+use logsize::prealloc_of;
 use run::Run;
 
 // Bytes of a record before its block: mark, offset, length.

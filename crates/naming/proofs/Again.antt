@@ -16,14 +16,14 @@ use Rattle.refusals.proofs.Clear.{clear, joined}
 use Rattle.params.specs.declared.OptU64.the-variants.{Absent, Given}
 use Rattle.params.specs.declared.Params.{Params}
 use Rattle.sizes.specs.declared.Sizes.{Sizes}
-use Rattle.geometry.specs.declared.Groups.{Groups}
+use Rattle.grouping.specs.declared.Groups.{Groups}
 use Rattle.answers.specs.declared.Named.{Named}
 use Rattle.geometry.specs.declared.Geometry.{Geometry}
 use Rattle.geometry.specs.declared.Computed.{Computed}
-use Rattle.geometry.specs.Limits.{minGroup}
+use Rattle.grouping.specs.Limits.{minGroup}
 use Rattle.sizes.specs.Sizes.{sizesOf, sizesRefusals}
-use Rattle.geometry.specs.Groups.{isShort, trim, optionsRefusals}
-use Rattle.geometry.specs.Log.{lastRefusals}
+use Rattle.grouping.specs.Groups.{isShort, trim, optionsRefusals}
+use Rattle.logsize.specs.Log.{lastRefusals}
 use Rattle.geometry.specs.Compute.{withGroups, askedGroups, withSizes, chosenOf, refusals, refusalOf, labelOf, geometryOf, answer, computeDef}
 use Rattle.answers.specs.Named.{namedOptions, namedOn, namesOf}
 use Rattle.geometry.proofs.Answer.{accepted, number-of}

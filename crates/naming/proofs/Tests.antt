@@ -13,12 +13,13 @@ use Rattle.refusals.specs.Table.{Refusal}
 use Rattle.refusals.proofs.Clear.{clear, passed, passes, left, right}
 use Rattle.params.specs.declared.Params.{Params}
 use Rattle.sizes.specs.declared.Sizes.{Sizes}
-use Rattle.geometry.specs.declared.Groups.{Groups}
+use Rattle.grouping.specs.declared.Groups.{Groups}
 use Rattle.geometry.specs.declared.Chosen.{Chosen}
-use Rattle.geometry.specs.Limits.{minGroup, maxGroup, minBytes, minLogBytes}
+use Rattle.grouping.specs.Limits.{minGroup, maxGroup}
+use Rattle.logsize.specs.Limits.{minBytes, minLogBytes}
 use Rattle.sizes.specs.Sizes.{sizesRefusals}
-use Rattle.geometry.specs.Groups.{isShort, optionsRefusals, groupsRefusals}
-use Rattle.geometry.specs.Log.{lastRefusals}
+use Rattle.grouping.specs.Groups.{isShort, optionsRefusals, groupsRefusals}
+use Rattle.logsize.specs.Log.{lastRefusals}
 use Rattle.geometry.specs.Compute.{withGroups, refusals, refusalOf}
 
 pub all-clear : (p : Params) (device : ℕ) (c : Chosen) → refusalOf p device c ≡ 0 → clear (refusals p device c)

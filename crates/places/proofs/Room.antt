@@ -7,7 +7,7 @@ use native.Mathlib.Nat.{mul-le-mul}
 use lib.ListN.{length}
 use lib.Pow.{pow-mono}
 use Rattle.geometry.specs.declared.Geometry.{Geometry}
-use Rattle.geometry.specs.Log.{preallocOf}
+use Rattle.logsize.specs.Log.{preallocOf}
 use Rattle.layout.specs.Places.{groupBlocks, rootChunkOf}
 use Rattle.layout.specs.Bounds.{Bounds}
 use Rattle.layout.proofs.Bounding.{answer-bounds}

@@ -6,7 +6,7 @@ use Prim.Native.Nat.{ℕ, _/_, _%_, _^_}
 use lib.Dec.{leb, eqb}
 use Rattle.refusals.specs.Table.{_if_, first}
 use Rattle.geometry.specs.declared.Geometry.{Geometry}
-use Rattle.geometry.specs.Log.{preallocOf}
+use Rattle.logsize.specs.Log.{preallocOf}
 use Rattle.answers.specs.Named.{isAnswer}
 use Rattle.layout.specs.Places.{groupBlocks, isPlace, fsbOf, inoOf, daddrOf, byteOf, rootChunkOf, initialFree}
 use Rattle.counts.specs.declared.Value64.{Value64}

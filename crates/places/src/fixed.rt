@@ -10,7 +10,7 @@ use arith::numbers::minus;
 use counts::Value64;
 use counts::inodes::root_chunk_of;
 use geometry::Geometry;
-use geometry::log::prealloc_of;
+use logsize::prealloc_of;
 
 // The log's first block, as a file system block.
 pub fn logstart(g: Geometry) -> Value64

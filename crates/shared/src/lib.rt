@@ -3,7 +3,7 @@ ghost use mathlib.Core.Path.{_≡_};
 ghost use Prim.Native.Nat.{_*_};
 ghost use lib.ListN.{length};
 ghost use Rattle.structs.specs.Written.{Written};
-ghost use Rattle.geometry.specs.Log.{preallocOf};
+ghost use Rattle.logsize.specs.Log.{preallocOf};
 ghost use Rattle.written.specs.Listing.{headWritten, headLeft, logBlock};
 ghost use Rattle.shared.specs.Answers.{headRefusal, logRefusal};
 
@@ -16,7 +16,7 @@ use crate::heads::left_state;
 use crate::logs::fill_log;
 use crate::logs::log_number;
 use geometry::Geometry;
-use geometry::log::prealloc_of;
+use logsize::prealloc_of;
 use params::Features;
 use states::state_of;
 

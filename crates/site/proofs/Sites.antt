@@ -13,7 +13,7 @@ use Rattle.arith.specs.Choice.{when, bit}
 use Rattle.arith.proofs.Laws.{bit-le}
 use Rattle.params.specs.declared.Features.{Features}
 use Rattle.geometry.specs.declared.Geometry.{Geometry}
-use Rattle.geometry.specs.Log.{headerOf, preallocOf}
+use Rattle.logsize.specs.Log.{headerOf, preallocOf}
 use Rattle.answers.specs.Named.{isAnswer}
 use Rattle.layout.specs.Places.{ibtBlock, rmapBlock, refcBlock, freelistOf, chunkOf, groupBlocks}
 use Rattle.layout.specs.Bounds.{SizeBounds, GroupBounds, Bounds}

@@ -12,7 +12,7 @@ use Rattle.params.specs.declared.Params.{Params}
 use Rattle.params.specs.Params.{noOptions, withSectorSize, withAgcount, withAgsize, withFeatures}
 use Rattle.geometry.specs.declared.Geometry.{Geometry}
 use Rattle.geometry.specs.declared.Computed.{Computed}
-use Rattle.geometry.specs.Limits.{mib}
+use Rattle.grouping.specs.Limits.{mib}
 use Rattle.geometry.specs.Compute.{computeDef}
 use Rattle.layout.specs.Places.{inoOf, rootChunkOf}
 use Rattle.site.specs.Sites.{siteOf}

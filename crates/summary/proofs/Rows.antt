@@ -10,7 +10,7 @@ use lib.ListN.{length}
 use Rattle.arith.specs.Choice.{when}
 use Rattle.seqs.specs.Lists.{both, choose}
 use Rattle.geometry.specs.declared.Geometry.{Geometry}
-use Rattle.geometry.specs.Log.{preallocOf}
+use Rattle.logsize.specs.Log.{preallocOf}
 use Rattle.answers.specs.Named.{isAnswer}
 use Rattle.layout.specs.Places.{groupBlocks, freelistOf, chunkOf, rootChunkOf}
 use Rattle.places.specs.Answers.{groupRefusal}

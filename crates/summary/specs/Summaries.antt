@@ -5,7 +5,7 @@ use lib.Dec.{ltb, eqb}
 use Rattle.arith.specs.Choice.{when}
 use Rattle.seqs.specs.Lists.{choose}
 use Rattle.geometry.specs.declared.Geometry.{Geometry}
-use Rattle.geometry.specs.Log.{preallocOf}
+use Rattle.logsize.specs.Log.{preallocOf}
 use Rattle.layout.specs.Places.{freelistOf, chunkOf, rootChunkOf}
 use Rattle.totals.specs.declared.Row.{Row}
 use Rattle.totals.specs.Totals.{plansNumber, constCount, noRow, closedTotal}

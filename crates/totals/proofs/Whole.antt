@@ -9,7 +9,7 @@ use lib.Dec.{ltb, eqb}
 use lib.ListN.{length}
 use Rattle.seqs.specs.Lists.{both, choose}
 use Rattle.geometry.specs.declared.Geometry.{Geometry}
-use Rattle.geometry.specs.Log.{preallocOf}
+use Rattle.logsize.specs.Log.{preallocOf}
 use Rattle.answers.specs.Named.{isAnswer}
 use Rattle.layout.specs.Places.{freelistOf, chunkOf, groupBlocks, initialFree}
 use Rattle.layout.proofs.Bounding.{answer-bounds}

@@ -6,7 +6,7 @@ use Rattle.seqs.specs.Lists.{choose, fold}
 use Rattle.params.specs.declared.OptU64.{OptU64}
 use Rattle.params.specs.declared.OptU64.the-variants.{Absent, Given}
 use Rattle.geometry.specs.declared.Geometry.{Geometry}
-use Rattle.geometry.specs.Log.{preallocOf}
+use Rattle.logsize.specs.Log.{preallocOf}
 use Rattle.answers.specs.Named.{isAnswer}
 use Rattle.layout.specs.Places.{freelistOf, chunkOf}
 use Rattle.btree.specs.declared.records.AllocRec.{AllocRec}

@@ -11,7 +11,7 @@ use Rattle.endian.specs.Bytes.{beBytes, patch}
 use Rattle.endian.proofs.Laws.{length-be, length-patch, patch-append, put-in}
 use Rattle.structs.proofs.Reading.{patch-whole}
 use Rattle.geometry.specs.declared.Geometry.{Geometry}
-use Rattle.geometry.specs.Log.{preallocOf}
+use Rattle.logsize.specs.Log.{preallocOf}
 use Rattle.layout.specs.Bounds.{Bounds}
 use Rattle.layout.specs.Places.{byteOf, before}
 use Rattle.places.specs.Answers.{rootChunk}

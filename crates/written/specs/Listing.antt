@@ -8,7 +8,7 @@ use lib.ListN.{length}
 use Rattle.arith.specs.Choice.{when}
 use Rattle.seqs.specs.Lists.{choose}
 use Rattle.geometry.specs.declared.Geometry.{Geometry}
-use Rattle.geometry.specs.Log.{headerOf, preallocOf}
+use Rattle.logsize.specs.Log.{headerOf, preallocOf}
 use Rattle.layout.specs.Places.{chunkOf, lsunitBytes, logsunitOf, byteOf}
 use Rattle.places.specs.Answers.{rootChunk}
 use Rattle.log.specs.Record.{clearSunit}

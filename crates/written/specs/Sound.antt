@@ -3,7 +3,8 @@
 use mathlib.Core.Path.{_≡_}
 use Prim.Native.Nat.{ℕ, _+_, _*_, _-_, _<_, _≤_}
 use lib.ListN.{length, getD}
-use Rattle.geometry.specs.Limits.{minGroupBytes, minLogBytes}
+use Rattle.grouping.specs.Limits.{minGroupBytes}
+use Rattle.logsize.specs.Limits.{minLogBytes}
 use Rattle.places.specs.Answers.{rootChunk}
 use Rattle.rootchunk.specs.Chunk.{chunkBytes}
 use Rattle.run.specs.declared.Run.{Run}

@@ -1,7 +1,7 @@
 -- `counts::head::after_header` meets its contract: the header is at most four times the sector.
 -- Assumes nothing.
 use native.Mathlib.Omega.{arith}
-use Rattle.geometry.proofs.Header.{header-le}
+use Rattle.logsize.proofs.Header.{header-le}
 use Rattle.counts.proofs.head.after_header.Statement.{statement}
 use Rattle.counts.proofs.head.after_header.Tie as tie
 

@@ -2,7 +2,7 @@
 -- Assumes nothing.
 use native.Mathlib.Omega.{arith}
 use Rattle.arith.proofs.Laws.{bit-le}
-use Rattle.geometry.proofs.Header.{header-le}
+use Rattle.logsize.proofs.Header.{header-le}
 use Rattle.layout.specs.Places.{refcBlock}
 use Rattle.counts.proofs.head.refc_of.Statement.{statement}
 use Rattle.counts.proofs.head.refc_of.Tie as tie

@@ -2,7 +2,7 @@
 -- Assumes nothing.
 use native.Mathlib.Omega.{arith}
 use Rattle.arith.proofs.Laws.{bit-le}
-use Rattle.geometry.proofs.Header.{header-le}
+use Rattle.logsize.proofs.Header.{header-le}
 use Rattle.layout.specs.Places.{rmapBlock}
 use Rattle.counts.proofs.head.rmap_of.Statement.{statement}
 use Rattle.counts.proofs.head.rmap_of.Tie as tie

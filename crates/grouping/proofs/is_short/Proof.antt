@@ -1,0 +1,15 @@
+-- `grouping::is_short` meets its contract: each call gives what its definition says.
+-- Assumes nothing.
+use Rattle.grouping.specs.Groups.{isShort}
+use Rattle.grouping.proofs.is_short.Statement.{statement}
+use Rattle.grouping.proofs.is_short.Tie as tie
+
+returns : tie.Need-returns
+unfolding isShort
+returns c = cc
+
+pub is-short-spec : {M : Type 1} → statement M
+is-short-spec =
+    tie.close
+    (tie.spec
+    (λ c κs. tt) (λ c κs. tt) returns)

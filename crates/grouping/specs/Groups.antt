@@ -1,0 +1,69 @@
+-- Block count and allocation groups, and refusals 9 to 18.
+-- Assumes nothing.
+use mathlib.Core.Bool.{Bool, _&&_, not}
+use mathlib.Core.List.{List, [], _∷_}
+use Prim.Native.Nat.{ℕ, _*_, _/_, _%_, min}
+use lib.Dec.{ltb, leb, eqb}
+use Rattle.arith.specs.Choice.{when}
+use Rattle.arith.specs.Numbers.{ceilDiv}
+use Rattle.refusals.specs.Table.{Refusal, _if_}
+use Rattle.grouping.specs.Limits.{minGroup, maxGroup, maxGroups, largeBytes, fourGroupBytes, twoGroupBytes}
+use Rattle.params.specs.Options.{given64, zero64, partial64}
+use Rattle.params.specs.declared.OptU64.{OptU64}
+use Rattle.params.specs.declared.OptU64.the-variants.{Absent, Given}
+use Rattle.grouping.specs.declared.Groups.{Groups}
+
+-- the blocks that are asked for: the size option's, else the device's
+unfoldable pub askedBlocks : OptU64 → ℕ → ℕ → ℕ
+askedBlocks (Given bytes) device bs = bytes / bs
+askedBlocks Absent device bs = device / bs
+
+-- blocks of a group where neither option is given: from 4 TiB on the largest; below, a quarter,
+-- or a half below 64 MiB, or all below 32 MiB
+unfoldable pub defaultSize : ℕ → ℕ → ℕ
+defaultSize bs d =
+    when (leb (largeBytes / bs) d) (maxGroup bs)
+    (min (maxGroup bs)
+    (ceilDiv d (when (leb (fourGroupBytes / bs) d) 4 (when (leb (twoGroupBytes / bs) d) 2 1))))
+
+-- groups of s blocks over d blocks
+abbrev pub groupsOf : ℕ → ℕ → Groups
+groupsOf d s = record { dblocks = d; agsize = s; agcount = ceilDiv d s }
+
+-- agsize decides where both are given
+unfoldable pub initialGroups : OptU64 → OptU64 → ℕ → ℕ → Groups
+initialGroups (Given a) count bs d = groupsOf d (a / bs)
+initialGroups Absent (Given n) bs d = record { dblocks = d; agsize = ceilDiv d n; agcount = n }
+initialGroups Absent Absent bs d = groupsOf d (defaultSize bs d)
+
+-- the last group is partial and under the least size
+unfoldable pub isShort : Groups → ℕ → Bool
+isShort g least = not (eqb (g .dblocks % g .agsize) 0) && ltb (g .dblocks % g .agsize) least
+
+-- without a short last group
+unfoldable pub trim : Groups → ℕ → Groups
+trim g least =
+    record {
+      dblocks = when (isShort g least) (g .dblocks / g .agsize * g .agsize) (g .dblocks);
+      agsize = g .agsize;
+      agcount = when (isShort g least) (g .dblocks / g .agsize) (g .agcount);
+    }
+
+-- d blocks are asked for, and the device has `device`; 13 and 18 speak of the resulting count
+unfoldable pub optionsRefusals : OptU64 → OptU64 → ℕ → ℕ → ℕ → Bool → List Refusal
+optionsRefusals agsize agcount bs device d short =
+    9 if ltb device d
+    ∷ 10 if ltb d (minGroup bs)
+    ∷ 11 if partial64 agsize bs
+    ∷ 12 if zero64 agsize
+    ∷ 13 if (not (given64 agsize) && zero64 agcount)
+    ∷ 14 if (given64 agcount && short)
+    ∷ []
+
+unfoldable pub groupsRefusals : ℕ → ℕ → ℕ → ℕ → List Refusal
+groupsRefusals bs dblocks agsize agcount =
+    15 if ltb agsize (minGroup bs)
+    ∷ 16 if ltb (maxGroup bs) agsize
+    ∷ 17 if ltb dblocks agsize
+    ∷ 18 if ltb maxGroups agcount
+    ∷ []

@@ -1,0 +1,16 @@
+-- `logsize::header_of` meets its contract: each call gives what its definition says.
+-- Assumes nothing.
+use borrow.Author.Needs.{needs}
+use Rattle.logsize.specs.Log.{headerOf}
+use Rattle.logsize.proofs.header_of.Statement.{statement}
+use Rattle.logsize.proofs.header_of.Tie as tie
+
+returns : tie.Need-returns
+unfolding headerOf
+returns c = cc
+
+pub header-of-spec : {M : Type 1} → statement M
+header-of-spec =
+    tie.close
+    (tie.spec
+    (λ c. search needs) (λ c κs. tt) returns)

@@ -1,0 +1,44 @@
+-- Head blocks, log and imaxpct, and refusals 19 to 24.
+-- Assumes nothing.
+use mathlib.Core.Bool.{not}
+use mathlib.Core.List.{List, [], _∷_}
+use Prim.Native.Nat.{ℕ, _+_, _*_, _-_, _/_, min, max}
+use lib.Dec.{ltb, eqb}
+use Rattle.arith.specs.Choice.{when, bit}
+use Rattle.arith.specs.Numbers.{ceilDiv}
+use Rattle.refusals.specs.Table.{Refusal, _if_}
+use Rattle.grouping.specs.Limits.{tib}
+use Rattle.logsize.specs.Limits.{minBytes, minLogBytes, maxLogBytes, maxLogBlocks, logRatio, logReserve, minGroups, maxImaxpct, labelRoom}
+use Rattle.params.specs.Options.{or8}
+use Rattle.params.specs.declared.OptU8.{OptU8}
+use Rattle.params.specs.declared.Features.{Features}
+
+-- the blocks of the four header sectors
+unfoldable pub headerOf : ℕ → ℕ → ℕ
+headerOf sector bs = ceilDiv (4 * sector) bs
+
+-- header blocks, three roots, and one more for each of finobt, rmapbt, reflink
+unfoldable pub preallocOf : Features → ℕ → ℕ → ℕ
+preallocOf f sector bs = headerOf sector bs + 3 + bit (f .finobt) + bit (f .rmapbt) + bit (f .reflink)
+
+-- the log: a 2048th of the blocks, at least 64 MiB, at most what the group has room for, 1,048,576 blocks and 2,136,997,888 bytes
+unfoldable pub logBlocks : ℕ → ℕ → ℕ → ℕ → ℕ
+logBlocks dblocks agsize prealloc bs =
+    min (min (min (max (dblocks / logRatio) (minLogBytes / bs)) (agsize - prealloc - logReserve)) maxLogBlocks) (maxLogBytes / bs)
+
+-- imaxpct where none is given: 25 below 1 TiB, 5 below 50 TiB, else 1
+unfoldable pub defaultImaxpct : ℕ → ℕ → ℕ
+defaultImaxpct bs d = when (ltb d (tib / bs)) 25 (when (ltb d (50 * tib / bs)) 5 1)
+
+abbrev pub imaxpctOf : OptU8 → ℕ → ℕ → ℕ
+imaxpctOf option bs d = or8 option (defaultImaxpct bs d)
+
+unfoldable pub lastRefusals : ℕ → ℕ → ℕ → ℕ → ℕ → ℕ → ℕ → List Refusal
+lastRefusals imaxpct label bs dblocks agsize agcount log =
+    19 if ltb maxImaxpct imaxpct
+    ∷ 20 if ltb labelRoom label
+    ∷ 21 if ltb dblocks (minBytes / bs)
+    ∷ 22 if ltb log (minLogBytes / bs)
+    ∷ 23 if ltb agcount minGroups
+    ∷ 24 if not (eqb agcount (ceilDiv dblocks agsize))
+    ∷ []
