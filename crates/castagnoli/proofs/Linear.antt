@@ -1,20 +1,18 @@
 -- Zero bits are a linear map of the register: what its tables say, for any number of bits.
 -- Assumes nothing.
 use mathlib.Core.Path.{_≡_, refl, ap, ap₂, sym, _∙_, subst}
-use mathlib.Core.List.{List, [], _∷_, _++_, map, append-nil}
+use mathlib.Core.List.{List, [], _∷_, _++_, map}
 use Prim.Native.Nat.{ℕ, zero, suc, _+_, _-_, _*_, _/_, _%_, _^_, _<_, _≤_}
-use native.Mathlib.Nat.{mod-lt, add-zero, zero-add, suc-add, suc-mul, pow-suc, mul-assoc, mul-comm, mul-one, mul-zero, one-mul, zero-mul, mul-add, add-mul, div-add-mod', div-lt-iff-lt-mul, div-one, add-comm, eq-zero-or-pos, le-of-eq, mul-suc}
+use native.Mathlib.Nat.{mod-lt, add-zero, zero-add, suc-add, suc-mul, pow-suc, mul-assoc, mul-comm, mul-one, mul-zero, one-mul, zero-mul, mul-add, add-mul, div-add-mod', div-lt-iff-lt-mul, div-one, add-comm, eq-zero-or-pos}
 use mathlib.Core.Logic.{⊎-elim}
 use native.Mathlib.Omega.{arith}
 use native.Mathlib.Numerals.{add-one}
-use lib.Dec.{lit<, lit≤, T, eqb, eqb→eq}
+use lib.Dec.{lit<, lit≤}
 use Rattle.endian.specs.Bytes.{patch}
-use Rattle.endian.proofs.Fields.{and-left, and-right}
 use Rattle.endian.proofs.Laws.{take-patch, drop-patch}
-use mathlib.Core.Bool.{Bool, true, false, _&&_}
 use lib.Pow.{pow-pos, pow-lt, shr-shr}
 use lib.ListN.{getD, length, take, drop, replicate, length-map, List·getD-append, length-drop, length-replicate, getD-replicate, take-append-drop}
-use lib.Seq.{getD-append-add, ext-getD, getD-drop, take-all}
+use lib.Seq.{getD-append-add, ext-getD, getD-drop}
 use lib.Bits.{bitXor, xor-shifted, xor-zero-r, xor-zero-l, xor-comm, xor-lt, bitOr, or-add-and, and-le-l, and-le-r}
 use Rattle.castagnoli.proofs.Xor.{by-digit, xor-assoc}
 use Rattle.castagnoli.proofs.Register.{bits-sum, bits-in, byte-in, bytes-append, update-turn}
@@ -98,7 +96,7 @@ through-made m (suc n) i x h =
     ap (bitXor (crcBits m (2 ^ i) 0 * (x % 2))) (through-made m n (suc i) (x / 2) (omega (arith, l))) ∙ sym (peel m i x)
 
 -- the table of twice as many bits
-twice : (m n i : ℕ) → i + n ≤ 32 → map (through (made bit m 32 0)) (made bit m n i) ≡ made bit (m + m) n i
+pub twice : (m n i : ℕ) → i + n ≤ 32 → map (through (made bit m 32 0)) (made bit m n i) ≡ made bit (m + m) n i
 unfolding made
 twice m zero i h = refl
 twice m (suc n) i h =
@@ -115,7 +113,7 @@ row-leap (suc k) m =
     ∙ ap (λ (j : ℕ). made bit j 32 0) (let e : m + m ≡ m * 2 = omega arith in ap (λ (j : ℕ). j * 2 ^ k) e ∙ mul-assoc m 2 (2 ^ k) ∙ ap (λ (j : ℕ). m * j) (mul-comm 2 (2 ^ k) ∙ sym (pow-suc 2 k)))
 
 -- a zero byte more
-longer : (m n i : ℕ) → map (zeroByte []) (made itself m n i) ≡ made itself (m + 8) n i
+pub longer : (m n i : ℕ) → map (zeroByte []) (made itself m n i) ≡ made itself (m + 8) n i
 unfolding made
 longer m zero i = refl
 longer m (suc n) i = ap₂ (λ (x : ℕ) (xs : List ℕ). x ∷ xs) (sym (bits-add m 8 i)) (longer m n (suc i))
@@ -139,39 +137,6 @@ in-row g w (suc n) (suc k) i t e h l =
     (ap (λ (j : ℕ). j + i) (suc-mul k w) ∙ (let d : k * w + w + i ≡ w + (k * w + i) = omega arith in d) ∙ ap (λ (j : ℕ). j + (k * w + i)) (sym e))
     ∙ getD-append-add t (rows g n (map (g t) t)) (k * w + i) 0
     ∙ in-row g w n k i (map (g t) t) (length-map t (g t) ∙ e) (omega arith) l
-
--- ---- A table is tested row by row, each against the one before as it stands: to compute `rows` from its first row alone costs a power of their number.
-abbrev pub same : List ℕ → List ℕ → Bool
-same [] [] = true
-same [] (y ∷ ys) = false
-same (x ∷ xs) [] = false
-same (x ∷ xs) (y ∷ ys) = eqb x y && same xs ys
-
-pub same-eq : (xs ys : List ℕ) → T (same xs ys) → xs ≡ ys
-same-eq [] [] t = refl
-same-eq [] (y ∷ ys) t = absurd t
-same-eq (x ∷ xs) [] t = absurd t
-same-eq (x ∷ xs) (y ∷ ys) t =
-    ap₂ (λ (z : ℕ) (zs : List ℕ). z ∷ zs) (eqb→eq x y (and-left (eqb x y) (same xs ys) t)) (same-eq xs ys (and-right (eqb x y) (same xs ys) t))
-
--- each table of `w` entries is made of the one before, `n` times
-abbrev pub linked : (List ℕ → ℕ → ℕ) → ℕ → ℕ → List ℕ → Bool
-linked g w zero l = true
-linked g w (suc n) l = same (take w (drop w l)) (map (g (take w l)) (take w l)) && linked g w n (drop w l)
-
-pub linked-rows : (g : List ℕ → ℕ → ℕ) (w n : ℕ) (l : List ℕ) → T (linked g w n l) → length l ≡ w * suc n → l ≡ rows g (suc n) (take w l)
-unfolding rows
-linked-rows g w zero l t e = sym (append-nil (take w l) ∙ take-all w l (le-of-eq (e ∙ mul-one w)))
-linked-rows g w (suc n) l t e =
-    let d : length (drop w l) ≡ w * suc n = length-drop w l ∙ ap (λ (k : ℕ). k - w) (e ∙ mul-suc w (suc n)) ∙ omega arith in
-    sym (take-append-drop w l)
-    ∙ ap (λ (r : List ℕ). take w l ++ r)
-    (linked-rows g w n (drop w l) (and-right (same (take w (drop w l)) (map (g (take w l)) (take w l))) (linked g w n (drop w l)) t) d
-    ∙ ap (rows g (suc n)) (same-eq (take w (drop w l)) (map (g (take w l)) (take w l)) (and-left (same (take w (drop w l)) (map (g (take w l)) (take w l))) (linked g w n (drop w l)) t)))
-
-pub leap-right : (l : List ℕ) → T (linked through 32 8 l) → length l ≡ 288 → T (same (take 32 l) (made bit 512 32 0)) → l ≡ leapTable
-unfolding leapTable
-leap-right l t e f = linked-rows through 32 8 l t e ∙ ap (rows through 9) (same-eq (take 32 l) (made bit 512 32 0) f)
 
 -- ---- what the functions' tables hold
 pub byte-at : (i : ℕ) → i < 256 → getD byteTable i 0 ≡ crcBits 8 i 0

@@ -57,7 +57,7 @@ bits-sum zero x y = refl
 bits-sum (suc n) x y = ap (λ (k : ℕ). crcBits n k 0) (bit-sum x y) ∙ bits-sum n (crcBit x 0) (crcBit y 0)
 
 -- zeros only move
-bit-even : (y : ℕ) → crcBit (y * 2) 0 ≡ y
+pub bit-even : (y : ℕ) → crcBit (y * 2) 0 ≡ y
 unfolding crcBit
 bit-even y =
     let e : (y * 2 + 0) % 2 ≡ 0 = omega arith in

@@ -15,11 +15,7 @@ use Rattle.castagnoli.proofs.Register.{bits-sum, bits-in, bits-high, by
 use Rattle.castagnoli.specs.Register.{crcBit, crcBits, crcBytes}
 use Rattle.little.specs.Bytes.{leAt}
 use Rattle.castagnoli.specs.Tables.{made, itself, rows, zeroByte, sliceTable}
-use Rattle.castagnoli.proofs.Linear.{bits-add, bits-none, slice-at, linked, linked-rows, same, same-eq}
-
-pub slice-right : (l : List ℕ) → T (linked zeroByte 256 7 l) → length l ≡ 2048 → T (same (take 256 l) (made itself 8 256 0)) → l ≡ sliceTable
-unfolding sliceTable
-slice-right l t e f = linked-rows zeroByte 256 7 l t e ∙ ap (rows zeroByte 8) (same-eq (take 256 l) (made itself 8 256 0) f)
+use Rattle.castagnoli.proofs.Linear.{bits-add, bits-none, slice-at}
 
 -- the low byte, and the rest, moved
 pub peel-byte : (m x : ℕ) → crcBits (8 + m) x 0 ≡ bitXor (crcBits (8 + m) (x % 256) 0) (crcBits m (x / 256) 0)

@@ -1,5 +1,5 @@
-// The constant tables of CRC32C, each proved equal to its definition by computing that definition once. A crate of their own, so that an
-// edit of the loops over them does not compute them again.
+// The constant tables of CRC32C, each proved equal to its definition by a test of its entries. A crate of their own, so that an edit of the
+// loops over them does not test them again.
 ghost use mathlib.Core.Path.{_≡_};
 ghost use Rattle.castagnoli.specs.Tables.{byteTable, leapTable, sliceTable};
 

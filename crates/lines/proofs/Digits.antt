@@ -44,6 +44,18 @@ decimal-more n h =
     let e : n ≡ suc (n - 1) = omega arith in
     ap (λ (t : ℕ). digits t n) e ∙ digits-more (n - 1) n h (omega arith)
 
+-- for a number of `k` + 1 digits `k` turns are enough
+pub digits-few : (k n : ℕ) → n < 10 ^ suc k → decimal n ≡ digits k n
+unfolding digits
+digits-few zero n h = decimal-small n (let g : n < 10 = h in g)
+digits-few (suc k) n h = go (ltb n 10) refl (digits-few k (n / 10))
+  where
+    go : (t : Bool) → ltb n 10 ≡ t → (n / 10 < 10 ^ suc k → decimal (n / 10) ≡ digits k (n / 10)) → decimal n ≡ pick (ltb n 10) (digit n ∷ []) (digits k (n / 10) ++ (digit (n % 10) ∷ []))
+    go true e f = rw e (decimal-small n (ltb-true n 10 e))
+    go false e f =
+        let p = pow-suc 10 (suc k) in
+        rw e (decimal-more n (ltb-false n 10 e) ∙ ap (λ (ds : List ℕ). ds ++ (digit (n % 10) ∷ [])) (f (omega (arith, p))))
+
 pub length-small : (n : ℕ) → n < 10 → length (decimal n) ≡ 1
 length-small n h = rw (decimal-small n h) refl
 

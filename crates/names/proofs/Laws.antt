@@ -1,11 +1,13 @@
 -- What is read for the name, by the length.
 -- Assumes nothing.
-use mathlib.Core.Path.{_≡_, refl}
+use mathlib.Core.Path.{_≡_, refl, sym}
 use mathlib.Core.List.{List}
 use Prim.Native.Nat.{ℕ, _≤_, _<_}
 use lib.ListN.{length, replicate}
 use borrow.Author.Tests.{lt-ltb, le-ltb}
-use Rattle.geometry.specs.Compute.{refused}
+use Rattle.geometry.specs.declared.Computed.{Computed}
+use Rattle.geometry.specs.declared.Geometry.{Geometry}
+use Rattle.geometry.specs.Compute.{refused, zeroGeometry}
 use Rattle.answers.specs.Named.{namedAnswer}
 use Rattle.named.specs.Named.{namesAt, namedBy, uuidAt}
 use Rattle.names.specs.Read.{namedRead, uuidRead}
@@ -14,6 +16,9 @@ module _ (xs : List ℕ) where
   pub short-name : length xs < 512 → namedRead xs ≡ refused 27
   unfolding namedRead
   short-name h = rw (lt-ltb (length xs) 512 h) refl
+
+  pub short-read : length xs < 512 → (g : Geometry) → g ≡ zeroGeometry → _≡_ {A = Computed} (record { number = 27; geometry = g }) (namedRead xs)
+  short-read h g e = rw e (sym (short-name h))
 
   pub full-name : 512 ≤ length xs → namedRead xs ≡ namedBy xs
   unfolding namedRead

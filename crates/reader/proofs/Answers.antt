@@ -27,9 +27,9 @@ module _ (g : Geometry) (u : List ℕ) (k : ℕ) (xs : List ℕ) where
   unfolding readGroup
   refused n e h = rw (← e, ne-eqb n 0 h) refl
 
-  pub accepted : (n : ℕ) → n ≡ groupNumber g u k xs → n ≡ 0 → _≡_ {A = Planned} (record { number = 0; plan = planned g k .plan }) (readGroup g u k xs)
+  pub accepted : (n : ℕ) → n ≡ groupNumber g u k xs → n ≡ 0 → (q : Planned) → q ≡ planned g k → _≡_ {A = Planned} (record { number = 0; plan = q .plan }) (readGroup g u k xs)
   unfolding readGroup
-  accepted n e z = rw (← e, z) refl
+  accepted n e z q d = rw (d, ← e, z) refl
 
 -- ---- group 0
 

@@ -3,11 +3,12 @@
 use mathlib.Core.Path.{_≡_, refl, sym, _∙_}
 use mathlib.Core.Bool.{Bool, true, false}
 use mathlib.Core.List.{List}
-use Prim.Native.Nat.{ℕ, _<_}
+use Prim.Native.Nat.{ℕ, _≤_, _<_}
 use native.Mathlib.Omega.{arith}
 use borrow.Author.Tests.{eqb-true, leb-false}
 use lib.Dec.{eqb, leb}
-use lib.ListN.{length}
+use lib.ListN.{length, take}
+use lib.Seq.{length-take-le}
 use Rattle.arith.specs.Choice.{when}
 use Rattle.refusals.specs.Table.{first}
 use Rattle.structs.specs.Written.{Written}
@@ -23,6 +24,10 @@ use Rattle.shared.proofs.Made.{head-fits}
 use Rattle.shared.proofs.Logging.{block-fits}
 use Rattle.exact.specs.Read.{placeTests, groupNumber, readLog}
 use Rattle.compare.specs.Places.{comparedNumber}
+
+-- as much of a room as there are bytes to compare
+pub room-for : {m : ℕ} (xs work : List ℕ) → length xs ≤ m → m ≡ length work → length (take (length xs) work) ≡ length xs
+room-for xs work h e = length-take-le (length xs) work (omega arith)
 
 -- ---- what is left counts only where a place is there, and long enough, and planned
 

@@ -14,7 +14,7 @@ returns c =
 returns-2 : tie.Need-returns-2
 returns-2 c =
     let a = c .before .before .before .before .before .args in
-    cc (accepted (a .g) (a .uuid) (a .agno) (a .head .now) (c .before .before .before .group-number .result) (c .before .before .before .group-number .ensures) (c .before .before .if1 .left))
+    accepted (a .g) (a .uuid) (a .agno) (a .head .now) _ (c .before .before .before .group-number .ensures) (c .before .before .if1 .left) _ (c .before .plan-ag .ensures)
 
 pub read-group-spec : {M : Type 1} → statement M
 read-group-spec = tie.close (tie.spec (λ c κs. search needs) (λ c κs. search needs) returns (λ c κs. search needs) returns-2)

@@ -1,11 +1,13 @@
 -- `counts::head::ag_max_usable` meets its contract: each call gives what its definition says.
 -- Assumes nothing.
 use borrow.Author.Needs.{needs}
+use mathlib.Core.Path.{ap, _∙_}
+use Rattle.counts.specs.Known.{known64}
 use Rattle.counts.proofs.head.ag_max_usable.Statement.{statement}
 use Rattle.counts.proofs.head.ag_max_usable.Tie as tie
 
 returns : tie.Need-returns
-returns c = cc
+returns c = c .known-64 .ensures ∙ ap (known64 _) (c .before .usable-of .ensures)
 
 pub ag-max-usable-spec : {M : Type 1} → statement M
 ag-max-usable-spec =

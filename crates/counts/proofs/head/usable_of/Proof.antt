@@ -11,7 +11,7 @@ add-kept c = let a = c .before .args in omega (arith, prealloc-le (a .f) (a .sec
 
 returns : tie.Need-returns
 unfolding usableOf
-returns c = cc
+returns c = rw (c .minus .ensures, c .before .prealloc-of .ensures)
 
 pub usable-of-spec : {M : Type 1} → statement M
 usable-of-spec =

@@ -6,7 +6,7 @@ use Rattle.counts.proofs.inodes.align_of.Tie as tie
 
 returns : tie.Need-returns
 unfolding alignOf
-returns c = cc
+returns c = rw (c .pick-u64 .ensures, c .before .cluster-of .ensures, c .before .before .chunk-of .ensures)
 
 pub align-of-spec : {M : Type 1} → statement M
 align-of-spec =

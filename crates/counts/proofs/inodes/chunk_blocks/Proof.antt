@@ -1,11 +1,13 @@
 -- `counts::inodes::chunk_blocks` meets its contract: each call gives what its definition says.
 -- Assumes nothing.
 use borrow.Author.Needs.{needs}
+use mathlib.Core.Path.{ap, _∙_}
+use Rattle.counts.specs.Known.{known64}
 use Rattle.counts.proofs.inodes.chunk_blocks.Statement.{statement}
 use Rattle.counts.proofs.inodes.chunk_blocks.Tie as tie
 
 returns : tie.Need-returns
-returns c = cc
+returns c = c .known-64 .ensures ∙ ap (known64 _) (c .before .chunk-of .ensures)
 
 pub chunk-blocks-spec : {M : Type 1} → statement M
 chunk-blocks-spec =

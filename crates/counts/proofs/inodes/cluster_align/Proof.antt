@@ -1,11 +1,13 @@
 -- `counts::inodes::cluster_align` meets its contract: each call gives what its definition says.
 -- Assumes nothing.
 use borrow.Author.Needs.{needs}
+use mathlib.Core.Path.{ap, _∙_}
+use Rattle.counts.specs.Known.{known64}
 use Rattle.counts.proofs.inodes.cluster_align.Statement.{statement}
 use Rattle.counts.proofs.inodes.cluster_align.Tie as tie
 
 returns : tie.Need-returns
-returns c = cc
+returns c = c .known-64 .ensures ∙ ap (known64 _) (c .before .cluster-of .ensures)
 
 pub cluster-align-spec : {M : Type 1} → statement M
 cluster-align-spec =

@@ -1,11 +1,13 @@
 -- `counts::inodes::inoalignmt` meets its contract: each call gives what its definition says.
 -- Assumes nothing.
 use borrow.Author.Needs.{needs}
+use mathlib.Core.Path.{ap, _∙_}
+use Rattle.counts.specs.Known.{known64}
 use Rattle.counts.proofs.inodes.inoalignmt.Statement.{statement}
 use Rattle.counts.proofs.inodes.inoalignmt.Tie as tie
 
 returns : tie.Need-returns
-returns c = cc
+returns c = c .known-64 .ensures ∙ ap (known64 _) (c .before .align-of .ensures)
 
 pub inoalignmt-spec : {M : Type 1} → statement M
 inoalignmt-spec =

@@ -27,7 +27,7 @@ align-to-requires c κs =
 
 returns : tie.Need-returns
 unfolding rootChunkOf
-returns c = cc
+returns c = rw (c .align-to .ensures, c .before .align-of .ensures, c .before .before .freelist-of .ensures, c .before .before .before .prealloc-of .ensures)
 
 pub root-chunk-of-spec : {M : Type 1} → statement M
 root-chunk-of-spec =

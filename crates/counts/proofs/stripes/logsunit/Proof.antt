@@ -1,6 +1,9 @@
 -- `counts::stripes::logsunit` meets its contract.
 -- Assumes nothing.
 use borrow.Author.Needs.{needs}
+use mathlib.Core.Path.{ap, _∙_}
+use Rattle.layout.specs.Places.{logsunitOf}
+use Rattle.counts.specs.Known.{known32}
 use Rattle.counts.proofs.stripes.logsunit.Statement.{statement}
 use Rattle.counts.proofs.stripes.logsunit.Tie as tie
 
@@ -14,7 +17,7 @@ known-32-requires : tie.Need-known-32-requires
 known-32-requires c κs = search needs
 
 returns : tie.Need-returns
-returns c = cc
+returns c = c .known-32 .ensures ∙ ap (known32 _) (c .before .logsunit-of .ensures ∙ ap logsunitOf (c .before .before .lsunit-of .ensures))
 
 pub logsunit-spec : {M : Type 1} → statement M
 logsunit-spec =

@@ -1,6 +1,8 @@
 -- `counts::stripes::rextsize` meets its contract.
 -- Assumes nothing.
 use borrow.Author.Needs.{needs}
+use mathlib.Core.Path.{ap, _∙_}
+use Rattle.counts.specs.Known.{known32}
 use Rattle.counts.proofs.stripes.rextsize.Statement.{statement}
 use Rattle.counts.proofs.stripes.rextsize.Tie as tie
 
@@ -11,7 +13,7 @@ known-32-requires : tie.Need-known-32-requires
 known-32-requires c κs = search needs
 
 returns : tie.Need-returns
-returns c = cc
+returns c = c .known-32 .ensures ∙ ap (known32 _) (c .before .rext-of .ensures)
 
 pub rextsize-spec : {M : Type 1} → statement M
 rextsize-spec = tie.close (tie.spec rext-of-requires known-32-requires returns)

@@ -48,7 +48,7 @@ returns c =
     let u : length (args .uuid .now) ≡ 16 = search needs in
     put-in (c .before .before .put-bytes .ensures) (search needs)
     ∙ ap (patch 304 (args .uuid .now)) (put-table 324 (c .before .before .before .before .before .before .before .put-all .ensures) (let h : 324 ≤ length (args .rec .now) = search needs in h) tt)
-    ∙ header-written _ _ _ _ _ _ _ u (cc) (c .before .before .before .before .before .before .before .before .before .before .before .larger2 .ensures)
+    ∙ header-written _ _ _ _ _ _ _ u (rw (c .before .before .before .before .before .before .before .before .before .before .before .before .larger .ensures, c .before .before .before .before .before .before .before .before .before .before .before .before .before .headers .ensures)) (c .before .before .before .before .before .before .before .before .before .before .before .larger2 .ensures)
 
 pub header-spec : {M : Type 1} → statement M
 header-spec =
