@@ -166,14 +166,14 @@ module _ (g : Geometry) (z : Bounds g) where
   unfolding rootChunk
   root-few = z .places .chunk-room
 
-  -- n blocks of group k from block b on, at `off` in the buffer
-  pub blocks-room : (bs at n k b len off room : ℕ) → bs ≡ g .blocksize → at ≡ byteOf bs (g .agsize) k b → k < g .agcount → b + n ≤ 1000 → n * g .blocksize ≤ len → off + blocksLength (g .blocksize) n ≤ room
-      → (at + n * bs ≤ 2 ^ 64) × (0 < bs) × (n * bs ≤ len) × (off + n * (18 + bs) ≤ room)
+  -- n blocks of group k from block b on, over the whole buffer
+  pub blocks-room : (bs at n few k b len room : ℕ) → bs ≡ g .blocksize → n ≡ few → at ≡ byteOf bs (g .agsize) k b → k < g .agcount → b + few ≤ 1000 → len ≡ few * g .blocksize → room ≡ blocksLength (g .blocksize) few
+      → (at + n * bs ≤ 2 ^ 64) × (0 < bs) × (n * bs ≤ len) × (0 + n * (18 + bs) ≤ room)
   unfolding byteOf before blocksLength
-  blocks-room bs at n k b len off room e a h few l r =
-      let w = group-blocks g z k b n h few in
+  blocks-room bs at n few k b len room e m a h f l r =
+      let w = group-blocks g z k b few h f in
       let s = size-least g z in
-      rw (a, e) (w, omega arith, l, r)
+      rw (a, m, e) (w, omega arith, omega arith, omega arith)
 
   -- the header blocks are of group 0's head
   pub closing-room : (bs n len : ℕ) → bs ≡ g .blocksize → n ≡ headerBlocks g → len ≡ headBlocks g * g .blocksize → (0 < bs) × (n * bs ≤ 2 ^ 64) × (n * bs ≤ len)

@@ -1,8 +1,9 @@
 -- `writes::write_chunk` meets its contract.
 -- Assumes nothing.
 use lib.ListN.{length}
-use Prim.Native.Nat.{_≤_}
-use mathlib.Core.Path.{_≡_, sym, _∙_}
+use mathlib.Core.List.{List}
+use Prim.Native.Nat.{ℕ, _≤_}
+use mathlib.Core.Path.{_≡_, sym, ap, _∙_}
 use native.Mathlib.Omega.{arith}
 use borrow.Author.Tests.{ne-eqb}
 use borrow.Author.Needs.{needs}
@@ -43,7 +44,7 @@ put-chunk-requires c κs =
     let m = c .before .before .before .before .before .make-part in
     let r : p .part-of .result ≤ length (p .before .before .before .before .before .args .work .now) = omega (arith, e, f .roomy) in
     let a = lent-again (p .part-of .result) (p .before .before .before .before .before .args .work .now) _ r (m .kept .1 .1 .0) in
-    (f .format, f .there, a ∙ m .ensures, rw a (m .kept .1 .1 .0 ∙ part-length 0 (p .part-of .result) (p .before .before .before .before .before .args .work .now) (omega arith) ∙ e), f .long)
+    (f .format, f .there, a ∙ m .ensures, ap (λ (l : List ℕ). length l) a ∙ (m .kept .1 .1 .0 ∙ part-length 0 (p .part-of .result) (p .before .before .before .before .before .args .work .now) (omega arith) ∙ e), f .long)
 
 returns-2 : tie.Need-returns-2
 returns-2 c =

@@ -1,7 +1,7 @@
 -- `writes::chunks::put_chunk` meets its contract.
 -- Assumes nothing.
-use Prim.Native.Nat.{_-_}
-use mathlib.Core.Path.{_≡_, refl, ap, _∙_}
+use Prim.Native.Nat.{_+_, _-_}
+use mathlib.Core.Path.{_≡_, refl, sym, ap, _∙_}
 use native.Mathlib.Omega.{arith}
 use lib.ListN.{length}
 use Rattle.layout.specs.Bounds.{Bounds}
@@ -63,8 +63,8 @@ put-blocks-requires c κs =
     let h = c .before .before .if2 .taken in
     let e = c .before .before .before .before .before .sizes-of .ensures in
     let m = bounds s .places .head-most in
-    blocks-room g (bounds s) _ _ _ _ 0 _ 0 _ (block-is s e) (c .before .byte-of2 .ensures) (one-less k (g .agcount) n h) (rw e (omega arith))
-    (rw e (omega (arith, s .pre .3 ∙ head-size g k n (λ q. n (omega arith))))) (rw e (omega (arith, s .pre .4 ∙ group-length g k n h)))
+    blocks-room g (bounds s) _ _ _ _ _ 0 _ _ (block-is s e) (ap (λ (z : Sizes). z .head) e) (c .before .byte-of2 .ensures) (one-less k (g .agcount) n h) (omega arith)
+    (s .pre .3 ∙ head-size g k n (λ q. n (omega arith))) (s .pre .4 ∙ group-length g k n h)
 
 returns-2 : tie.Need-returns-2
 returns-2 c =
@@ -92,8 +92,8 @@ put-blocks-requires-2 c κs =
     let e = c .before .before .before .before .before .before .before .before .before .sizes-of .ensures in
     let f = root-few g (bounds s) in
     let n = bounds s .groups .count-least in
-    blocks-room g (bounds s) _ _ _ 0 _ _ 0 _ (block-is s e) (c .before .byte-of3 .ensures) (omega arith) (rw (c .before .before .root-chunk-of .ensures, e) (omega arith))
-    (rw e (omega (arith, s .pre .3 ∙ root-size g k (λ q. omega arith) t))) (rw e (omega (arith, s .pre .4 ∙ root-length g k h t)))
+    blocks-room g (bounds s) _ _ _ _ 0 _ _ _ (block-is s e) (ap (λ (z : Sizes). z .chunk) e) (c .before .byte-of3 .ensures) (omega arith) (omega (arith, f, c .before .before .root-chunk-of .ensures))
+    (s .pre .3 ∙ root-size g k (λ q. omega arith) t) (s .pre .4 ∙ root-length g k h t)
 
 returns-3 : tie.Need-returns-3
 unfolding rootChunk
@@ -111,7 +111,7 @@ put-closing-requires c κs =
     let n = c .before .if3 .left in
     let e = c .before .before .before .before .before .before .sizes-of .ensures in
     let r = closing-room g (bounds s) _ _ _ (block-is s e) (ap (λ (z : Sizes). z .header) e) (s .pre .3 ∙ head-size g k (λ q. omega arith) n) in
-    (r .0, r .1, r .2, rw e (s .pre .4 ∙ closing-length g k h n))
+    (r .0, r .1, r .2, s .pre .4 ∙ closing-length g k h n ∙ ap (λ (z : Sizes). 2 + blocksLength (z .block) (z .header) + 2) (sym e))
 
 returns-4 : tie.Need-returns-4
 returns-4 c =
