@@ -1,4 +1,4 @@
--- The numbers of a run: what each says where it is 0, and which it is; and that an accepted run has its sizes.
+-- The numbers of a run: what each says where it is 0, and which it is.
 -- Assumes nothing.
 use mathlib.Core.Path.{_≡_, refl, sym, _∙_}
 use mathlib.Core.Bool.{Bool, true, false}
@@ -6,7 +6,6 @@ use Prim.Native.Nat.{ℕ, _+_, _-_, _<_, _≤_, _^_}
 use native.Mathlib.Omega.{arith}
 use borrow.Author.Tests.{eq-eqb, ne-eqb, eqb-true, leb-true, leb-false, le-leb, lt-leb}
 use lib.Dec.{leb, eqb}
-use lib.ListN.{length}
 use Rattle.arith.specs.Choice.{when}
 use Rattle.structs.specs.Written.{require}
 use Rattle.structs.proofs.Written.{passed}
@@ -16,10 +15,10 @@ use Rattle.totals.specs.Totals.{plansNumber}
 use Rattle.run.specs.declared.Run.{Run}
 use Rattle.run.specs.Runs.{timeRefusal}
 use Rattle.written.specs.Listing.{chunkCount}
-use Rattle.shared.proofs.Accepted.{or-second, or-zero, bounded, size-least, size-most}
+use Rattle.shared.proofs.Accepted.{or-second, or-zero}
+use Rattle.lengths.specs.Lengths.{chunkLength, partLength}
 use Rattle.listing.specs.declared.Counted.{Counted}
-use Rattle.listing.specs.declared.lengths.Sizes.{Sizes}
-use Rattle.listing.specs.Chunks.{formatNumber, placeNumber, writeNumber, chunkLength, partLength, counted, sizesOf, Sized, Ready}
+use Rattle.listing.specs.Chunks.{formatNumber, placeNumber, writeNumber, counted}
 
 -- ---- the numbers of a run
 
@@ -39,13 +38,13 @@ module _ (run : Run) where
       let o = or-zero (formatNumber run) _ z in
       (o .0, below-at (run .geometry .agcount + 3) k (leb (run .geometry .agcount + 3) k) refl (o .1))
 
-  pub write-zero : (k len room : ℕ) → writeNumber run k len room ≡ 0 → (placeNumber run k ≡ 0) × (len ≡ chunkLength run k) × (partLength run k ≤ room)
+  pub write-zero : (k len room : ℕ) → writeNumber run k len room ≡ 0 → (placeNumber run k ≡ 0) × (len ≡ chunkLength (run .geometry) k) × (partLength (run .geometry) k ≤ room)
   unfolding writeNumber
   write-zero k len room z =
       let o = or-zero (placeNumber run k) _ z in
-      let p = passed 27 (require 27 (leb (partLength run k) room) 0) (eqb len (chunkLength run k)) (omega arith) (o .1) in
-      let q = passed 27 0 (leb (partLength run k) room) (omega arith) (p .1) in
-      (o .0, eqb-true len (chunkLength run k) (p .0), leb-true (partLength run k) room (q .0))
+      let p = passed 27 (require 27 (leb (partLength (run .geometry) k) room) 0) (eqb len (chunkLength (run .geometry) k)) (omega arith) (o .1) in
+      let q = passed 27 0 (leb (partLength (run .geometry) k) room) (omega arith) (p .1) in
+      (o .0, eqb-true len (chunkLength (run .geometry) k) (p .0), leb-true (partLength (run .geometry) k) room (q .0))
 
   -- chunk k is there, or not
   pub place-there : (k : ℕ) → formatNumber run ≡ 0 → k - 2 ≤ run .geometry .agcount → 0 ≡ placeNumber run k
@@ -57,54 +56,30 @@ module _ (run : Run) where
   place-none k f h = or-second (formatNumber run) _ 29 f (rw (le-leb (run .geometry .agcount + 3) k (omega arith)) refl)
 
   -- the buffer is the chunk's and the work room is enough, or not
-  pub write-fits : (k len room : ℕ) → placeNumber run k ≡ 0 → len ≡ chunkLength run k → partLength run k ≤ room → 0 ≡ writeNumber run k len room
+  pub write-fits : (k len room : ℕ) → placeNumber run k ≡ 0 → len ≡ chunkLength (run .geometry) k → partLength (run .geometry) k ≤ room → 0 ≡ writeNumber run k len room
   unfolding writeNumber
-  write-fits k len room z e h = or-second (placeNumber run k) _ 0 z (rw (eq-eqb len (chunkLength run k) e, le-leb (partLength run k) room h) refl)
+  write-fits k len room z e h = or-second (placeNumber run k) _ 0 z (rw (eq-eqb len (chunkLength (run .geometry) k) e, le-leb (partLength (run .geometry) k) room h) refl)
 
-  pub write-other : (k len room : ℕ) → placeNumber run k ≡ 0 → (len ≡ chunkLength run k → ⊥) → 27 ≡ writeNumber run k len room
+  pub write-other : (k len room : ℕ) → placeNumber run k ≡ 0 → (len ≡ chunkLength (run .geometry) k → ⊥) → 27 ≡ writeNumber run k len room
   unfolding writeNumber
-  write-other k len room z h = or-second (placeNumber run k) _ 27 z (rw (ne-eqb len (chunkLength run k) h) refl)
+  write-other k len room z h = or-second (placeNumber run k) _ 27 z (rw (ne-eqb len (chunkLength (run .geometry) k) h) refl)
 
-  pub write-narrow : (k len room : ℕ) → placeNumber run k ≡ 0 → len ≡ chunkLength run k → room < partLength run k → 27 ≡ writeNumber run k len room
+  pub write-narrow : (k len room : ℕ) → placeNumber run k ≡ 0 → len ≡ chunkLength (run .geometry) k → room < partLength (run .geometry) k → 27 ≡ writeNumber run k len room
   unfolding writeNumber
-  write-narrow k len room z e h = or-second (placeNumber run k) _ 27 z (rw (eq-eqb len (chunkLength run k) e, lt-leb (partLength run k) room h) refl)
+  write-narrow k len room z e h = or-second (placeNumber run k) _ 27 z (rw (eq-eqb len (chunkLength (run .geometry) k) e, lt-leb (partLength (run .geometry) k) room h) refl)
 
 -- what a chunk's buffer and its work room say
 pub record Filling (run : Run) (k len room : ℕ) : Type 0 where
   pub format : formatNumber run ≡ 0
   pub there : k < run .geometry .agcount + 3
-  pub long : len ≡ chunkLength run k
-  pub roomy : partLength run k ≤ room
+  pub long : len ≡ chunkLength (run .geometry) k
+  pub roomy : partLength (run .geometry) k ≤ room
 
 pub filling : (run : Run) (k len room : ℕ) → writeNumber run k len room ≡ 0 → Filling run k len room
 filling run k len room z =
     let w = write-zero run k len room z in
     let p = place-zero run k (w .0) in
     record { format = p .0; there = p .1; long = w .1; roomy = w .2 }
-
--- ---- a run that is accepted, with its sizes
-
-module _ (g : Geometry) (z : Bounds g) where
-  all-sized : Sized g (sizesOf g)
-  unfolding sizesOf
-  all-sized =
-      record {
-        block-is = refl;
-        header-is = refl;
-        head-is = refl;
-        chunk-is = refl;
-        block-least = size-least g z;
-        block-most = size-most g z;
-        header-most = z .places .header-most;
-        head-most = z .places .head-most;
-        chunk-most = z .places .chunk-most;
-      }
-
-pub ready : (run : Run) {s : Sizes} → length (run .geometry .label) ≡ 12 → formatNumber run ≡ 0 → s ≡ sizesOf (run .geometry) → Ready run s
-ready run l f e =
-    let o = format-zero run f in
-    let g = run .geometry in
-    rw e (record { label = l; plans = o .0; time-in = o .1; sized = all-sized g (bounded g l (o .0)) })
 
 -- ---- counts
 

@@ -1,13 +1,9 @@
 // How many chunks the list of a run has, how long each is, and which number refuses one.
 ghost use mathlib.Core.Path.{_≡_};
 ghost use Rattle.listing.specs.Chunks.{formatNumber, placeNumber, writeNumber, countAnswer, lengthAnswer, partAnswer};
-
-pub mod lengths; // lengths.rt: blocks of a head, of its headers and of the root chunk, and bytes of a chunk
-
-use crate::lengths::length_of;
-use crate::lengths::part_of;
-use crate::lengths::sizes_of;
 use arith::numbers::minus;
+use lengths::length_of;
+use lengths::part_of;
 use run::Run;
 use summary::plans_number;
 use timestamp::encode_time;
@@ -59,11 +55,11 @@ pub fn write_number(run: Run, k: u64, len: usize, room: usize) -> u32
     if n != 0 {
         return n;
     }
-    let s = sizes_of(run);
-    if len != length_of(run, s, k) {
+    let g = run.geometry;
+    if len != length_of(g, k) {
         return endian::WRONG_LENGTH;
     }
-    if part_of(run, s, k) <= room {
+    if part_of(g, k) <= room {
         return 0;
     }
     endian::WRONG_LENGTH
@@ -96,8 +92,7 @@ pub fn chunk_length(run: Run, k: u64) -> Counted
     if n != 0 {
         return refused(n);
     }
-    let s = sizes_of(run);
-    let value = length_of(run, s, k) as u64;
+    let value = length_of(run.geometry, k) as u64;
     Counted { number: 0, value }
 }
 
@@ -109,7 +104,6 @@ pub fn part_length(run: Run, k: u64) -> Counted
     if n != 0 {
         return refused(n);
     }
-    let s = sizes_of(run);
-    let value = part_of(run, s, k) as u64;
+    let value = part_of(run.geometry, k) as u64;
     Counted { number: 0, value }
 }

@@ -19,7 +19,7 @@ use Rattle.records.proofs.Sizes.{zeros-bytes, block-bytes, list-append}
 use Rattle.run.specs.declared.Run.{Run}
 use Rattle.written.specs.Listing.{blocksEnd, tailStart, logOffset, logBlock, headBlocks, headerBlocks, chunkBlocks, headWritten, headFinished, opening, headRecords, chunkRecords, closing, listChunk}
 use Rattle.written.specs.Sound.{Sound}
-use Rattle.listing.specs.Chunks.{blocksLength, chunkLength}
+use Rattle.lengths.specs.Lengths.{blocksLength, chunkLength}
 use Rattle.writelaws.specs.Long.{Long}
 use Rattle.writes.proofs.Splitting.{blocks-length}
 

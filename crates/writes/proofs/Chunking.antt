@@ -15,13 +15,14 @@ use Rattle.logsize.specs.Log.{preallocOf}
 use Rattle.layout.specs.Bounds.{Bounds}
 use Rattle.layout.specs.Places.{byteOf, before}
 use Rattle.places.specs.Answers.{rootChunk}
-use Rattle.rootchunk.specs.Chunk.{chunkBytes}
-use Rattle.records.specs.Records.{WZ, WB, FL, recordBytes, listBytes, blocks}
+use Rattle.records.specs.Records.{Record, WZ, WB, FL, recordBytes, listBytes, blocks}
 use Rattle.run.specs.declared.Run.{Run}
-use Rattle.written.specs.Listing.{blocksEnd, tailStart, logOffset, logBlock, headBlocks, headerBlocks, chunkBlocks, headWritten, headFinished, opening, headRecords, chunkRecords, closing}
-use Rattle.listing.specs.Chunks.{blocksLength}
-use Rattle.writes.specs.Writing.{recordHead, zeroHeads}
+use Rattle.written.specs.Listing.{blocksEnd, tailStart, logOffset, logBlock, headBlocks, headerBlocks, chunkBlocks, headFinished, opening, headRecords, chunkRecords, closing, listChunk}
+use Rattle.lengths.specs.Lengths.{blocksLength, chunkLength, partLength}
+use Rattle.lengths.proofs.Which.{group-length, root-length, head-size, root-size}
+use Rattle.writes.specs.Writing.{partBytes, recordHead, zeroHeads}
 use Rattle.shared.proofs.Accepted.{size-least, size-most}
+use Rattle.writes.proofs.Which.{opening-chunk, group-chunk, root-chunk, closing-chunk, opening-part, group-part, root-part, closing-part}
 use Rattle.writes.proofs.Accepted.{group-room, group-blocks}
 use Rattle.records.proofs.Sizes.{zeros-bytes, block-bytes}
 use Rattle.writes.proofs.Splitting.{zeros-head, flush-bytes, head-length, list-append, blocks-length}
@@ -66,47 +67,55 @@ module _ (bs device log n : ℕ) where
       let j : length (b ++ c) ≡ length b + length c = length-append b c in
       omega arith
 
+  -- and the log's first block behind them
+  pub opening-whole : (block xs ys zs : List ℕ) → length xs ≡ 54 + (18 + length block) → ys ≡ patch 54 (recordBytes (WB log block)) xs → zs ≡ patch 0 (zeroHeads bs device log n) ys
+      → zs ≡ zeroHeads bs device log n ++ recordBytes (WB log block)
+  opening-whole block xs ys zs l p q =
+      let Z = zeroHeads bs device log n in
+      let D = recordBytes (WB log block) in
+      let lz : length Z ≡ 54 = zeros-long in
+      let ld : length D ≡ 18 + length block = block-bytes log block in
+      let lzd : length (Z ++ D) ≡ length Z + length D = length-append Z D in
+      q ∙ ap (λ (v : List ℕ). patch 0 Z v) p ∙ two-runs 0 54 Z D xs (ap (λ (i : ℕ). 0 + i) lz) ∙ patch-whole (Z ++ D) xs (omega arith)
+
 module _ (run : Run) (device : ℕ) where
   opening-is : listBytes (opening run device) ≡ zeroHeads (run .geometry .blocksize) device (logOffset (run .geometry)) (run .geometry .logblocks * run .geometry .blocksize) ++ recordBytes (WB (logOffset (run .geometry)) (logBlock (run .geometry) (run .uuid)))
   unfolding opening zeroHeads listBytes
   opening-is = simp (append-assoc, append-nil) refl
 
-  pub opening-done : (bs at n : ℕ) (block xs ys zs : List ℕ) → bs ≡ run .geometry .blocksize → at ≡ byteOf bs (run .geometry .agsize) (run .geometry .logagno) (run .geometry .«log_agbno») → n ≡ run .geometry .logblocks * bs
-      → block ≡ logBlock (run .geometry) (run .uuid) → length block ≡ run .geometry .blocksize → length xs ≡ 3 * 18 + blocksLength (run .geometry .blocksize) 1
-      → ys ≡ patch 54 (recordBytes (WB at block)) xs → zs ≡ patch 0 (zeroHeads bs device at n) ys → zs ≡ listBytes (opening run device)
-  unfolding logOffset blocksLength
-  opening-done bs at n block xs ys zs b a m k lb lx p q =
-      let Z = zeroHeads bs device at n in
-      let D = recordBytes (WB at block) in
-      let lz : length Z ≡ 54 = zeros-long bs device at n in
-      let ld : length D ≡ 18 + length block = block-bytes at block in
-      let lzd : length (Z ++ D) ≡ length Z + length D = length-append Z D in
-      let w : length xs ≡ 3 * 18 + 1 * (18 + run .geometry .blocksize) = lx in
-      q
-      ∙ ap (λ (v : List ℕ). patch 0 Z v) p
-      ∙ two-runs 0 54 Z D xs (ap (λ (i : ℕ). 0 + i) lz)
-      ∙ patch-whole (Z ++ D) xs (omega arith)
-      ∙ rw (m, k, a, b) (sym opening-is)
+  pub opening-done : (bs at n k : ℕ) (block zs : List ℕ) → k ≡ 0 → bs ≡ run .geometry .blocksize → at ≡ byteOf bs (run .geometry .agsize) (run .geometry .logagno) (run .geometry .«log_agbno») → n ≡ run .geometry .logblocks * bs
+      → block ≡ partBytes run k → zs ≡ zeroHeads bs device at n ++ recordBytes (WB at block) → zs ≡ listBytes (listChunk run device k)
+  unfolding logOffset
+  opening-done bs at n k block zs h b a m p e =
+      e ∙ rw (m, p, opening-part run k h, a, b) (sym opening-is) ∙ ap (λ (r : List Record). listBytes r) (sym (opening-chunk run device k h))
 
 -- ---- blocks alone
 
 pub blocks-done : (bs offset n : ℕ) (src xs ys : List ℕ) → n * bs ≤ length src → length xs ≡ blocksLength bs n → ys ≡ patch 0 (listBytes (blocks bs offset n src)) xs → ys ≡ listBytes (blocks bs offset n src)
 blocks-done bs offset n src xs ys h l e = e ∙ patch-whole (listBytes (blocks bs offset n src)) xs (blocks-length bs offset n src h ∙ sym l)
 
-module _ (run : Run) where
-  pub group-done : (bs at n k : ℕ) (src xs ys : List ℕ) → bs ≡ run .geometry .blocksize → n ≡ headBlocks (run .geometry) → at ≡ byteOf bs (run .geometry .agsize) k 0
-      → src ≡ headWritten (run .geometry) (run .uuid) k → length src ≡ headBlocks (run .geometry) * run .geometry .blocksize → length xs ≡ blocksLength (run .geometry .blocksize) (headBlocks (run .geometry))
-      → ys ≡ patch 0 (listBytes (blocks bs at n src)) xs → ys ≡ listBytes (headRecords run k)
+module _ (run : Run) (device : ℕ) where
+  pub group-done : (bs at n k : ℕ) (src xs ys : List ℕ) → (k ≡ 0 → ⊥) → k ≤ run .geometry .agcount → bs ≡ run .geometry .blocksize → n ≡ headBlocks (run .geometry) → at ≡ byteOf bs (run .geometry .agsize) (k - 1) 0
+      → src ≡ partBytes run k → length src ≡ partLength (run .geometry) k → length xs ≡ chunkLength (run .geometry) k
+      → ys ≡ patch 0 (listBytes (blocks bs at n src)) xs → ys ≡ listBytes (listChunk run device k)
   unfolding headRecords
-  group-done bs at n k src xs ys b m a s l lx e =
-      blocks-done bs at n src xs ys (rw (m, b) (omega arith)) (rw (m, b) lx) e ∙ rw (a, s, m, b) refl
+  group-done bs at n k src xs ys z h b m a s l lx e =
+      let g = run .geometry in
+      let ls : length src ≡ headBlocks g * g .blocksize = l ∙ head-size g k z (λ q. z (omega arith)) in
+      blocks-done bs at n src xs ys (rw (m, b) (omega arith)) (rw (m, b) (lx ∙ group-length g k z h)) e
+      ∙ rw (a, s, group-part run k z h, m, b) refl
+      ∙ ap (λ (r : List Record). listBytes r) (sym (group-chunk run device k z h))
 
-  pub root-done : (bs at block n : ℕ) (src xs ys : List ℕ) → bs ≡ run .geometry .blocksize → n ≡ chunkBlocks (run .geometry) → block ≡ rootChunk (run .geometry) → at ≡ byteOf bs (run .geometry .agsize) 0 block
-      → src ≡ chunkBytes (run .geometry) (rootChunk (run .geometry)) (run .uuid) (run .time) (run .seed) → length src ≡ chunkBlocks (run .geometry) * run .geometry .blocksize → length xs ≡ blocksLength (run .geometry .blocksize) (chunkBlocks (run .geometry))
-      → ys ≡ patch 0 (listBytes (blocks bs at n src)) xs → ys ≡ listBytes (chunkRecords run)
+  pub root-done : (bs at block n k : ℕ) (src xs ys : List ℕ) → run .geometry .agcount < k → k - 1 ≡ run .geometry .agcount → bs ≡ run .geometry .blocksize → n ≡ chunkBlocks (run .geometry) → block ≡ rootChunk (run .geometry)
+      → at ≡ byteOf bs (run .geometry .agsize) 0 block → src ≡ partBytes run k → length src ≡ partLength (run .geometry) k → length xs ≡ chunkLength (run .geometry) k
+      → ys ≡ patch 0 (listBytes (blocks bs at n src)) xs → ys ≡ listBytes (listChunk run device k)
   unfolding chunkRecords
-  root-done bs at block n src xs ys b m k a s l lx e =
-      blocks-done bs at n src xs ys (rw (m, b) (omega arith)) (rw (m, b) lx) e ∙ rw (a, s, k, m, b) refl
+  root-done bs at block n k src xs ys z h b m r a s l lx e =
+      let g = run .geometry in
+      let ls : length src ≡ chunkBlocks g * g .blocksize = l ∙ root-size g k (λ q. omega arith) h in
+      blocks-done bs at n src xs ys (rw (m, b) (omega arith)) (rw (m, b) (lx ∙ root-length g k z h)) e
+      ∙ rw (a, s, root-part run k z h, r, m, b) refl
+      ∙ ap (λ (r : List Record). listBytes r) (sym (root-chunk run device k z h))
 
   -- ---- the closing
 
@@ -114,29 +123,31 @@ module _ (run : Run) where
   unfolding closing listBytes
   closing-is = ap (λ (l : List ℕ). recordBytes FL ++ l) (list-append (blocks (run .geometry .blocksize) 0 (headerBlocks (run .geometry)) (headFinished (run .geometry) (run .uuid))) (FL ∷ []) ∙ rw append-nil refl)
 
-  pub closing-done : {r t : ℕ} (bs n end : ℕ) (src xs ys zs ws : List ℕ) → bs ≡ run .geometry .blocksize → n ≡ headerBlocks (run .geometry) → end ≡ length xs - 2
-      → src ≡ headFinished (run .geometry) (run .uuid) → length src ≡ headBlocks (run .geometry) * run .geometry .blocksize → length xs ≡ 2 + blocksLength (run .geometry .blocksize) (headerBlocks (run .geometry)) + 2
-      → Put (end + 2) (patch end (beBytes 2 0x464c) xs) xs r ys → zs ≡ patch 2 (listBytes (blocks bs 0 n src)) ys → Put (0 + 2) (patch 0 (beBytes 2 0x464c) zs) zs t ws
-      → ws ≡ listBytes (closing run)
-  closing-done bs n end src xs ys zs ws b m f s k lx p q u =
-      let v = mul-le-mul-right (run .geometry .blocksize) (header-within (run .geometry)) in
-      let l : n * bs ≤ length src = rw (m, b) (omega arith) in
-      let F = beBytes 2 0x464c in
-      let B = listBytes (blocks bs 0 n src) in
-      let lf : length F ≡ 2 = length-be 2 0x464c in
-      let lb : length B ≡ blocksLength bs n = blocks-length bs 0 n src l in
-      let lx' : length xs ≡ 2 + blocksLength bs n + 2 = rw (m, b) lx in
-      let e : ys ≡ patch end F xs = put-in p (omega arith) in
-      let ly : length ys ≡ length xs = ap (λ (v : List ℕ). length v) e ∙ length-patch end F xs in
-      let lz : length zs ≡ length ys = ap (λ (v : List ℕ). length v) q ∙ length-patch 2 B ys in
-      let h : ws ≡ patch 0 F zs = put-in u (omega arith) in
-      let i : length (F ++ (B ++ F)) ≡ length F + length (B ++ F) = length-append F (B ++ F) in
-      let j : length (B ++ F) ≡ length B + length F = length-append B F in
-      h
-      ∙ ap (λ (v : List ℕ). patch 0 F v) (q ∙ ap (λ (v : List ℕ). patch 2 B v) e)
-      ∙ three-runs 0 2 end F B F xs (ap (λ (i : ℕ). 0 + i) lf) (omega arith)
-      ∙ patch-whole (F ++ (B ++ F)) xs (omega arith)
-      ∙ rw (s, m, b, ← flush-bytes) (sym closing-is)
+  pub closing-done : (bs n k : ℕ) (src ws : List ℕ) → run .geometry .agcount < k → (k - 1 ≡ run .geometry .agcount → ⊥) → bs ≡ run .geometry .blocksize → n ≡ headerBlocks (run .geometry) → src ≡ partBytes run k
+      → ws ≡ recordBytes FL ++ (listBytes (blocks bs 0 n src) ++ recordBytes FL) → ws ≡ listBytes (listChunk run device k)
+  closing-done bs n k src ws z h b m s e =
+      e ∙ rw (s, closing-part run k z h, m, b) (sym closing-is) ∙ ap (λ (r : List Record). listBytes r) (sym (closing-chunk run device k z h))
+
+-- a flush, blocks, and a flush, the last written first
+pub closing-whole : {r t : ℕ} (bs n end : ℕ) (src xs ys zs ws : List ℕ) → end ≡ length xs - 2 → n * bs ≤ length src → length xs ≡ 2 + blocksLength bs n + 2
+    → Put (end + 2) (patch end (beBytes 2 0x464c) xs) xs r ys → zs ≡ patch 2 (listBytes (blocks bs 0 n src)) ys → Put (0 + 2) (patch 0 (beBytes 2 0x464c) zs) zs t ws
+    → ws ≡ recordBytes FL ++ (listBytes (blocks bs 0 n src) ++ recordBytes FL)
+closing-whole bs n end src xs ys zs ws f l lx p q u =
+    let F = beBytes 2 0x464c in
+    let B = listBytes (blocks bs 0 n src) in
+    let lf : length F ≡ 2 = length-be 2 0x464c in
+    let lb : length B ≡ blocksLength bs n = blocks-length bs 0 n src l in
+    let e : ys ≡ patch end F xs = put-in p (omega arith) in
+    let ly : length ys ≡ length xs = ap (λ (v : List ℕ). length v) e ∙ length-patch end F xs in
+    let lz : length zs ≡ length ys = ap (λ (v : List ℕ). length v) q ∙ length-patch 2 B ys in
+    let h : ws ≡ patch 0 F zs = put-in u (omega arith) in
+    let i : length (F ++ (B ++ F)) ≡ length F + length (B ++ F) = length-append F (B ++ F) in
+    let j : length (B ++ F) ≡ length B + length F = length-append B F in
+    h
+    ∙ ap (λ (v : List ℕ). patch 0 F v) (q ∙ ap (λ (v : List ℕ). patch 2 B v) e)
+    ∙ three-runs 0 2 end F B F xs (ap (λ (i : ℕ). 0 + i) lf) (omega arith)
+    ∙ patch-whole (F ++ (B ++ F)) xs (omega arith)
+    ∙ rw flush-bytes refl
 
 -- ---- room
 
@@ -155,20 +166,19 @@ module _ (g : Geometry) (z : Bounds g) where
   unfolding rootChunk
   root-few = z .places .chunk-room
 
-  -- n blocks of group k from block b on, at `off` in the buffer
-  pub blocks-room : (bs at n k b len off room : ℕ) → bs ≡ g .blocksize → at ≡ byteOf bs (g .agsize) k b → k < g .agcount → b + n ≤ 1000 → n * g .blocksize ≤ len → off + blocksLength (g .blocksize) n ≤ room
-      → (at + n * bs ≤ 2 ^ 64) × (0 < bs) × (n * bs ≤ len) × (off + n * (18 + bs) ≤ room)
+  -- n blocks of group k from block b on, over the whole buffer
+  pub blocks-room : (bs at n few k b len room : ℕ) → bs ≡ g .blocksize → n ≡ few → at ≡ byteOf bs (g .agsize) k b → k < g .agcount → b + few ≤ 1000 → len ≡ few * g .blocksize → room ≡ blocksLength (g .blocksize) few
+      → (at + n * bs ≤ 2 ^ 64) × (0 < bs) × (n * bs ≤ len) × (0 + n * (18 + bs) ≤ room)
   unfolding byteOf before blocksLength
-  blocks-room bs at n k b len off room e a h few l r =
-      let w = group-blocks g z k b n h few in
+  blocks-room bs at n few k b len room e m a h f l r =
+      let w = group-blocks g z k b few h f in
       let s = size-least g z in
-      rw (a, e) (w, omega arith, l, r)
+      rw (a, m, e) (w, omega arith, omega arith, omega arith)
 
--- the header blocks, two bytes into the buffer
-pub closing-room : (bs n head len room : ℕ) → 0 < bs → bs ≤ 16384 → n ≤ 4 → n ≤ head → len ≡ head * bs → room ≡ 2 + blocksLength bs n + 2
-    → (0 + n * bs ≤ 2 ^ 64) × (0 < bs) × (n * bs ≤ len) × (2 + n * (18 + bs) ≤ room)
-unfolding blocksLength
-closing-room bs n head len room p m few h l r =
-    let v = mul-le-mul few m in
-    let w = mul-le-mul-right bs h in
-    (omega arith, p, omega arith, omega arith)
+  -- the header blocks are of group 0's head
+  pub closing-room : (bs n len : ℕ) → bs ≡ g .blocksize → n ≡ headerBlocks g → len ≡ headBlocks g * g .blocksize → (0 < bs) × (n * bs ≤ 2 ^ 64) × (n * bs ≤ len)
+  closing-room bs n len b m l =
+      let s = size-least g z in
+      let v = mul-le-mul (z .places .header-most) (size-most g z) in
+      let w = mul-le-mul-right (g .blocksize) (header-within g) in
+      rw (m, b) (omega arith, omega arith, omega arith)

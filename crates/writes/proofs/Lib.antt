@@ -2,4 +2,4 @@ pub mod Splitting
 pub mod Accepted
 pub mod Which
 pub mod Chunking
-pub mod Parts
+pub mod Lent

@@ -1,16 +1,15 @@
 // The records of each chunk.
 ghost use mathlib.Core.Path.{_≡_};
+ghost use mathlib.Core.List.{_++_};
 ghost use Prim.Native.Nat.{_+_, _*_, _<_, _≤_, _^_};
 ghost use lib.ListN.{length};
 ghost use Rattle.endian.specs.Bytes.{patch};
 ghost use Rattle.layout.specs.Places.{byteOf};
-ghost use Rattle.places.specs.Answers.{rootChunk};
-ghost use Rattle.records.specs.Records.{listBytes};
-ghost use Rattle.rootchunk.specs.Chunk.{chunkBytes};
-ghost use Rattle.written.specs.Listing.{headBlocks, headerBlocks, chunkBlocks, logBlock, headWritten, headFinished, opening, headRecords, chunkRecords, closing};
-ghost use Rattle.listing.specs.Chunks.{Ready, blocksLength};
-ghost use Rattle.writes.specs.Writing.{zeroHeads};
-use crate::blocks::root_blocks;
+ghost use Rattle.records.specs.Records.{WB, FL, recordBytes, listBytes, blocks};
+ghost use Rattle.written.specs.Listing.{listChunk};
+ghost use Rattle.lengths.specs.Lengths.{blocksLength, chunkLength, partLength};
+ghost use Rattle.listing.specs.Chunks.{formatNumber};
+ghost use Rattle.writes.specs.Writing.{partBytes, zeroHeads};
 use crate::split::FLUSH;
 use crate::split::ZEROS;
 use crate::split::put_block;
@@ -20,11 +19,8 @@ use arith::numbers::min_u64;
 use arith::numbers::minus;
 use arith::numbers::round_down;
 use counts::inodes::root_chunk_of;
-use listing::lengths::Sizes;
+use lengths::sizes_of;
 use run::Run;
-use shared::head_left;
-use shared::head_written;
-use shared::log_block;
 
 // So much is zeroed at each end of the device.
 const WHACK_SIZE: u64 = 131072;
@@ -49,54 +45,55 @@ fn put_zeros(bs: usize, device: u64, log: u64, n: u64, buf: &mut [u8])
     put_head(ZEROS, 0, min_u64(WHACK_SIZE, end), 0, buf);
 }
 
-// Zeros at the start and the end of the device and over the log, and the log's first block.
-pub(crate) fn put_opening(run: Run, s: Sizes, device: u64, work: &mut [u8], buf: &mut [u8])
-    requires { ⌜ (Ready run s) × (length (now work) ≡ run .geometry .blocksize) × (length (now buf) ≡ 3 * 18 + blocksLength (run .geometry .blocksize) 1) ⌝ }
-    ensures { λ _. ⌜ (now (buf .exit) ≡ listBytes (opening run device)) × (now (work .exit) ≡ logBlock (run .geometry) (run .uuid)) ⌝ }
+// Zeros at the start and the end of the device and over the log, n bytes at `at`, and the log's first block.
+fn put_opening(bs: usize, device: u64, at: u64, n: u64, part: &[u8], buf: &mut [u8])
+    requires { ⌜ length (now buf) ≡ 54 + (18 + length (now part)) ⌝ }
+    ensures { λ _. ⌜ now (buf .exit) ≡ zeroHeads bs device at n ++ recordBytes (WB at (now (part .entry))) ⌝ }
 {
-    let g = run.geometry;
-    let uuid = run.uuid;
-    log_block(g, uuid, work);
-    let at = byte_of(s.block, g.agsize, g.logagno, g.log_agbno);
-    put_block(at, work, 54, buf);
-    put_zeros(s.block, device, at, g.logblocks * (s.block as u64), buf);
+    put_block(at, part, 54, buf);
+    put_zeros(bs, device, at, n, buf);
 }
 
-// The head of group k.
-pub(crate) fn put_group(run: Run, s: Sizes, k: u64, work: &mut [u8], buf: &mut [u8])
-    requires { ⌜ (Ready run s) × (k < run .geometry .agcount) × (length (now work) ≡ headBlocks (run .geometry) * run .geometry .blocksize) × (length (now buf) ≡ blocksLength (run .geometry .blocksize) (headBlocks (run .geometry))) ⌝ }
-    ensures { λ _. ⌜ (now (buf .exit) ≡ listBytes (headRecords run k)) × (now (work .exit) ≡ headWritten (run .geometry) (run .uuid) k) ⌝ }
+// A flush, the first n blocks of the disk, and a flush; the last is written first.
+fn put_closing(bs: usize, n: usize, part: &[u8], buf: &mut [u8])
+    requires { ⌜ (0 < bs) × (n * bs ≤ 2 ^ 64) × (n * bs ≤ length (now part)) × (length (now buf) ≡ 2 + blocksLength bs n + 2) ⌝ }
+    ensures { λ _. ⌜ now (buf .exit) ≡ recordBytes FL ++ (listBytes (blocks bs 0 n (now (part .entry))) ++ recordBytes FL) ⌝ }
 {
-    let g = run.geometry;
-    let uuid = run.uuid;
-    head_written(g, uuid, k, work);
-    let at = byte_of(s.block, g.agsize, k, 0);
-    put_blocks(s.block, at, s.head, work, 0, buf);
-}
-
-// The root chunk.
-pub(crate) fn put_root(run: Run, s: Sizes, work: &mut [u8], buf: &mut [u8])
-    requires { ⌜ (Ready run s) × (length (now work) ≡ chunkBlocks (run .geometry) * run .geometry .blocksize) × (length (now buf) ≡ blocksLength (run .geometry .blocksize) (chunkBlocks (run .geometry))) ⌝ }
-    ensures { λ _. ⌜ (now (buf .exit) ≡ listBytes (chunkRecords run)) × (now (work .exit) ≡ chunkBytes (run .geometry) (rootChunk (run .geometry)) (run .uuid) (run .time) (run .seed)) ⌝ }
-{
-    let g = run.geometry;
-    let f = g.features;
-    root_blocks(run, s, work);
-    let b = root_chunk_of(f, g.sectsize, g.inodesize, g.blocksize as u64);
-    let at = byte_of(s.block, g.agsize, 0, b);
-    put_blocks(s.block, at, s.chunk, work, 0, buf);
-}
-
-// A flush, the header blocks of group 0 with the finished superblock, and a flush; the last is written first.
-pub(crate) fn put_closing(run: Run, s: Sizes, work: &mut [u8], buf: &mut [u8])
-    requires { ⌜ (Ready run s) × (length (now work) ≡ headBlocks (run .geometry) * run .geometry .blocksize) × (length (now buf) ≡ 2 + blocksLength (run .geometry .blocksize) (headerBlocks (run .geometry)) + 2) ⌝ }
-    ensures { λ _. ⌜ (now (buf .exit) ≡ listBytes (closing run)) × (now (work .exit) ≡ headFinished (run .geometry) (run .uuid)) ⌝ }
-{
-    let g = run.geometry;
-    let uuid = run.uuid;
-    head_left(g, uuid, 0, work);
     let end = buf.len() - 2;
     endian::put16(buf, end, FLUSH);
-    put_blocks(s.block, 0, s.header, work, 2, buf);
+    put_blocks(bs, 0, n, part, 2, buf);
     endian::put16(buf, 0, FLUSH);
+}
+
+// The records of chunk k, from its part.
+pub(crate) fn put_chunk(run: Run, device: u64, k: u64, part: &[u8], buf: &mut [u8])
+    requires { ⌜ (formatNumber run ≡ 0) × (k < run .geometry .agcount + 3) × (now part ≡ partBytes run k) × (length (now part) ≡ partLength (run .geometry) k) × (length (now buf) ≡ chunkLength (run .geometry) k) ⌝ }
+    ensures { λ _. ⌜ now (buf .exit) ≡ listBytes (listChunk run device k) ⌝ }
+{
+    let g = run.geometry;
+    let s = sizes_of(g);
+    if k == 0 {
+        let at = byte_of(s.block, g.agsize, g.logagno, g.log_agbno);
+        put_opening(
+            s.block,
+            device,
+            at,
+            g.logblocks * (s.block as u64),
+            part,
+            buf,
+        );
+        return;
+    }
+    if k <= g.agcount {
+        let at = byte_of(s.block, g.agsize, k - 1, 0);
+        put_blocks(s.block, at, s.head, part, 0, buf);
+        return;
+    }
+    if k - 1 == g.agcount {
+        let b = root_chunk_of(g.features, g.sectsize, g.inodesize, g.blocksize as u64);
+        let at = byte_of(s.block, g.agsize, 0, b);
+        put_blocks(s.block, at, s.chunk, part, 0, buf);
+        return;
+    }
+    put_closing(s.block, s.header, part, buf);
 }

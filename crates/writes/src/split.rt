@@ -5,7 +5,7 @@ ghost use lib.ListN.{length, take, drop};
 ghost use Rattle.endian.specs.Bytes.{patch};
 ghost use Rattle.records.specs.Records.{WB, recordBytes, listBytes, blocks as blocks·of};
 ghost use Rattle.writes.specs.Writing.{recordHead};
-use listing::lengths::HEAD;
+use lengths::HEAD;
 
 // The marks: "WZ" for zeros, "WB" for a block, "FL" for a flush.
 pub const ZEROS: u16 = 0x575a;

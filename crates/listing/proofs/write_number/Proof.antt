@@ -1,36 +1,22 @@
 -- `listing::write_number` meets its contract.
 -- Assumes nothing.
 use Rattle.shared.proofs.Accepted.{or-first}
-use Rattle.listing.proofs.Numbers.{place-zero, ready, write-fits, write-other, write-narrow}
+use Rattle.listing.proofs.Numbers.{write-fits, write-other, write-narrow}
 use Rattle.listing.specs.Chunks.{writeNumber}
-use mathlib.Core.Path.{_≡_, sym, _∙_}
+use mathlib.Core.Path.{sym, _∙_}
 use native.Mathlib.Omega.{arith}
-use lib.ListN.{length}
 use borrow.Author.Needs.{needs}
 use Rattle.listing.proofs.write_number.Statement.{statement}
 use Rattle.listing.proofs.write_number.Tie as tie
-
-label : (s : tie.Start) → length (s .args .run .geometry .label) ≡ 12
-label s = search needs
 
 returns : tie.Need-returns
 unfolding writeNumber
 returns c = or-first _ _ _ (c .before .place-number .ensures) (c .if1 .taken)
 
-length-of-requires : tie.Need-length-of-requires
-length-of-requires c κs =
-    let s = c .before .before .before in
-    ready (s .args .run) (label s) (place-zero (s .args .run) (s .args .k) (sym (c .before .before .place-number .ensures) ∙ c .before .if1 .left) .0) (c .sizes-of .ensures)
-
 returns-2 : tie.Need-returns-2
 returns-2 c =
     let s = c .before .before .before .before .before in
     write-other (s .args .run) (s .args .k) _ _ (sym (c .before .before .before .before .place-number .ensures) ∙ c .before .before .before .if1 .left) (λ e. c .if2 .taken (e ∙ sym (c .before .length-of .ensures)))
-
-part-of-requires : tie.Need-part-of-requires
-part-of-requires c κs =
-    let s = c .before .before .before .before .before in
-    ready (s .args .run) (label s) (place-zero (s .args .run) (s .args .k) (sym (c .before .before .before .before .place-number .ensures) ∙ c .before .before .before .if1 .left) .0) (c .before .before .sizes-of .ensures)
 
 returns-3 : tie.Need-returns-3
 returns-3 c =
@@ -50,5 +36,4 @@ pub write-number-spec : {M : Type 1} → statement M
 write-number-spec =
     tie.close
     (tie.spec
-    (λ c κs. search needs) returns (λ c κs. search needs) length-of-requires returns-2
-    part-of-requires returns-3 returns-4)
+    (λ c κs. search needs) returns (λ c κs. tt) returns-2 (λ c κs. tt) returns-3 returns-4)
