@@ -6,7 +6,15 @@ use Rattle.grouping.proofs.trimmed.Tie as tie
 
 returns : tie.Need-returns
 unfolding trim
-returns c = cc
+returns c =
+    let blocks = c .before .before in
+    rw (
+      c .pick-u642 .ensures,
+      c .before .quotient .ensures,
+      blocks .pick-u64 .ensures,
+      blocks .before .round-down .ensures,
+      blocks .before .before .is-short .ensures,
+    )
 
 pub trimmed-spec : {M : Type 1} → statement M
 trimmed-spec =

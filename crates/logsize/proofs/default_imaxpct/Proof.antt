@@ -7,7 +7,9 @@ use Rattle.logsize.proofs.default_imaxpct.Tie as tie
 
 returns : tie.Need-returns
 unfolding defaultImaxpct
-returns c = cc
+returns c =
+    let large = c .before .before in
+    rw (c .first2 .ensures, c .before .quotient2 .ensures, large .first .ensures, large .before .quotient .ensures)
 
 pub default-imaxpct-spec : {M : Type 1} → statement M
 default-imaxpct-spec =

@@ -7,7 +7,20 @@ use Rattle.logsize.proofs.log_blocks.Tie as tie
 
 returns : tie.Need-returns
 unfolding logBlocks
-returns c = cc
+returns c =
+    let within = c .before .before in
+    let wanted = within .before .before in
+    let room = wanted .before .before in
+    rw (
+      c .min-u643 .ensures,
+      c .before .quotient2 .ensures,
+      within .min-u642 .ensures,
+      within .before .min-u64 .ensures,
+      wanted .max-u64 .ensures,
+      wanted .before .quotient .ensures,
+      room .minus2 .ensures,
+      room .before .minus .ensures,
+    )
 
 pub log-blocks-spec : {M : Type 1} → statement M
 log-blocks-spec =
