@@ -1,4 +1,4 @@
--- `grouping::asked_blocks` meets its contract: each call gives what its definition says.
+-- `grouping::asked_blocks` meets its contract: by the option's case, each call gives what its definition says.
 -- Assumes nothing.
 use borrow.Author.Needs.{needs}
 use Rattle.grouping.specs.Groups.{askedBlocks}
@@ -7,11 +7,11 @@ use Rattle.grouping.proofs.asked_blocks.Tie as tie
 
 returns : tie.Need-returns
 unfolding askedBlocks
-returns c = cc
+returns c = rw (c .quotient .ensures, c .before .before .size .given .1)
 
 returns-2 : tie.Need-returns-2
 unfolding askedBlocks
-returns-2 c = cc
+returns-2 c = rw (c .quotient2 .ensures, c .before .enum-told .given .1)
 
 pub asked-blocks-spec : {M : Type 1} → statement M
 asked-blocks-spec =

@@ -4,7 +4,7 @@ use Rattle.grouping.proofs.default_ag_geometry.Statement.{statement}
 use Rattle.grouping.proofs.default_ag_geometry.Tie as tie
 
 returns : tie.Need-returns
-returns c = cc
+returns c = rw (c .groups-of .ensures, c .before .default-size .ensures)
 
 pub default-ag-geometry-spec : {M : Type 1} → statement M
 default-ag-geometry-spec =

@@ -4,7 +4,7 @@ use Rattle.grouping.proofs.groups_of.Statement.{statement}
 use Rattle.grouping.proofs.groups_of.Tie as tie
 
 returns : tie.Need-returns
-returns c = cc
+returns c = rw (c .div-ceil .ensures)
 
 pub groups-of-spec : {M : Type 1} → statement M
 groups-of-spec =

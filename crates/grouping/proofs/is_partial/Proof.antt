@@ -5,7 +5,7 @@ use Rattle.grouping.proofs.is_partial.Statement.{statement}
 use Rattle.grouping.proofs.is_partial.Tie as tie
 
 returns : tie.Need-returns
-returns c = cc
+returns c = rw (c .remainder .ensures, c .before .before .option .given .1)
 
 pub is-partial-spec : {M : Type 1} → statement M
 is-partial-spec =

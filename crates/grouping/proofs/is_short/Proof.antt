@@ -6,7 +6,7 @@ use Rattle.grouping.proofs.is_short.Tie as tie
 
 returns : tie.Need-returns
 unfolding isShort
-returns c = cc
+returns c = rw (c .both .ensures, c .before .remainder .ensures)
 
 pub is-short-spec : {M : Type 1} → statement M
 is-short-spec =

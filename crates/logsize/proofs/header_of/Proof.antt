@@ -7,7 +7,7 @@ use Rattle.logsize.proofs.header_of.Tie as tie
 
 returns : tie.Need-returns
 unfolding headerOf
-returns c = cc
+returns c = rw (c .div-ceil .ensures)
 
 pub header-of-spec : {M : Type 1} → statement M
 header-of-spec =

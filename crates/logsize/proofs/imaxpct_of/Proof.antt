@@ -5,7 +5,7 @@ use Rattle.logsize.proofs.imaxpct_of.Statement.{statement}
 use Rattle.logsize.proofs.imaxpct_of.Tie as tie
 
 returns-2 : tie.Need-returns-2
-returns-2 c = cc
+returns-2 c = rw (c .default-imaxpct .ensures, c .before .enum-told .given .1)
 
 pub imaxpct-of-spec : {M : Type 1} → statement M
 imaxpct-of-spec =

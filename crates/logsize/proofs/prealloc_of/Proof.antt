@@ -25,7 +25,9 @@ add-result-4 c =
 
 returns : tie.Need-returns
 unfolding preallocOf
-returns c = cc
+returns c =
+    let finobt = c .before .before in
+    rw (c .bit-of3 .ensures, c .before .bit-of2 .ensures, finobt .bit-of .ensures, finobt .before .header-of .ensures)
 
 pub prealloc-of-spec : {M : Type 1} → statement M
 prealloc-of-spec =
