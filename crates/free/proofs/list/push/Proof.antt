@@ -1,19 +1,19 @@
 -- `free::list::push` meets its contract.
 -- Assumes nothing.
-use borrow.Author.Needs.{needs}
+use native.Mathlib.Omega.{arith}
 use borrow.Author.Tests.{lt-ltb, le-ltb}
 use Rattle.seqs.specs.Lists.{pushed}
 use Rattle.free.proofs.list.push.Statement.{statement}
 use Rattle.free.proofs.list.push.Tie as tie
 
 mul-r : tie.Need-mul-r
-mul-r c = search needs
+mul-r c = omega arith
 
 element-set-from-r : tie.Need-element-set-from-r
-element-set-from-r c = search needs
+element-set-from-r c = omega arith
 
 add-out : tie.Need-add-out
-add-out c = search needs
+add-out c = omega arith
 
 returns : tie.Need-returns
 unfolding pushed

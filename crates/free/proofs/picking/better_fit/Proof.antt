@@ -1,18 +1,18 @@
 -- `free::picking::better_fit` meets its contract.
 -- Assumes nothing.
-use borrow.Author.Needs.{needs}
+use native.Mathlib.Omega.{arith}
 use Rattle.free.specs.Free.{fitter}
 use Rattle.free.proofs.picking.better_fit.Statement.{statement}
 use Rattle.free.proofs.picking.better_fit.Tie as tie
 
 is-ahead-requires : tie.Need-is-ahead-requires
-is-ahead-requires c κs = search needs
+is-ahead-requires c κs = omega arith
 
 cast-keep : tie.Need-cast-keep
-cast-keep c = search needs
+cast-keep c = omega arith
 
 keep-requires : tie.Need-keep-requires
-keep-requires c κs = search needs
+keep-requires c κs = omega arith
 
 returns : tie.Need-returns
 unfolding fitter

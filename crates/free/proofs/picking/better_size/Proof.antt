@@ -1,15 +1,15 @@
 -- `free::picking::better_size` meets its contract.
 -- Assumes nothing.
-use borrow.Author.Needs.{needs}
+use native.Mathlib.Omega.{arith}
 use Rattle.free.specs.Free.{bigger}
 use Rattle.free.proofs.picking.better_size.Statement.{statement}
 use Rattle.free.proofs.picking.better_size.Tie as tie
 
 is-ahead-requires : tie.Need-is-ahead-requires
-is-ahead-requires c κs = search needs
+is-ahead-requires c κs = omega arith
 
 keep-requires : tie.Need-keep-requires
-keep-requires c κs = search needs
+keep-requires c κs = omega arith
 
 returns : tie.Need-returns
 unfolding bigger

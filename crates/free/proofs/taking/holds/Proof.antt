@@ -1,15 +1,15 @@
 -- `free::taking::holds` meets its contract.
 -- Assumes nothing.
-use borrow.Author.Needs.{needs}
+use native.Mathlib.Omega.{arith}
 use borrow.Author.Tests.{le-leb, lt-leb}
 use Rattle.free.proofs.taking.holds.Statement.{statement}
 use Rattle.free.proofs.taking.holds.Tie as tie
 
 cast-if1 : tie.Need-cast-if1
-cast-if1 c = search needs
+cast-if1 c = omega arith
 
 end-of-requires : tie.Need-end-of-requires
-end-of-requires c κs = search needs
+end-of-requires c κs = omega arith
 
 returns : tie.Need-returns
 returns c = simp (le-leb _ _ (c .before .if1 .taken), c .end-of .ensures)

@@ -1,16 +1,16 @@
 -- `free::taking::pieces` meets its contract.
 -- Assumes nothing.
-use borrow.Author.Needs.{needs}
+use native.Mathlib.Omega.{arith}
 use borrow.Author.Tests.{lt-ltb, le-ltb}
 use Rattle.free.specs.Free.{cut}
 use Rattle.free.proofs.taking.pieces.Statement.{statement}
 use Rattle.free.proofs.taking.pieces.Tie as tie
 
 end-of-requires : tie.Need-end-of-requires
-end-of-requires c κs = search needs
+end-of-requires c κs = omega arith
 
 cast-if1 : tie.Need-cast-if1
-cast-if1 c = search needs
+cast-if1 c = omega arith
 
 returns : tie.Need-returns
 unfolding cut

@@ -1,6 +1,6 @@
 -- `free::taking::put_after` meets its contract.
 -- Assumes nothing.
-use borrow.Author.Needs.{needs}
+use native.Mathlib.Omega.{arith}
 use mathlib.Core.Path.{_∙_}
 use borrow.Author.Tests.{lt-ltb, le-ltb}
 use Rattle.seqs.specs.Lists.{appended}
@@ -8,19 +8,19 @@ use Rattle.free.proofs.taking.put_after.Statement.{statement}
 use Rattle.free.proofs.taking.put_after.Tie as tie
 
 end-of-requires : tie.Need-end-of-requires
-end-of-requires c κs = search needs
+end-of-requires c κs = omega arith
 
 cast-t7 : tie.Need-cast-t7
-cast-t7 c = search needs
+cast-t7 c = omega arith
 
 sub-t8 : tie.Need-sub-t8
-sub-t8 c = search needs
+sub-t8 c = omega arith
 
 cast-t9 : tie.Need-cast-t9
-cast-t9 c = search needs
+cast-t9 c = omega arith
 
 push-requires : tie.Need-push-requires
-push-requires c κs = search needs
+push-requires c κs = omega arith
 
 returns : tie.Need-returns
 unfolding appended

@@ -1,6 +1,6 @@
 -- `free::taking::put_before` meets its contract.
 -- Assumes nothing.
-use borrow.Author.Needs.{needs}
+use native.Mathlib.Omega.{arith}
 use mathlib.Core.Path.{_∙_}
 use borrow.Author.Tests.{lt-ltb, le-ltb}
 use Rattle.seqs.specs.Lists.{appended}
@@ -9,16 +9,16 @@ use Rattle.free.proofs.taking.put_before.Statement.{statement}
 use Rattle.free.proofs.taking.put_before.Tie as tie
 
 cast-rs : tie.Need-cast-rs
-cast-rs c = search needs
+cast-rs c = omega arith
 
 sub-t7 : tie.Need-sub-t7
-sub-t7 c = search needs
+sub-t7 c = omega arith
 
 cast-t8 : tie.Need-cast-t8
-cast-t8 c = search needs
+cast-t8 c = omega arith
 
 push-requires : tie.Need-push-requires
-push-requires c κs = search needs
+push-requires c κs = omega arith
 
 returns : tie.Need-returns
 unfolding appended

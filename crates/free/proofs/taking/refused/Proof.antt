@@ -1,11 +1,11 @@
 -- `free::taking::refused` meets its contract.
 -- Assumes nothing.
-use borrow.Author.Needs.{needs}
+use native.Mathlib.Omega.{arith}
 use Rattle.free.proofs.taking.refused.Statement.{statement}
 use Rattle.free.proofs.taking.refused.Tie as tie
 
 empty-requires : tie.Need-empty-requires
-empty-requires c κs = search needs
+empty-requires c κs = omega arith
 
 returns : tie.Need-returns
 returns c = rw (c .empty .ensures)

@@ -2,7 +2,6 @@
 -- Assumes nothing.
 use mathlib.Core.Path.{_≡_, sym, ap, _∙_}
 use Prim.Native.Nat.{ℕ, _+_, _≤_, _<_, _^_}
-use borrow.Author.Needs.{needs}
 use native.Mathlib.Omega.{arith}
 use borrow.Author.Tests.{lt-ltb, le-ltb, not-true, not-false}
 use lib.ListN.{length, length-map}
@@ -15,27 +14,27 @@ use Rattle.free.proofs.taking.take.Statement.{statement}
 use Rattle.free.proofs.taking.take.Tie as tie
 
 refused-requires : tie.Need-refused-requires
-refused-requires c κs = search needs
+refused-requires c κs = omega arith
 
 returns : tie.Need-returns
 unfolding taken
 returns c = c .refused .ensures ∙ simp (lt-ltb _ _ (c .before .if1 .taken))
 
 is-valid-requires : tie.Need-is-valid-requires
-is-valid-requires c κs = search needs
+is-valid-requires c κs = omega arith
 
 refused-requires-2 : tie.Need-refused-requires-2
-refused-requires-2 c κs = search needs
+refused-requires-2 c κs = omega arith
 
 returns-2 : tie.Need-returns-2
 unfolding taken
 returns-2 c = c .refused2 .ensures ∙ simp (le-ltb _ _ (c .before .before .before .if1 .left), sym (c .before .before .is-valid .ensures) ∙ not-true _ (c .before .if2 .taken))
 
 sub-if3 : tie.Need-sub-if3
-sub-if3 c = search needs
+sub-if3 c = omega arith
 
 refused-requires-3 : tie.Need-refused-requires-3
-refused-requires-3 c κs = search needs
+refused-requires-3 c κs = omega arith
 
 returns-3 : tie.Need-returns-3
 unfolding taken
@@ -45,13 +44,13 @@ returns-3 c =
     ∙ simp (le-ltb _ _ (c .before .before .before .before .if1 .left), sym (c .before .before .before .is-valid .ensures) ∙ not-false _ (c .before .before .if2 .left), le-ltb _ _ t)
 
 add-end : tie.Need-add-end
-add-end c = search needs
+add-end c = omega arith
 
 find-requires : tie.Need-find-requires
-find-requires c κs = search needs
+find-requires c κs = omega arith
 
 refused-requires-4 : tie.Need-refused-requires-4
-refused-requires-4 c κs = search needs
+refused-requires-4 c κs = omega arith
 
 returns-4 : tie.Need-returns-4
 unfolding taken takenFrom

@@ -2,7 +2,6 @@
 -- Assumes nothing.
 use mathlib.Core.Path.{_≡_, sym, _∙_}
 use Prim.Native.Nat.{_+_, _-_, _≤_, _<_}
-use borrow.Author.Needs.{needs}
 use native.Mathlib.Omega.{arith}
 use lib.ListN.{length, getD, length-map}
 use Rattle.free.specs.Free.{zeroRec, cut}
@@ -11,19 +10,19 @@ use Rattle.free.proofs.taking.take_at.Statement.{statement}
 use Rattle.free.proofs.taking.take_at.Tie as tie
 
 mul-r : tie.Need-mul-r
-mul-r c = search needs
+mul-r c = omega arith
 
 element-copy-out-r : tie.Need-element-copy-out-r
-element-copy-out-r c = search needs
+element-copy-out-r c = omega arith
 
 pieces-requires : tie.Need-pieces-requires
-pieces-requires c κs = search needs
+pieces-requires c κs = omega arith
 
 sub-if1 : tie.Need-sub-if1
-sub-if1 c = search needs
+sub-if1 c = omega arith
 
 refused-requires : tie.Need-refused-requires
-refused-requires c κs = search needs
+refused-requires c κs = omega arith
 
 returns : tie.Need-returns
 returns c =
@@ -33,22 +32,22 @@ returns c =
     c .refused .ensures ∙ sym (taken-at-full (s .args .t1 .recs) (s .args .t1 .len) (s .args .i) (s .args .s) (s .args .e) (omega arith) (omega arith) m)
 
 empty-requires : tie.Need-empty-requires
-empty-requires c κs = search needs
+empty-requires c κs = omega arith
 
 append-requires : tie.Need-append-requires
-append-requires c κs = search needs
+append-requires c κs = omega arith
 
 put-before-requires : tie.Need-put-before-requires
-put-before-requires c κs = search needs
+put-before-requires c κs = omega arith
 
 put-after-requires : tie.Need-put-after-requires
-put-after-requires c κs = search needs
+put-after-requires c κs = omega arith
 
 add-append : tie.Need-add-append
-add-append c = search needs
+add-append c = omega arith
 
 append-requires-2 : tie.Need-append-requires-2
-append-requires-2 c κs = search needs
+append-requires-2 c κs = omega arith
 
 returns-2 : tie.Need-returns-2
 returns-2 c =

@@ -18,7 +18,7 @@ add-result c = omega (arith, c .before .bit-of .ensures, bit-le (c .before .befo
 
 returns : tie.Need-returns
 unfolding flagsOf
-returns c = cc
+returns c = rw (c .bit-of2 .ensures, c .before .bit-of .ensures)
 
 pub flags-of-spec : {M : Type 1} → statement M
 flags-of-spec =
