@@ -15,7 +15,7 @@ put-blocks-requires : tie.Need-put-blocks-requires
 unfolding blocksLength
 put-blocks-requires c κs =
     let p = c .before .before .before .before .before .before .before .pre in
-    (omega (arith, p .1), p .0, p .2, omega (arith, p .3, c .before .before .before .put16 .kept .0))
+    (omega (arith, p .1), p .0, omega (arith, p .2), omega (arith, p .3, c .before .before .before .put16 .kept .0))
 
 returns : tie.Need-returns
 returns c =
