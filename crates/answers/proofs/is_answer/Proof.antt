@@ -6,7 +6,9 @@ use Rattle.answers.proofs.is_answer.Tie as tie
 
 returns : tie.Need-returns
 unfolding isAnswer
-returns c = cc
+returns c =
+    let b = c .before .before .before .before in
+    rw (c .both .ensures, c .before .same-geometry .ensures, b .answer .ensures, b .before .names-of .ensures)
 
 pub is-answer-spec : {M : Type 1} → statement M
 is-answer-spec =

@@ -1,12 +1,13 @@
 -- `answers::names_of` meets its contract: each field is what the definition says.
 -- Assumes nothing.
+use mathlib.Core.Path.{refl}
 use Rattle.answers.specs.Named.{namesOf}
 use Rattle.answers.proofs.names_of.Statement.{statement}
 use Rattle.answers.proofs.names_of.Tie as tie
 
 returns : tie.Need-returns
 unfolding namesOf
-returns c = cc
+returns c = refl
 
 pub names-of-spec : {M : Type 1} → statement M
 names-of-spec =

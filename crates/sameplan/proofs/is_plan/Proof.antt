@@ -1,14 +1,13 @@
 -- `sameplan::is_plan` meets its contract.
 -- Assumes nothing.
 use Rattle.sameplan.specs.Same.{isPlan}
-use borrow.Author.Needs.{needs}
 use Rattle.sameplan.proofs.is_plan.Statement.{statement}
 use Rattle.sameplan.proofs.is_plan.Tie as tie
 
 returns : tie.Need-returns
 unfolding isPlan
-returns c = cc
+returns c = rw (c .both .ensures, c .before .same-plan .ensures, c .before .before .before .plan-ag .ensures)
 
 pub is-plan-spec : {M : Type 1} → statement M
 is-plan-spec = tie.close (tie.spec
-    (λ c κs. search needs) (λ c κs. search needs) (λ c κs. search needs) returns)
+    (λ c κs. tt) (λ c κs. tt) (λ c κs. tt) returns)

@@ -1,14 +1,13 @@
 -- `sameplan::same_alloc` meets its contract.
 -- Assumes nothing.
 use Rattle.sameplan.specs.Same.{sameAlloc}
-use borrow.Author.Needs.{needs}
 use Rattle.sameplan.proofs.same_alloc.Statement.{statement}
 use Rattle.sameplan.proofs.same_alloc.Tie as tie
 
 returns : tie.Need-returns
 unfolding sameAlloc
-returns c = cc
+returns c = c .both .ensures
 
 pub same-alloc-spec : {M : Type 1} → statement M
 same-alloc-spec = tie.close (tie.spec
-    (λ c κs. search needs) returns)
+    (λ c κs. tt) returns)

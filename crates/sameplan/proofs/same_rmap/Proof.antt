@@ -1,14 +1,13 @@
 -- `sameplan::same_rmap` meets its contract.
 -- Assumes nothing.
 use Rattle.sameplan.specs.Same.{sameRmap}
-use borrow.Author.Needs.{needs}
 use Rattle.sameplan.proofs.same_rmap.Statement.{statement}
 use Rattle.sameplan.proofs.same_rmap.Tie as tie
 
 returns : tie.Need-returns
 unfolding sameRmap
-returns c = cc
+returns c = rw (c .both .ensures, c .before .same-maps .ensures)
 
 pub same-rmap-spec : {M : Type 1} → statement M
 same-rmap-spec = tie.close (tie.spec
-    (λ c κs. search needs) (λ c κs. search needs) returns)
+    (λ c κs. tt) (λ c κs. tt) returns)

@@ -6,7 +6,9 @@ use Rattle.sizes.proofs.chosen_sizes.Tie as tie
 
 returns : tie.Need-returns
 unfolding sizesOf
-returns c = cc
+returns c =
+    let b = c .before in
+    rw (c .inode-of .ensures, b .sector-of .ensures, b .before .max-u32 .ensures, b .before .before .block-of .ensures)
 
 pub chosen-sizes-spec : {M : Type 1} → statement M
 chosen-sizes-spec =

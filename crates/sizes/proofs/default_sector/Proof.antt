@@ -6,7 +6,9 @@ use Rattle.sizes.proofs.default_sector.Tie as tie
 
 returns : tie.Need-returns
 unfolding defaultSector
-returns c = cc
+returns c =
+    let b = c .before in
+    rw (c .pick-u323 .ensures, b .pick-u322 .ensures, b .before .pick-u32 .ensures, b .before .before .max-u32 .ensures)
 
 pub default-sector-spec : {M : Type 1} → statement M
 default-sector-spec =

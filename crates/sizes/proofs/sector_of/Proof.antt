@@ -5,7 +5,7 @@ use Rattle.sizes.proofs.sector_of.Statement.{statement}
 use Rattle.sizes.proofs.sector_of.Tie as tie
 
 returns-2 : tie.Need-returns-2
-returns-2 c = cc
+returns-2 c = rw (c .default-sector .ensures, c .before .enum-told .given .1)
 
 pub sector-of-spec : {M : Type 1} → statement M
 sector-of-spec =

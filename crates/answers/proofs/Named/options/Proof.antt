@@ -1,13 +1,14 @@
 -- `answers::Named::options` meets its contract: each option is what the definition says.
 -- Assumes nothing.
 use borrow.Author.Needs.{needs}
+use mathlib.Core.Path.{refl}
 use Rattle.answers.specs.Named.{namedOptions}
 use Rattle.answers.proofs.Named.options.Statement.{statement}
 use Rattle.answers.proofs.Named.options.Tie as tie
 
 returns : tie.Need-returns
 unfolding namedOptions
-returns c = cc
+returns c = refl
 
 pub options-spec : {M : Type 1} → statement M
 options-spec =

@@ -6,7 +6,17 @@ use Rattle.answers.proofs.same.same_geometry.Tie as tie
 
 returns : tie.Need-returns
 unfolding sameGeometry
-returns c = cc
+returns c =
+    let b = c .before .before .before .before in
+    rw (
+      c .both2 .ensures,
+      c .before .both .ensures,
+      c .before .before .same-label .ensures,
+      c .before .before .before .same-features .ensures,
+      b .same-numbers .ensures,
+      b .before .numbers2 .ensures,
+      b .before .before .numbers .ensures,
+    )
 
 pub same-geometry-spec : {M : Type 1} → statement M
 same-geometry-spec =
