@@ -12,7 +12,6 @@ ghost use lib.ListN.{length};
 use arith::numbers::min_usize;
 use heads::Pass;
 use libc::STDERR_FILENO;
-use names::LEAST_SECTOR;
 
 // How it stands with the reading and the writing: nothing stopped it, or why it stopped.
 pub(crate) const WHOLE: u8 = 0;
