@@ -3,16 +3,12 @@
 use std::collections::BTreeMap;
 use std::io;
 use std::ops::Range;
-use std::sync::Mutex;
 
-use futures::executor::block_on;
-use mkfs_xfs::device::BlockDevice;
-use mkfs_xfs::error::{Error, Result};
-use mkfs_xfs::format::format;
 use mkfs_xfs::geometry::Geometry;
 
 use crate::frames::Fields;
 use crate::modes::geometry::step;
+use crate::recorded::{formatted, Sink};
 use crate::request::{op, Request};
 
 /// What stands where nothing was written.
@@ -27,51 +23,21 @@ struct Contents {
     unfinished: BTreeMap<u64, Vec<u8>>,
 }
 
-struct Memory {
-    size: u64,
-    logical: u32,
-    physical: u32,
-    block: usize,
-    contents: Mutex<Contents>,
-}
-
-#[async_trait::async_trait]
-impl BlockDevice for Memory {
-    fn size(&self) -> u64 {
-        self.size
-    }
-
-    fn logical_sector_size(&self) -> u32 {
-        self.logical
-    }
-
-    fn physical_sector_size(&self) -> u32 {
-        self.physical
-    }
-
-    async fn read_at(&self, offset: u64, _buf: &mut [u8]) -> Result<()> {
-        Err(Error::io(offset, io::Error::other("nothing is read")))
-    }
-
-    async fn write_at(&self, offset: u64, buf: &[u8]) -> Result<()> {
-        let mut c = self.contents.lock().unwrap();
-        for (i, block) in buf.chunks(self.block).enumerate() {
-            c.blocks.insert(offset + (i * self.block) as u64, block.to_vec());
-        }
+impl Sink for Contents {
+    fn block(&mut self, at: u64, bytes: &[u8]) -> io::Result<()> {
+        self.blocks.insert(at, bytes.to_vec());
         Ok(())
     }
 
-    async fn write_zeroes(&self, offset: u64, len: u64) -> Result<()> {
-        let mut c = self.contents.lock().unwrap();
-        c.blocks.retain(|at, _| !(offset..offset + len).contains(at));
-        c.zeros.push(offset..offset + len);
+    fn zeros(&mut self, at: u64, len: u64) -> io::Result<()> {
+        self.blocks.retain(|block, _| !(at..at + len).contains(block));
+        self.zeros.push(at..at + len);
         Ok(())
     }
 
-    async fn flush(&self) -> Result<()> {
-        let mut c = self.contents.lock().unwrap();
-        if c.unfinished.is_empty() {
-            c.unfinished = c.blocks.clone();
+    fn flush(&mut self) -> io::Result<()> {
+        if self.unfinished.is_empty() {
+            self.unfinished = self.blocks.clone();
         }
         Ok(())
     }
@@ -107,10 +73,7 @@ impl Disk {
     pub fn of(request: Request, geometry: Geometry) -> io::Result<Disk> {
         let (q, g) = (request, geometry);
         let block = g.blocksize as usize;
-        let device =
-            Memory { size: q.device, logical: q.logical, physical: q.physical, block, contents: Mutex::default() };
-        block_on(format(&device, &q.params())).map_err(|e| io::Error::other(format!("{e:?}")))?;
-        let c = device.contents.into_inner().unwrap();
+        let c = formatted(&q, &g, Contents::default())?;
         let n = head_bytes(&g);
         let on = |at, n| read(&c.blocks, &c.zeros, block, at, n);
         let heads = (0..g.agcount).map(|k| on(g.agb_to_byte(k, 0), n)).collect();

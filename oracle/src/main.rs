@@ -22,6 +22,7 @@ mod frames;
 mod modes;
 mod numbers;
 mod random;
+mod recorded;
 mod request;
 mod wishes;
 

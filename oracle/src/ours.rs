@@ -1,5 +1,143 @@
 //! The port's own functions, from its static libraries (see `../build.rs`). A slice goes as pointer, then length.
 
+/// Declares functions of the port over a geometry, its fields one by one before their other parameters.
+#[allow(unused_macros)]
+macro_rules! over_geometry {
+    ($name:ident($($more:ident: $type:ty),* $(,)?)) => {
+        extern "C" {
+            fn $name(
+                blocksize: u32,
+                blocklog: u8,
+                sectsize: u32,
+                sectlog: u8,
+                lsectsize: u32,
+                lsectlog: u8,
+                inodesize: u32,
+                inodelog: u8,
+                inopblock: u32,
+                inopblog: u8,
+                dirblocklog: u8,
+                dblocks: u64,
+                agsize: u64,
+                agcount: u64,
+                agblklog: u8,
+                imaxpct: u8,
+                logblocks: u64,
+                logagno: u64,
+                log_agbno: u64,
+                finobt: bool,
+                rmapbt: bool,
+                reflink: bool,
+                inobtcount: bool,
+                bigtime: bool,
+                nrext64: bool,
+                sparse: bool,
+                label: *const [u8; 12],
+                $($more: $type),*
+            ) -> u32;
+        }
+    };
+}
+
+/// Calls such a function.
+#[allow(unused_macros)]
+macro_rules! on_geometry {
+    ($name:ident($g:expr, $($more:expr),* $(,)?)) => {{
+        let (g, f) = ($g, &$g.features);
+        unsafe {
+            $name(
+                g.blocksize,
+                g.blocklog,
+                g.sectsize,
+                g.sectlog,
+                g.lsectsize,
+                g.lsectlog,
+                g.inodesize,
+                g.inodelog,
+                g.inopblock,
+                g.inopblog,
+                g.dirblocklog,
+                g.dblocks,
+                g.agsize,
+                g.agcount,
+                g.agblklog,
+                g.imaxpct,
+                g.logblocks,
+                g.logagno,
+                g.log_agbno,
+                f.finobt,
+                f.rmapbt,
+                f.reflink,
+                f.inobtcount,
+                f.bigtime,
+                f.nrext64,
+                f.sparse,
+                &g.label,
+                $($more),*
+            )
+        }
+    }};
+}
+
+/// Declares functions of the port over what the geometry step is given, behind their other parameters.
+#[allow(unused_macros)]
+macro_rules! over_input {
+    ($($name:ident($($more:ident: $type:ty),*)),*) => {
+        extern "C" {
+            $(fn $name(
+                $($more: $type,)*
+                given: u64,
+                size: u64,
+                block: u32,
+                sector: u32,
+                inode: u32,
+                agcount: u64,
+                agsize: u64,
+                imaxpct: u8,
+                features: u64,
+                label_length: usize,
+                label: *const [u8; 12],
+                device: u64,
+                logical: u32,
+                physical: u32,
+            ) -> u64;)*
+        }
+    };
+}
+
+/// Calls such a function.
+#[allow(unused_macros)]
+macro_rules! on_input {
+    ($name:ident($($more:expr),*; $i:expr)) => {{
+        let i = $i;
+        unsafe {
+            $name(
+                $($more,)*
+                i.given,
+                i.size,
+                i.block,
+                i.sector,
+                i.inode,
+                i.agcount,
+                i.agsize,
+                i.imaxpct,
+                i.features,
+                i.label_length,
+                &i.label,
+                i.device,
+                i.logical,
+                i.physical,
+            )
+        }
+    }};
+}
+
+/// One field of each of the first N records, zeros past the list's end.
+#[cfg(any(feature = "slices", feature = "records"))]
+fn column<R, T: Copy + Default, const N: usize>(list: &[R], field: impl Fn(&R) -> T) -> [T; N] {
+    std::array::from_fn(|i| list.get(i).map_or(T::default(), &field))
+}
+
 /// Crate `ffi_crc`.
 #[cfg(feature = "crc")]
 pub mod crc {
@@ -74,49 +212,13 @@ pub mod geometry {
     }
 
     #[cfg(feature = "geometry")]
-    extern "C" {
-        fn zq_geometry(
-            field: u64,
-            given: u64,
-            size: u64,
-            block: u32,
-            sector: u32,
-            inode: u32,
-            agcount: u64,
-            agsize: u64,
-            imaxpct: u8,
-            features: u64,
-            label_length: usize,
-            label: *const [u8; 12],
-            device: u64,
-            logical: u32,
-            physical: u32,
-        ) -> u64;
-    }
+    over_input!(zq_geometry(field: u64));
 
     /// One number of the answer: 0 is the number of document 01, 1 to 20 are the fields in the Rust's order (features
     /// as bits), 21 to 32 the bytes of the label.
     #[cfg(feature = "geometry")]
     pub fn field(k: u64, i: &Input) -> u64 {
-        unsafe {
-            zq_geometry(
-                k,
-                i.given,
-                i.size,
-                i.block,
-                i.sector,
-                i.inode,
-                i.agcount,
-                i.agsize,
-                i.imaxpct,
-                i.features,
-                i.label_length,
-                &i.label,
-                i.device,
-                i.logical,
-                i.physical,
-            )
-        }
+        on_input!(zq_geometry(k; i))
     }
 }
 
@@ -362,92 +464,34 @@ pub mod sb {
     use crate::geometry::Geometry;
     use crate::structs::sb::SbState;
 
-    extern "C" {
-        fn zq_sb(
-            blocksize: u32,
-            blocklog: u8,
-            sectsize: u32,
-            sectlog: u8,
-            lsectsize: u32,
-            lsectlog: u8,
-            inodesize: u32,
-            inodelog: u8,
-            inopblock: u32,
-            inopblog: u8,
-            dirblocklog: u8,
-            dblocks: u64,
-            agsize: u64,
-            agcount: u64,
-            agblklog: u8,
-            imaxpct: u8,
-            logblocks: u64,
-            logagno: u64,
-            log_agbno: u64,
-            finobt: bool,
-            rmapbt: bool,
-            reflink: bool,
-            inobtcount: bool,
-            bigtime: bool,
-            nrext64: bool,
-            sparse: bool,
-            label: *const [u8; 12],
-            uuid: *const [u8; 16],
-            rootino: u64,
-            rbmino: u64,
-            rsumino: u64,
-            icount: u64,
-            ifree: u64,
-            fdblocks: u64,
-            inprogress: bool,
-            sector: *mut u8,
-            len: usize,
-        ) -> u32;
-    }
+    over_geometry!(zq_sb(
+        uuid: *const [u8; 16],
+        rootino: u64,
+        rbmino: u64,
+        rsumino: u64,
+        icount: u64,
+        ifree: u64,
+        fdblocks: u64,
+        inprogress: bool,
+        sector: *mut u8,
+        len: usize,
+    ));
 
     /// The number.
     pub fn encode(g: &Geometry, s: &SbState, sector: &mut [u8]) -> u32 {
-        let f = &g.features;
-        unsafe {
-            zq_sb(
-                g.blocksize,
-                g.blocklog,
-                g.sectsize,
-                g.sectlog,
-                g.lsectsize,
-                g.lsectlog,
-                g.inodesize,
-                g.inodelog,
-                g.inopblock,
-                g.inopblog,
-                g.dirblocklog,
-                g.dblocks,
-                g.agsize,
-                g.agcount,
-                g.agblklog,
-                g.imaxpct,
-                g.logblocks,
-                g.logagno,
-                g.log_agbno,
-                f.finobt,
-                f.rmapbt,
-                f.reflink,
-                f.inobtcount,
-                f.bigtime,
-                f.nrext64,
-                f.sparse,
-                &g.label,
-                &s.uuid,
-                s.rootino,
-                s.rbmino,
-                s.rsumino,
-                s.icount,
-                s.ifree,
-                s.fdblocks,
-                s.inprogress,
-                sector.as_mut_ptr(),
-                sector.len(),
-            )
-        }
+        on_geometry!(zq_sb(
+            g,
+            &s.uuid,
+            s.rootino,
+            s.rbmino,
+            s.rsumino,
+            s.icount,
+            s.ifree,
+            s.fdblocks,
+            s.inprogress,
+            sector.as_mut_ptr(),
+            sector.len(),
+        ))
     }
 }
 
@@ -456,45 +500,16 @@ pub mod sb {
 pub mod chunk {
     use crate::geometry::{Geometry, Timestamp};
 
-    extern "C" {
-        fn zq_root_chunk(
-            blocksize: u32,
-            blocklog: u8,
-            sectsize: u32,
-            sectlog: u8,
-            lsectsize: u32,
-            lsectlog: u8,
-            inodesize: u32,
-            inodelog: u8,
-            inopblock: u32,
-            inopblog: u8,
-            dirblocklog: u8,
-            dblocks: u64,
-            agsize: u64,
-            agcount: u64,
-            agblklog: u8,
-            imaxpct: u8,
-            logblocks: u64,
-            logagno: u64,
-            log_agbno: u64,
-            finobt: bool,
-            rmapbt: bool,
-            reflink: bool,
-            inobtcount: bool,
-            bigtime: bool,
-            nrext64: bool,
-            sparse: bool,
-            label: *const [u8; 12],
-            agbno: u64,
-            uuid: *const [u8; 16],
-            secs: i64,
-            nsecs: u32,
-            seed: u64,
-            next: *mut u64,
-            buf: *mut u8,
-            len: usize,
-        ) -> u32;
-    }
+    over_geometry!(zq_root_chunk(
+        agbno: u64,
+        uuid: *const [u8; 16],
+        secs: i64,
+        nsecs: u32,
+        seed: u64,
+        next: *mut u64,
+        buf: *mut u8,
+        len: usize,
+    ));
 
     /// The number, and the generator's state after the draws.
     pub fn root_chunk(
@@ -505,47 +520,9 @@ pub mod chunk {
         seed: u64,
         buf: &mut [u8],
     ) -> (u32, u64) {
-        let f = &g.features;
         let mut next = seed;
-        let number = unsafe {
-            zq_root_chunk(
-                g.blocksize,
-                g.blocklog,
-                g.sectsize,
-                g.sectlog,
-                g.lsectsize,
-                g.lsectlog,
-                g.inodesize,
-                g.inodelog,
-                g.inopblock,
-                g.inopblog,
-                g.dirblocklog,
-                g.dblocks,
-                g.agsize,
-                g.agcount,
-                g.agblklog,
-                g.imaxpct,
-                g.logblocks,
-                g.logagno,
-                g.log_agbno,
-                f.finobt,
-                f.rmapbt,
-                f.reflink,
-                f.inobtcount,
-                f.bigtime,
-                f.nrext64,
-                f.sparse,
-                &g.label,
-                agbno,
-                uuid,
-                t.secs,
-                t.nsecs,
-                seed,
-                &mut next,
-                buf.as_mut_ptr(),
-                buf.len(),
-            )
-        };
+        let (at, len) = (buf.as_mut_ptr(), buf.len());
+        let number = on_geometry!(zq_root_chunk(g, agbno, uuid, t.secs, t.nsecs, seed, &mut next, at, len));
         (number, next)
     }
 }
@@ -555,64 +532,19 @@ pub mod chunk {
 pub mod places {
     use super::geometry::Input;
 
-    macro_rules! answers {
-        ($($name:ident),*) => {
-            extern "C" {
-                $(fn $name(
-                    which: u64,
-                    agno: u64,
-                    agbno: u64,
-                    slot: u64,
-                    given: u64,
-                    size: u64,
-                    block: u32,
-                    sector: u32,
-                    inode: u32,
-                    agcount: u64,
-                    agsize: u64,
-                    imaxpct: u8,
-                    features: u64,
-                    label_length: usize,
-                    label: *const [u8; 12],
-                    device: u64,
-                    logical: u32,
-                    physical: u32,
-                ) -> u64;)*
-            }
-        };
-    }
-    answers!(zq_place_number, zq_place_value);
+    over_input!(
+        zq_place_number(which: u64, agno: u64, agbno: u64, slot: u64),
+        zq_place_value(which: u64, agno: u64, agbno: u64, slot: u64)
+    );
 
     /// The number and the value of one answer: 0 to 22 are the methods that take no number, in the Rust's order, then
     /// come ag_blocks, agb_to_fsb, agb_to_byte, agb_to_daddr and ino of the place (group, block, slot).
     pub fn answer(which: u64, place: [u64; 3], i: &Input) -> (u64, u64) {
-        macro_rules! asked {
-            ($name:ident) => {
-                unsafe {
-                    $name(
-                        which,
-                        place[0],
-                        place[1],
-                        place[2],
-                        i.given,
-                        i.size,
-                        i.block,
-                        i.sector,
-                        i.inode,
-                        i.agcount,
-                        i.agsize,
-                        i.imaxpct,
-                        i.features,
-                        i.label_length,
-                        &i.label,
-                        i.device,
-                        i.logical,
-                        i.physical,
-                    )
-                }
-            };
-        }
-        (asked!(zq_place_number), asked!(zq_place_value))
+        let [agno, agbno, slot] = place;
+        (
+            on_input!(zq_place_number(which, agno, agbno, slot; i)),
+            on_input!(zq_place_value(which, agno, agbno, slot; i)),
+        )
     }
 }
 
@@ -695,6 +627,7 @@ pub mod recs {
 /// Crate `ffi_slices`: the record lists of lent slices of at most 65 records. Every function gives the number.
 #[cfg(feature = "slices")]
 pub mod slices {
+    use super::column;
     use crate::structs::btree::{AllocRec, RmapRec};
 
     type Column<T> = [T; 65];
@@ -717,11 +650,6 @@ pub mod slices {
         ) -> u32;
     }
 
-    /// One field of every record, zeros past the list's end.
-    fn column<R, T: Copy + Default>(recs: &[R], field: impl Fn(&R) -> T) -> Column<T> {
-        std::array::from_fn(|i| recs.get(i).map_or(T::default(), &field))
-    }
-
     pub fn alloc_recs(recs: &[AllocRec], out: &mut [u8]) -> u32 {
         let (start, blocks) = (column(recs, |r| r.start), column(recs, |r| r.count));
         unsafe { zq_alloc_slice(&start, &blocks, recs.len(), out.as_mut_ptr(), out.len()) }
@@ -737,6 +665,7 @@ pub mod slices {
 /// Crate `ffi_records`. A list of records goes as an array of 64 for each field, and how many there are.
 #[cfg(feature = "records")]
 pub mod records {
+    use super::column;
     use crate::structs::btree::{AllocRec, RmapRec};
 
     type Column<T> = [T; 64];
@@ -771,15 +700,6 @@ pub mod records {
     const COUNT: u32 = 3;
     const OWNER: u32 = 4;
 
-    /// One number of each of the first 64 records, zeros behind them.
-    fn column<R, T: Copy + Default>(list: &[R], field: impl Fn(&R) -> T) -> Column<T> {
-        let mut out = [T::default(); 64];
-        for (slot, r) in out.iter_mut().zip(list) {
-            *slot = field(r);
-        }
-        out
-    }
-
     /// The number, and the records left.
     pub fn take(list: &[AllocRec], start: u64, len: u64) -> (u32, Vec<AllocRec>) {
         let (starts, counts) = (column(list, |r| r.start), column(list, |r| r.count));
@@ -795,11 +715,7 @@ pub mod records {
         let part = |part, k| unsafe {
             zq_rmap_insert(part, k, &starts, &counts, &owners, list.len(), r.start, r.count, r.owner)
         };
-        let rec = |k| RmapRec {
-            start: part(START, k) as u32,
-            count: part(COUNT, k) as u32,
-            owner: part(OWNER, k),
-        };
+        let rec = |k| RmapRec { start: part(START, k) as u32, count: part(COUNT, k) as u32, owner: part(OWNER, k) };
         (part(NUMBER, 0) as u32, (0..part(LEN, 0) as usize).map(rec).collect())
     }
 }

@@ -1,19 +1,15 @@
 //! Program writelist: a case is its standard input, an answer its standard output.
 
 use std::io;
-use std::sync::Mutex;
 
-use futures::executor::block_on;
 use mkfs_xfs::crc::crc32c;
-use mkfs_xfs::device::BlockDevice;
-use mkfs_xfs::error::{Error, Result};
-use mkfs_xfs::format::format;
 
 use super::geometry::feature_bits;
 use super::plans::{accepted, few, plan};
 use super::{Mode, Out, Told};
 use crate::frames::Fields;
 use crate::random::Random;
+use crate::recorded::{formatted, Sink};
 use crate::request::{op, Request};
 use crate::wishes;
 
@@ -28,54 +24,26 @@ const MANY_ONCE_IN: u64 = 150;
 const SUM: u8 = 0;
 const WHOLE: u8 = 1;
 
-/// A device that writes down what is done to it, as document 01's written records.
-struct Recorder<'a> {
-    out: Mutex<Out<'a>>,
-    size: u64,
-    logical: u32,
-    physical: u32,
-    block: usize,
-}
+/// Writes down what is done to the device, as document 01's written records.
+struct Records<'a>(Out<'a>);
 
-impl Recorder<'_> {
-    fn put(&self, at: u64, parts: &[&[u8]]) -> Result<()> {
-        let mut out = self.out.lock().unwrap();
-        parts.iter().try_for_each(|p| out.write_all(p)).map_err(|e| Error::io(at, e))
+impl Records<'_> {
+    fn put(&mut self, parts: &[&[u8]]) -> io::Result<()> {
+        parts.iter().try_for_each(|p| self.0.write_all(p))
     }
 }
 
-#[async_trait::async_trait]
-impl BlockDevice for Recorder<'_> {
-    fn size(&self) -> u64 {
-        self.size
+impl Sink for Records<'_> {
+    fn block(&mut self, at: u64, bytes: &[u8]) -> io::Result<()> {
+        self.put(&[b"WB", &at.to_be_bytes(), &(bytes.len() as u64).to_be_bytes(), bytes])
     }
 
-    fn logical_sector_size(&self) -> u32 {
-        self.logical
+    fn zeros(&mut self, at: u64, len: u64) -> io::Result<()> {
+        self.put(&[b"WZ", &at.to_be_bytes(), &len.to_be_bytes()])
     }
 
-    fn physical_sector_size(&self) -> u32 {
-        self.physical
-    }
-
-    async fn read_at(&self, offset: u64, _buf: &mut [u8]) -> Result<()> {
-        Err(Error::io(offset, io::Error::other("nothing is read")))
-    }
-
-    async fn write_at(&self, offset: u64, buf: &[u8]) -> Result<()> {
-        for (i, block) in buf.chunks(self.block).enumerate() {
-            let at = offset + (i * self.block) as u64;
-            self.put(at, &[b"WB", &at.to_be_bytes(), &(block.len() as u64).to_be_bytes(), block])?;
-        }
-        Ok(())
-    }
-
-    async fn write_zeroes(&self, offset: u64, len: u64) -> Result<()> {
-        self.put(offset, &[b"WZ", &offset.to_be_bytes(), &len.to_be_bytes()])
-    }
-
-    async fn flush(&self) -> Result<()> {
-        self.put(0, &[b"FL"])
+    fn flush(&mut self) -> io::Result<()> {
+        self.put(&[b"FL"])
     }
 }
 
@@ -147,14 +115,7 @@ impl Mode for Writelist {
             writeln!(out, "refused {}", told.number)?;
             return Ok(told);
         };
-        let device = Recorder {
-            out: Mutex::new(out),
-            size: q.device,
-            logical: q.logical,
-            physical: q.physical,
-            block: g.blocksize as usize,
-        };
-        block_on(format(&device, &q.params())).map_err(|e| io::Error::other(format!("{e:?}")))?;
+        formatted(&q, &g, Records(out))?;
         Ok(Told { kind: by_block(g.blocksize), ..told })
     }
 
