@@ -233,6 +233,25 @@ pub fn many(r: &mut Random, groups: u64) -> Request {
     q
 }
 
+/// A run of many groups: in a quarter of them the group size is the default, of 1 TiB; with UUID, seed and a time, and any inode size.
+pub fn many_run(r: &mut Random, groups: u64) -> Request {
+    let mut q = many(r, groups);
+    if r.one_in(4) {
+        q.options[op::AGSIZE] = None;
+        q.device = (33 + r.below(groups - 33)) * TIB + r.below(TIB);
+    }
+    if r.one_in(2) {
+        q.options[op::INODE] = Some(r.pick(&[512, 1024, 2048]).min(block(&q) / 2));
+    }
+    with_run(r, &mut q);
+    // Few of those times are in range.
+    if !r.one_in(8) {
+        q.options[op::SECONDS] = Some(r.below(1 << 31));
+        q.options[op::NANOSECONDS] = Some(r.below(1_000_000_000));
+    }
+    q
+}
+
 /// A label of any bytes, no longer than it may be.
 pub fn any_label(r: &mut Random, q: &mut Request) {
     let n = r.below(13) as usize;
@@ -271,7 +290,7 @@ pub fn with_run(r: &mut Random, q: &mut Request) {
     }
 }
 
-/// The request's records, sometimes in another order, and sometimes malformed.
+/// The request's records, sometimes with a label before the options, and sometimes malformed.
 pub fn records(r: &mut Random, q: &Request) -> Vec<u8> {
     let mut bytes = q.encode();
     if !r.one_in(4) {

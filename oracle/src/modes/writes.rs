@@ -94,7 +94,7 @@ fn time_of(q: &Request) -> &'static str {
 impl Mode for Writelist {
     fn case(&self, r: &mut Random) -> Vec<u8> {
         loop {
-            let mut q = if r.one_in(MANY_ONCE_IN) { wishes::many(r, MANY_GROUPS) } else { few(r, GROUPS) };
+            let mut q = if r.one_in(MANY_ONCE_IN) { wishes::many_run(r, MANY_GROUPS) } else { few(r, GROUPS) };
             if r.one_in(4) {
                 wishes::any_label(r, &mut q);
             }
