@@ -1,4 +1,4 @@
--- Every byte of a head is below 256.
+-- Every byte of a head is below 256; a plan that is the planner's for its group adds nothing to geometry and group.
 -- Assumes nothing.
 use mathlib.Core.Path.{_≡_, ap}
 use mathlib.Core.Bool.{Bool, true, false}

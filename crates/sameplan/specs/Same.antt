@@ -16,7 +16,7 @@ use Rattle.plan.specs.declared.AgPlan.{AgPlan}
 use Rattle.plan.specs.declared.Planned.{Planned}
 use Rattle.plan.specs.Plan.{planned}
 
--- two lists are of one length, and each element is the same as its neighbour
+-- two lists are of one length, and each element is the same as the other list's in its place
 unfoldable pub eqList : {A : Type 0} → (A → A → Bool) → List A → List A → Bool
 eqList same [] [] = true
 eqList same [] (y ∷ ys) = false

@@ -9,6 +9,7 @@ use Rattle.arith.specs.Choice.{when}
 use Rattle.seqs.specs.Lists.{choose}
 use Rattle.structs.specs.Written.{null64}
 use Rattle.geometry.specs.declared.Geometry.{Geometry}
+use Rattle.layout.specs.Limits.{chunkInodes}
 use Rattle.counts.specs.declared.Value64.{Value64}
 use Rattle.counts.specs.declared.Value64.the-variants.{Refused, Of}
 use Rattle.places.specs.Answers.{rootIno, initialFdblocks}
@@ -23,7 +24,11 @@ abbrev pub secondaryWith : List ℕ → ℕ → ℕ → SbState
 secondaryWith uuid rootino fdblocks =
     record { uuid = uuid; rootino = rootino; rbmino = null64; rsumino = null64; icount = 0; ifree = 0; fdblocks = fdblocks; inprogress = true }
 
--- with the root chunk: 64 inodes, three of them in use one after the other
+-- the inodes of the root chunk that are in use: root directory, realtime bitmap, realtime summary
+abbrev pub inUse : ℕ
+inUse = 3
+
+-- with the root chunk: the three are its first
 abbrev pub primaryWith : List ℕ → ℕ → ℕ → Bool → SbState
 primaryWith uuid rootino fdblocks inprogress =
     record {
@@ -31,8 +36,8 @@ primaryWith uuid rootino fdblocks inprogress =
       rootino = rootino;
       rbmino = rootino + 1;
       rsumino = rootino + 2;
-      icount = 64;
-      ifree = 61;
+      icount = chunkInodes;
+      ifree = chunkInodes - inUse;
       fdblocks = fdblocks;
       inprogress = inprogress;
     }

@@ -11,11 +11,12 @@ use geometry::Geometry;
 use places::fixed::initial_fdblocks;
 use places::fixed::rootino;
 use sb::SbState;
+use structs::NULL64;
 use summary::free_count;
 use summary::plans_number;
 
-// No inode.
-pub const NULL64: u64 = 0xffff_ffff_ffff_ffff;
+// The inodes of the root chunk that are in use: root directory, realtime bitmap, realtime summary.
+const IN_USE: u64 = 3;
 
 // The refusal of a group number not below agcount.
 pub const NO_GROUP: u32 = 29;
@@ -76,8 +77,8 @@ fn primary_with(uuid: [u8; 16], rootino: u64, fdblocks: u64, inprogress: bool) -
         rootino,
         rbmino: rootino + 1,
         rsumino: rootino + 2,
-        icount: 64,
-        ifree: 61,
+        icount: Geometry::INODES_PER_CHUNK,
+        ifree: Geometry::INODES_PER_CHUNK - IN_USE,
         fdblocks,
         inprogress,
     }
