@@ -34,7 +34,3 @@ list-nil = refl
 pub list-cons : (r : Record) (rs : List Record) → length (listBytes (r ∷ rs)) ≡ length (recordBytes r) + length (listBytes rs)
 unfolding listBytes
 list-cons r rs = length-append (recordBytes r) (listBytes rs)
-
-pub list-append : (xs ys : List Record) → length (listBytes (xs ++ ys)) ≡ length (listBytes xs) + length (listBytes ys)
-list-append [] ys = omega (arith, list-nil)
-list-append (x ∷ xs) ys = omega (arith, list-cons x (xs ++ ys), list-cons x xs, list-append xs ys)

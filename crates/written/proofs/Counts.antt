@@ -17,7 +17,7 @@ module _ (z b f : ℕ) (run : Run) where
   abbrev sum : List Record → ℕ
   sum rs = total (byKind z b f) rs
 
-  opening-total : (device : ℕ) → sum (opening run device) ≡ 3 * z + b
+  pub opening-total : (device : ℕ) → sum (opening run device) ≡ 3 * z + b
   unfolding opening total
   opening-total device = omega arith
 
@@ -32,10 +32,10 @@ module _ (z b f : ℕ) (run : Run) where
   unfolding chunkRecords
   chunk-total = blocks-total z b f _ _ (chunkBlocks (run .geometry)) _
 
-  closing-total : sum (closing run) ≡ headerBlocks (run .geometry) * b + 2 * f
+  pub closing-total : sum (closing run) ≡ headerBlocks (run .geometry) * b + 2 * f
   unfolding closing total
   closing-total =
-      let header : sum (headerRecords run) ≡ headerBlocks (run .geometry) * b = blocks-total z b f _ 0 (headerBlocks (run .geometry)) _ in
+      let header : sum (headerRecords run) ≡ headerBlocks (run .geometry) * b = blocks-total z b f _ _ (headerBlocks (run .geometry)) _ in
       omega (arith, total-append (byKind z b f) (headerRecords run) (FL ∷ []))
 
   -- THE WHOLE LIST
