@@ -2,13 +2,12 @@
 -- Assumes nothing.
 use mathlib.Core.Path.{_≡_, refl}
 use mathlib.Core.List.{List, [], _∷_, _++_}
-use Prim.Native.Nat.{ℕ, zero, suc, _+_, _*_, _≤_}
+use Prim.Native.Nat.{ℕ, _+_}
 use native.Mathlib.Omega.{arith}
-use lib.ListN.{length, take, drop, length-append, length-drop}
-use lib.Seq.{length-take-le}
+use lib.ListN.{length, length-append}
 use Rattle.endian.specs.Bytes.{beBytes}
 use Rattle.endian.proofs.Laws.{length-be}
-use Rattle.records.specs.Records.{Record, WZ, WB, FL, recordBytes, listBytes, blocks}
+use Rattle.records.specs.Records.{Record, WZ, WB, FL, recordBytes, listBytes}
 
 -- ---- one record: mark, offset and length; with a block, its bytes too
 
@@ -35,17 +34,3 @@ list-nil = refl
 pub list-cons : (r : Record) (rs : List Record) → length (listBytes (r ∷ rs)) ≡ length (recordBytes r) + length (listBytes rs)
 unfolding listBytes
 list-cons r rs = length-append (recordBytes r) (listBytes rs)
-
-pub list-append : (xs ys : List Record) → length (listBytes (xs ++ ys)) ≡ length (listBytes xs) + length (listBytes ys)
-list-append [] ys = omega (arith, list-nil)
-list-append (x ∷ xs) ys = omega (arith, list-cons x (xs ++ ys), list-cons x xs, list-append xs ys)
-
--- a write split into blocks
-pub blocks-bytes : (bs offset n : ℕ) (bytes : List ℕ) → n * bs ≤ length bytes → length (listBytes (blocks bs offset n bytes)) ≡ n * (18 + bs)
-unfolding blocks
-blocks-bytes bs offset zero bytes l = omega (arith, list-nil)
-blocks-bytes bs offset (suc n) bytes l =
-    let first = WB offset (take bs bytes) in
-    let rest = blocks bs (offset + bs) n (drop bs bytes) in
-    let h = blocks-bytes bs (offset + bs) n (drop bs bytes) (omega (arith, length-drop bs bytes)) in
-    omega (arith, list-cons first rest, block-bytes offset (take bs bytes), length-take-le bs bytes (omega arith))

@@ -13,7 +13,8 @@ use Rattle.endian.specs.Bytes.{beBytes, patch}
 use Rattle.endian.proofs.Laws.{length-be, length-patch, patch-append, put-in}
 use Rattle.structs.proofs.Reading.{patch-apart}
 use Rattle.records.specs.Records.{Record, WZ, WB, FL, recordBytes, listBytes, blocks}
-use Rattle.records.proofs.Sizes.{block-bytes, blocks-bytes}
+use Rattle.records.proofs.Sizes.{block-bytes}
+use Rattle.records.proofs.Sums.{blocks-bytes}
 use Rattle.lengths.specs.Lengths.{blocksLength}
 use Rattle.writes.specs.Writing.{recordHead}
 

@@ -1,6 +1,6 @@
 -- From the finished superblock's block on, the device stands as at the end of the list.
 -- Assumes nothing.
-use mathlib.Core.Path.{_≡_, refl, sym, ap, fun-ext, _∙_}
+use mathlib.Core.Path.{_≡_, sym, ap, fun-ext, _∙_}
 use mathlib.Core.List.{List, [], _∷_, _++_, append-assoc}
 use Prim.Native.Nat.{ℕ, suc, _+_, _-_, _*_, _≤_, _<_}
 use native.Mathlib.Omega.{arith}
@@ -16,19 +16,8 @@ use Rattle.written.specs.Listing.{headerBlocks, headFinished, closing, l
 use Rattle.written.specs.Sound.{Sound}
 use Rattle.written.specs.Left.{headAt, headSize, headerSize, unfinished}
 use Rattle.written.proofs.Spans.{spans}
-use Rattle.written.proofs.Parts.{list-parts}
+use Rattle.written.proofs.Parts.{list-parts, cut-behind}
 use Rattle.written.proofs.Left.{unfinished-head}
-
--- a list cut behind a front of it
-cut-behind : {A : Type 0} (front behind cut rest : List A) → cut ++ rest ≡ front ++ behind → length front ≤ length cut
-    → (cut ≡ front ++ drop (length front) cut) × (drop (length front) cut ++ rest ≡ behind)
-cut-behind [] behind cut rest e h = (refl, e)
-cut-behind (x ∷ front) behind [] rest e h = absurd (omega arith)
-cut-behind (x ∷ front) behind (y ∷ cut) rest e h =
-    let same : y ≡ x = cc in
-    let tails : cut ++ rest ≡ front ++ behind = cc in
-    let c = cut-behind front behind cut rest tails (omega arith) in
-    (rw same (ap (λ l. x ∷ l) (c .0)), c .1)
 
 module _ (run : Run) (device : ℕ) (s : Sound run device) where
   -- group 0's head behind its first block is the finished one's

@@ -1,54 +1,71 @@
--- How many records a run writes.
+-- How many records a run writes, of each kind and in all: one sum by kind over its list.
 -- Assumes nothing.
-use mathlib.Core.Path.{_≡_, refl, _∙_}
-use mathlib.Core.List.{[], _∷_, _++_}
+use mathlib.Core.Path.{_≡_}
+use mathlib.Core.List.{List, [], _∷_, _++_}
 use Prim.Native.Nat.{ℕ, zero, suc, _+_, _*_}
 use native.Mathlib.Omega.{arith}
-use lib.ListN.{length, length-append}
+use lib.ListN.{length}
+use Rattle.seqs.specs.Lists.{total}
+use Rattle.seqs.proofs.Laws.{total-append}
 use Rattle.run.specs.declared.Run.{Run}
-use Rattle.records.specs.Records.{FL}
-use Rattle.records.proofs.Blocks.{blocks-count}
-use Rattle.written.specs.Listing.{headBlocks, headerBlocks, chunkBlocks, opening, headRecords, headsTo, chunkRecords, headerRecords, closing, listOf, recordCount}
+use Rattle.records.specs.Records.{Record, FL, byKind, zeroings, blockWrites, flushes}
+use Rattle.records.proofs.Sums.{blocks-total, count-total}
+use Rattle.written.specs.Listing.{headBlocks, headerBlocks, chunkBlocks, opening, headRecords, headsTo, chunkRecords, headerRecords, closing, listOf, blockCount, recordCount}
 
-module _ (run : Run) where
-  pub opening-count : (device : ℕ) → length (opening run device) ≡ 4
-  unfolding opening
-  opening-count device = refl
+-- z for each WZ, b for each WB, f for each FL
+module _ (z b f : ℕ) (run : Run) where
+  abbrev sum : List Record → ℕ
+  sum rs = total (byKind z b f) rs
 
-  pub head-count : (k : ℕ) → length (headRecords run k) ≡ headBlocks (run .geometry)
-  unfolding headRecords
-  head-count k = blocks-count _ _ (headBlocks (run .geometry)) _
+  pub opening-total : (device : ℕ) → sum (opening run device) ≡ 3 * z + b
+  unfolding opening total
+  opening-total device = omega arith
 
-  pub heads-count : (n : ℕ) → length (headsTo run n) ≡ n * headBlocks (run .geometry)
-  unfolding headsTo
-  heads-count zero = omega arith
-  heads-count (suc n) =
-      let h : length (headsTo run n) ≡ n * headBlocks (run .geometry) = heads-count n in
-      let b : length (headRecords run n) ≡ headBlocks (run .geometry) = head-count n in
-      length-append (headsTo run n) (headRecords run n) ∙ omega arith
+  heads-total : (n : ℕ) → sum (headsTo run n) ≡ n * headBlocks (run .geometry) * b
+  unfolding headsTo headRecords total
+  heads-total zero = omega arith
+  heads-total (suc n) =
+      let one : sum (headRecords run n) ≡ headBlocks (run .geometry) * b = blocks-total z b f _ _ (headBlocks (run .geometry)) _ in
+      omega (arith, total-append (byKind z b f) (headsTo run n) (headRecords run n), heads-total n)
 
-  pub chunk-count : length (chunkRecords run) ≡ chunkBlocks (run .geometry)
+  chunk-total : sum (chunkRecords run) ≡ chunkBlocks (run .geometry) * b
   unfolding chunkRecords
-  chunk-count = blocks-count _ _ (chunkBlocks (run .geometry)) _
+  chunk-total = blocks-total z b f _ _ (chunkBlocks (run .geometry)) _
 
-  pub closing-count : length (closing run) ≡ headerBlocks (run .geometry) + 2
-  unfolding closing
-  closing-count =
-      let b : length (headerRecords run) ≡ headerBlocks (run .geometry) = blocks-count _ _ (headerBlocks (run .geometry)) _ in
-      let a : length (headerRecords run ++ (FL ∷ [])) ≡ length (headerRecords run) + 1 = length-append (headerRecords run) (FL ∷ []) in
-      let c : suc (length (headerRecords run ++ (FL ∷ []))) ≡ headerBlocks (run .geometry) + 2 = omega arith in
-      c
+  pub closing-total : sum (closing run) ≡ headerBlocks (run .geometry) * b + 2 * f
+  unfolding closing total
+  closing-total =
+      let header : sum (headerRecords run) ≡ headerBlocks (run .geometry) * b = blocks-total z b f _ _ (headerBlocks (run .geometry)) _ in
+      omega (arith, total-append (byKind z b f) (headerRecords run) (FL ∷ []))
 
   -- THE WHOLE LIST
-  pub list-count : (device : ℕ) → length (listOf run device) ≡ recordCount (run .geometry)
-  unfolding listOf recordCount
-  list-count device =
+  pub list-total : (device : ℕ) → sum (listOf run device) ≡ 3 * z + blockCount (run .geometry) * b + 2 * f
+  unfolding listOf blockCount
+  list-total device =
       let hs = headsTo run (run .geometry .agcount) in
-      let o : length (opening run device) ≡ 4 = opening-count device in
-      let h : length hs ≡ run .geometry .agcount * headBlocks (run .geometry) = heads-count (run .geometry .agcount) in
-      let r : length (chunkRecords run) ≡ chunkBlocks (run .geometry) = chunk-count in
-      let z : length (closing run) ≡ headerBlocks (run .geometry) + 2 = closing-count in
-      let a : length (opening run device ++ (hs ++ (chunkRecords run ++ closing run))) ≡ length (opening run device) + length (hs ++ (chunkRecords run ++ closing run)) = length-append (opening run device) (hs ++ (chunkRecords run ++ closing run)) in
-      let b : length (hs ++ (chunkRecords run ++ closing run)) ≡ length hs + length (chunkRecords run ++ closing run) = length-append hs (chunkRecords run ++ closing run) in
-      let c : length (chunkRecords run ++ closing run) ≡ length (chunkRecords run) + length (closing run) = length-append (chunkRecords run) (closing run) in
-      omega arith
+      let joined = total-append (byKind z b f) in
+      omega (
+        arith,
+        joined (opening run device) (hs ++ (chunkRecords run ++ closing run)),
+        joined hs (chunkRecords run ++ closing run),
+        joined (chunkRecords run) (closing run),
+        opening-total device,
+        heads-total (run .geometry .agcount),
+        chunk-total,
+        closing-total,
+      )
+
+-- one for each record
+pub list-count : (run : Run) (device : ℕ) → length (listOf run device) ≡ recordCount (run .geometry)
+unfolding recordCount blockCount
+list-count run device = omega (arith, count-total (listOf run device), list-total 1 1 1 run device)
+
+-- of each kind
+pub list-zeros : (run : Run) (device : ℕ) → zeroings (listOf run device) ≡ 3
+list-zeros run device = omega (arith, list-total 1 0 0 run device)
+
+pub list-flushes : (run : Run) (device : ℕ) → flushes (listOf run device) ≡ 2
+list-flushes run device = omega (arith, list-total 0 0 1 run device)
+
+pub list-blocks : (run : Run) (device : ℕ) → blockWrites (listOf run device) ≡ blockCount (run .geometry)
+list-blocks run device = omega (arith, list-total 0 1 0 run device)

@@ -1,6 +1,7 @@
--- A disk of 1 GiB without options has 43 records, of 156,390 bytes.
+-- A disk of 1 GiB without options has 43 records, 3 WZ, 38 WB and 2 FL, of 156,390 bytes.
 -- Assumes nothing.
-use mathlib.Core.Path.{_≡_, refl}
+use mathlib.Core.Path.{_≡_, refl, ap, _∙_}
+use Prim.Native.Nat.{ℕ}
 use Rattle.arith.specs.Choice.{when, bit}
 use Rattle.arith.specs.Numbers.{ceilDiv}
 use Rattle.arith.specs.Powers.{powerIn, powerLog, leastFrom, log2Up}
@@ -8,11 +9,23 @@ use Rattle.params.specs.Params.{noOptions}
 use Rattle.sizes.specs.Sizes.{defaultSector, sizesOf, sizesRefusals}
 use Rattle.grouping.specs.Groups.{askedBlocks, defaultSize, initialGroups, isShort, trim, optionsRefusals, groupsRefusals}
 use Rattle.logsize.specs.Log.{headerOf, preallocOf, logBlocks, defaultImaxpct, lastRefusals}
+use Rattle.geometry.specs.declared.Geometry.{Geometry}
 use Rattle.geometry.specs.Compute.{withGroups, withSizes, chosenOf, refusals, refusalOf, labelOf, geometryOf, zeroGeometry, computeDef}
 use Rattle.geometry.specs.Compute as compute
 use Rattle.layout.specs.Places.{chunkOf}
-use Rattle.written.specs.Listing.{recordCount, listLength}
+use Rattle.run.specs.declared.Run.{Run}
+use Rattle.records.specs.Records.{zeroings, blockWrites, flushes}
+use Rattle.written.specs.Listing.{listOf, blockCount, recordCount, listLength}
+use Rattle.written.proofs.Counts.{list-zeros, list-flushes, list-blocks}
 
-pub example : (recordCount (computeDef noOptions 1073741824 512 512 .geometry) ≡ 43) × (listLength (computeDef noOptions 1073741824 512 512 .geometry) ≡ 156390)
-unfolding when bit ceilDiv powerIn powerLog leastFrom log2Up defaultSector sizesOf sizesRefusals askedBlocks defaultSize initialGroups isShort trim optionsRefusals groupsRefusals headerOf preallocOf logBlocks defaultImaxpct lastRefusals withGroups withSizes chosenOf refusals refusalOf labelOf geometryOf zeroGeometry compute.answer computeDef chunkOf recordCount listLength
-example = (refl, refl)
+abbrev gib : Geometry
+gib = computeDef noOptions 1073741824 512 512 .geometry
+
+pub example : (recordCount gib ≡ 43) × (blockCount gib ≡ 38) × (listLength gib ≡ 156390)
+unfolding when bit ceilDiv powerIn powerLog leastFrom log2Up defaultSector sizesOf sizesRefusals askedBlocks defaultSize initialGroups isShort trim optionsRefusals groupsRefusals headerOf preallocOf logBlocks defaultImaxpct lastRefusals withGroups withSizes chosenOf refusals refusalOf labelOf geometryOf zeroGeometry compute.answer computeDef chunkOf recordCount listLength blockCount
+example = (refl, refl, refl)
+
+-- the list of every run with its geometry
+pub example-kinds : (run : Run) (device : ℕ) → run .geometry ≡ gib
+    → (zeroings (listOf run device) ≡ 3) × (blockWrites (listOf run device) ≡ 38) × (flushes (listOf run device) ≡ 2)
+example-kinds run device e = (list-zeros run device, list-blocks run device ∙ ap blockCount e ∙ example .1, list-flushes run device)

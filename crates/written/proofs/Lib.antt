@@ -9,3 +9,4 @@ pub mod Left
 pub mod Order
 pub mod Early
 pub mod After
+pub mod Cut

@@ -1,8 +1,7 @@
 -- The form of a run's list.
 -- Assumes nothing.
 use mathlib.Core.Path.{_≡_, refl, ap, _∙_}
-use mathlib.Core.List.{List, [], _∷_, _++_}
-use Prim.Native.Nat.{ℕ, zero, suc, _+_, _*_, _≤_, _<_}
+use Prim.Native.Nat.{ℕ, _+_, _*_, _≤_, _<_}
 use native.Mathlib.Omega.{arith}
 use native.Mathlib.Nat.{mul-mod-left, zero-mod}
 use lib.ListN.{length}
@@ -10,33 +9,17 @@ use Rattle.layout.specs.Places.{byteOf}
 use Rattle.places.specs.Answers.{rootChunk}
 use Rattle.rootchunk.specs.Chunk.{chunkBytes}
 use Rattle.run.specs.declared.Run.{Run}
-use Rattle.records.specs.Records.{WZ, WB, FL, All, OneBlock, listBytes}
+use Rattle.records.specs.Records.{All, OneBlock, listBytes, payload}
 use Rattle.records.proofs.Blocks.{blocks-whole}
-use Rattle.records.proofs.Sizes.{zeros-bytes, block-bytes, flush-bytes, list-nil, list-cons, list-append, blocks-bytes}
+use Rattle.records.proofs.Sums.{payload-total, bytes-total}
 use Rattle.device.specs.Device.{Fits}
 use Rattle.device.proofs.Applying.{blocks-fit, blocks-rising}
-use Rattle.written.specs.Listing.{tailStart, logOffset, headBlocks, headerBlocks, chunkBlocks, headWritten, headFinished, opening, headRecords, headsTo, chunkRecords, headerRecords, closing, listOf, listLength}
+use Rattle.written.specs.Listing.{tailStart, logOffset, headBlocks, headerBlocks, chunkBlocks, headWritten, headFinished, opening, headRecords, chunkRecords, listOf, blockCount, listLength}
 use Rattle.written.specs.Sound.{Sound}
 use Rattle.written.specs.Order.{Ordered}
-use Rattle.written.proofs.Counts.{list-count}
+use Rattle.written.proofs.Counts.{list-total, list-count, list-zeros, list-flushes, list-blocks}
 use Rattle.written.proofs.Parts.{list-all}
 use Rattle.written.proofs.Spans.{spans}
-
--- three records of zeros and a block's
-zeros-and-block : (a b c d l m n : ℕ) (bytes : List ℕ) → length (listBytes (WZ a l ∷ WZ b m ∷ WZ c n ∷ WB d bytes ∷ [])) ≡ 3 * 18 + (18 + length bytes)
-zeros-and-block a b c d l m n bytes =
-    omega (
-      arith,
-      list-cons (WZ a l) (WZ b m ∷ WZ c n ∷ WB d bytes ∷ []),
-      list-cons (WZ b m) (WZ c n ∷ WB d bytes ∷ []),
-      list-cons (WZ c n) (WB d bytes ∷ []),
-      list-cons (WB d bytes) [],
-      list-nil,
-      zeros-bytes a l,
-      zeros-bytes b m,
-      zeros-bytes c n,
-      block-bytes d bytes,
-    )
 
 module _ (run : Run) (device : ℕ) (s : Sound run device) where
   -- ---- every part has its blocks
@@ -80,46 +63,12 @@ module _ (run : Run) (device : ℕ) (s : Sound run device) where
 
   -- ---- the bytes of the list
 
-  opening-bytes : length (listBytes (opening run device)) ≡ 3 * 18 + (18 + run .geometry .blocksize)
-  unfolding opening
-  opening-bytes = zeros-and-block _ _ _ _ _ _ _ _ ∙ ap (λ (n : ℕ). 3 * 18 + (18 + n)) (s .log-long)
-
-  head-bytes : (k : ℕ) → k < run .geometry .agcount → length (listBytes (headRecords run k)) ≡ headBlocks (run .geometry) * (18 + run .geometry .blocksize)
-  unfolding headRecords
-  head-bytes k h = blocks-bytes (run .geometry .blocksize) _ _ _ (head-room k h)
-
-  chunk-bytes : length (listBytes (chunkRecords run)) ≡ chunkBlocks (run .geometry) * (18 + run .geometry .blocksize)
-  unfolding chunkRecords
-  chunk-bytes = blocks-bytes (run .geometry .blocksize) _ _ _ chunk-room
-
-  header-bytes : length (listBytes (headerRecords run)) ≡ headerBlocks (run .geometry) * (18 + run .geometry .blocksize)
-  header-bytes = blocks-bytes (run .geometry .blocksize) _ _ _ header-room
-
-  heads-bytes : (n : ℕ) → n ≤ run .geometry .agcount → length (listBytes (headsTo run n)) ≡ n * headBlocks (run .geometry) * (18 + run .geometry .blocksize)
-  unfolding headsTo
-  heads-bytes zero h = omega (arith, list-nil)
-  heads-bytes (suc n) h = omega (arith, list-append (headsTo run n) (headRecords run n), heads-bytes n (omega arith), head-bytes n h)
-
   list-bytes : length (listBytes (listOf run device)) ≡ listLength (run .geometry)
-  unfolding listOf closing listLength
-  list-bytes =
-      let hs = headsTo run (run .geometry .agcount) in
-      let header = headerRecords run in
-      omega (
-        arith,
-        list-append (opening run device) (hs ++ (chunkRecords run ++ closing run)),
-        list-append hs (chunkRecords run ++ closing run),
-        list-append (chunkRecords run) (closing run),
-        list-cons FL (header ++ (FL ∷ [])),
-        list-append header (FL ∷ []),
-        list-cons FL [],
-        list-nil,
-        flush-bytes,
-        opening-bytes,
-        heads-bytes (run .geometry .agcount) (omega arith),
-        chunk-bytes,
-        header-bytes,
-      )
+  unfolding listLength
+  list-bytes = let bs = run .geometry .blocksize in omega (arith, bytes-total bs (listOf run device) list-whole, list-total 18 (18 + bs) 2 run device)
+
+  list-carries : payload (listOf run device) ≡ blockCount (run .geometry) * run .geometry .blocksize
+  list-carries = let bs = run .geometry .blocksize in payload-total bs (listOf run device) list-whole ∙ ap (λ n. n * bs) (list-blocks run device)
 
   -- THE FORM OF THE LIST
   pub ordered : Ordered run device
@@ -132,4 +81,8 @@ module _ (run : Run) (device : ℕ) (s : Sound run device) where
     header-rises = blocks-rising (run .geometry .blocksize) 0 _ _ header-room;
     count = list-count run device;
     bytes = list-bytes;
+    zeros-count = list-zeros run device;
+    flush-count = list-flushes run device;
+    block-count = list-blocks run device;
+    carries = list-carries;
   }

@@ -126,13 +126,19 @@ unfoldable pub chunksTo : Run → ℕ → ℕ → List Record
 chunksTo run device zero = []
 chunksTo run device (suc n) = chunksTo run device n ++ listChunk run device n
 
--- ---- how many records: three WZ, the log block, two FL, and a WB for each block of heads, root chunk and header blocks
+-- ---- how many records
+
+-- a WB for the log block and for each block of heads, root chunk and header blocks
+unfoldable pub blockCount : Geometry → ℕ
+blockCount g = 1 + g .agcount * headBlocks g + chunkBlocks g + headerBlocks g
+
+-- three WZ, these, and two FL
 unfoldable pub recordCount : Geometry → ℕ
 recordCount g = 6 + g .agcount * headBlocks g + chunkBlocks g + headerBlocks g
 
 -- how many bytes: 18 for each WZ, 2 for each FL, and for each WB 18 and a block's
 unfoldable pub listLength : Geometry → ℕ
-listLength g = 3 * 18 + 2 * 2 + (1 + g .agcount * headBlocks g + chunkBlocks g + headerBlocks g) * (18 + g .blocksize)
+listLength g = 3 * 18 + 2 * 2 + blockCount g * (18 + g .blocksize)
 
 -- ---- what a finished run leaves
 

@@ -1,12 +1,12 @@
 -- The form of a run's list: where its records lie, how they follow each other, how many there are.
 -- Assumes nothing.
 use mathlib.Core.Path.{_≡_}
-use Prim.Native.Nat.{ℕ, _<_}
+use Prim.Native.Nat.{ℕ, _*_, _<_}
 use lib.ListN.{length}
 use Rattle.run.specs.declared.Run.{Run}
-use Rattle.records.specs.Records.{All, OneBlock, listBytes}
+use Rattle.records.specs.Records.{All, OneBlock, listBytes, zeroings, blockWrites, flushes, payload}
 use Rattle.device.specs.Device.{Fits, Rising}
-use Rattle.written.specs.Listing.{headRecords, chunkRecords, headerRecords, listOf, recordCount, listLength}
+use Rattle.written.specs.Listing.{headRecords, chunkRecords, headerRecords, listOf, blockCount, recordCount, listLength}
 use Rattle.written.specs.Left.{headAt, chunkAt}
 
 pub record Ordered (run : Run) (device : ℕ) : Type 0 where
@@ -20,3 +20,8 @@ pub record Ordered (run : Run) (device : ℕ) : Type 0 where
   -- the number of records, and of their bytes in the list
   pub count : length (listOf run device) ≡ recordCount (run .geometry)
   pub bytes : length (listBytes (listOf run device)) ≡ listLength (run .geometry)
+  -- three WZ, two FL, the rest WB; these carry a block each
+  pub zeros-count : zeroings (listOf run device) ≡ 3
+  pub flush-count : flushes (listOf run device) ≡ 2
+  pub block-count : blockWrites (listOf run device) ≡ blockCount (run .geometry)
+  pub carries : payload (listOf run device) ≡ blockCount (run .geometry) * run .geometry .blocksize
