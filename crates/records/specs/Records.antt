@@ -5,6 +5,7 @@ use mathlib.Core.List.{List, [], _∷_, _++_}
 use Prim.Native.Nat.{ℕ, zero, suc, _+_}
 use lib.ListN.{length, take, drop}
 use Rattle.endian.specs.Bytes.{beBytes}
+use Rattle.seqs.specs.Lists.{total}
 
 -- zeros from an offset on, so many; bytes from an offset on; flush
 pub data Record : Type 0 where
@@ -38,3 +39,33 @@ OneBlock bs FL = Unit {0}
 abbrev pub All : (Record → Type 0) → List Record → Type 0
 All q [] = Unit {0}
 All q (r ∷ rs) = q r × All q rs
+
+-- ---- how many records of each kind, and how many bytes stand in blocks: sums over a list
+
+-- a number for each kind: zeros, a block, a flush
+abbrev pub byKind : ℕ → ℕ → ℕ → Record → ℕ
+byKind z b f (WZ offset n) = z
+byKind z b f (WB offset bytes) = b
+byKind z b f FL = f
+
+-- the WZ of a list
+abbrev pub zeroings : List Record → ℕ
+zeroings rs = total (byKind 1 0 0) rs
+
+-- its WB
+abbrev pub blockWrites : List Record → ℕ
+blockWrites rs = total (byKind 0 1 0) rs
+
+-- its FL
+abbrev pub flushes : List Record → ℕ
+flushes rs = total (byKind 0 0 1) rs
+
+-- the bytes of a WB
+abbrev pub carried : Record → ℕ
+carried (WZ offset n) = 0
+carried (WB offset bytes) = length bytes
+carried FL = 0
+
+-- of all WB of a list
+abbrev pub payload : List Record → ℕ
+payload rs = total carried rs
