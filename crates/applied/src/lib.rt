@@ -1,7 +1,7 @@
 // The written records, read back: the head of each, how much of its bytes has been seen, and where the list ends. A list is read in
 // parts, so an answer also says that more bytes are needed.
 ghost use mathlib.Core.Path.{_≡_};
-ghost use Prim.Native.Nat.{_≤_};
+ghost use Prim.Native.Nat.{_+_, _≤_};
 ghost use Rattle.applied.specs.Records.{cut, refused, write, decodeDef, withinDef, bodyDef};
 ghost use Rattle.applied.specs.Flushes.{nextDef, endedDef};
 
@@ -144,7 +144,7 @@ pub fn within(at: u64, len: u64) -> bool
 
 // Of `len` bytes that a record still has, those among the `have` bytes that are here; `last` where the list ends with them.
 pub fn body(len: u64, have: usize, last: bool) -> Piece
-    ensures { λ r. ⌜ (r ≡ bodyDef last len have) × (r .here ≤ have) ⌝ }
+    ensures { λ r. ⌜ (r ≡ bodyDef last len have) × (r .here ≤ have) × (r .here + r .left ≤ len) ⌝ }
 {
     if len <= have as u64 {
         return Piece {
