@@ -171,19 +171,19 @@ pub fn body(len: u64, have: usize, last: bool) -> Piece
 pub fn next(flushes: u8, kind: u8) -> Passed
     ensures { λ r. ⌜ r ≡ nextDef flushes kind ⌝ }
 {
-    if FLUSHES <= flushes {
-        return Passed {
-            number: MALFORMED,
-            flushes: 0,
-        };
+    if flushes < FLUSHES {
+        if kind == FLUSH {
+            return Passed {
+                number: 0,
+                flushes: flushes + 1,
+            };
+        }
+        return Passed { number: 0, flushes };
     }
-    if kind == FLUSH {
-        return Passed {
-            number: 0,
-            flushes: flushes + 1,
-        };
+    Passed {
+        number: MALFORMED,
+        flushes: 0,
     }
-    Passed { number: 0, flushes }
 }
 
 // The end of the input, where `flushes` are past: 28 for a list that is cut.

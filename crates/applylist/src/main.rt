@@ -40,7 +40,8 @@ struct Progress {
     left: u64,
 }
 
-fn stopped(stop: u8, record: u64) -> Progress
+// No record in hand: before the first one, or where the list stopped.
+fn idle(stop: u8, record: u64) -> Progress
     ensures { λ r. ⌜ r .at + r .left ≤ largest ⌝ }
 {
     Progress {
@@ -68,14 +69,14 @@ fn begin(fd: i32, record: u64, flushes: u8) -> Progress
     let h = input::read_head();
     let d = h.head;
     if h.stop != GOES_ON {
-        return stopped(no_head(h.stop, flushes), record);
+        return idle(no_head(h.stop, flushes), record);
     }
     let passed = applied::next(flushes, d.kind);
     if passed.number != 0 {
-        return stopped(BEHIND, record);
+        return idle(BEHIND, record);
     }
     if !applied::within(d.at, d.len) {
-        return stopped(TOO_FAR, record);
+        return idle(TOO_FAR, record);
     }
     let stop = output::flush_where(fd, d.kind == applied::FLUSH);
     Progress {
@@ -120,7 +121,7 @@ fn put_bytes(fd: i32, p: Progress, buf: &mut [u8]) -> Progress
 {
     let i = input::read_piece(p.left, buf);
     if i.stop != GOES_ON {
-        return stopped(i.stop, p.record);
+        return idle(i.stop, p.record);
     }
     let stop = output::put_first(fd, buf, i.here, p.at);
     further(p, stop, i.here, i.left)
@@ -142,7 +143,7 @@ fn turn(fd: i32, p: Progress, zeros: &[u8], buf: &mut [u8]) -> Progress
 
 // All records. A proved loop has to end, so it counts its turns down from a number that no list uses up.
 fn apply(fd: i32, zeros: &[u8], buf: &mut [u8]) -> Progress {
-    let mut p = stopped(GOES_ON, 0);
+    let mut p = idle(GOES_ON, 0);
     let mut turns = u64::MAX;
     while 0 < turns && p.stop == GOES_ON {
         p = turn(fd, p, zeros, buf);
@@ -190,9 +191,8 @@ fn report(stop: u8, record: u64) {
 
 // A line that ends with the number of the last record that was applied.
 fn print_last(fd: i32, words: &[u8], p: Progress) -> bool {
-    io::write_all(fd, words);
-    io::print_decimal(fd, std::num::wrapping_sub_u64(p.record, 1));
-    io::write_all(fd, b"\n")
+    let n = std::num::wrapping_sub_u64(p.record, 1);
+    io::write_all(fd, words) && io::print_decimal(fd, n) && io::write_all(fd, b"\n")
 }
 
 // The list's last word: how many records it had, on standard output, once all are applied.

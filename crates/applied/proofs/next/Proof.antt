@@ -7,14 +7,14 @@ use Rattle.applied.proofs.next.Statement.{statement}
 use Rattle.applied.proofs.next.Tie as tie
 
 returns : tie.Need-returns
-returns c = none-behind _ _ (omega arith)
+returns c = one-more _ _ (omega arith) (c .if2 .taken)
 
 returns-2 : tie.Need-returns-2
-returns-2 c = one-more _ _ (omega arith) (c .if2 .taken)
+returns-2 c = as-many _ _ (omega arith) (c .if2 .left)
 
 returns-3 : tie.Need-returns-3
-returns-3 c = as-many _ _ (omega arith) (c .if2 .left)
+returns-3 c = none-behind _ _ (omega arith)
 
 pub next-spec : {M : Type 1} → statement M
 next-spec = tie.close (tie.spec
-    returns (λ c. search needs) returns-2 returns-3)
+    (λ c. search needs) returns returns-2 returns-3)
