@@ -1,13 +1,13 @@
--- The head of a record by its mark, and the part of its bytes that is here.
+-- The head of a record by its mark, where its write ends, and the part of its bytes that is here.
 -- Assumes nothing.
-use mathlib.Core.Path.{_≡_, refl}
+use mathlib.Core.Path.{_≡_, refl, sym}
 use mathlib.Core.Bool.{Bool, true, false}
 use mathlib.Core.List.{List}
-use Prim.Native.Nat.{ℕ, _-_, _≤_, _<_}
+use Prim.Native.Nat.{ℕ, _+_, _-_, _≤_, _<_}
 use lib.ListN.{length}
-use borrow.Author.Tests.{le-leb, lt-leb, ne-eqb}
+use borrow.Author.Tests.{leb-true, le-leb, lt-leb, ne-eqb}
 use Rattle.endian.specs.Bytes.{beAt}
-use Rattle.applied.specs.Records.{flushMark, zerosMark, bytesMark, flush, zeros, bytes, head, more, refused, cut, write, decodeDef, part, noBody, bodyDef}
+use Rattle.applied.specs.Records.{flushMark, zerosMark, bytesMark, flush, zeros, bytes, head, more, refused, cut, write, decodeDef, largest, withinDef, part, noBody, bodyDef}
 
 -- ---- too few bytes
 pub cut-more : (last : Bool) → last ≡ false → more ≡ cut last
@@ -45,6 +45,20 @@ module _ (last : Bool) (xs : List ℕ) where
     pub unknown-at : (m ≡ flushMark → ⊥) → (m ≡ zerosMark → ⊥) → (m ≡ bytesMark → ⊥) → refused ≡ decodeDef last xs
     unfolding decodeDef
     unknown-at a b c = rw (le-leb 2 (length xs) room, ← mark, ne-eqb m flushMark a, ne-eqb m zerosMark b, ne-eqb m bytesMark c) refl
+
+-- ---- where a write ends
+module _ (at len : ℕ) where
+  pub ends-within : at + len ≤ largest → true ≡ withinDef at len
+  unfolding withinDef
+  ends-within h = sym (le-leb (at + len) largest h)
+
+  pub ends-past : largest < at + len → false ≡ withinDef at len
+  unfolding withinDef
+  ends-past h = sym (lt-leb (at + len) largest h)
+
+  pub within-end : withinDef at len ≡ true → at + len ≤ largest
+  unfolding withinDef
+  within-end e = leb-true (at + len) largest e
 
 -- ---- the bytes behind a head
 module _ (last : Bool) (len have : ℕ) where

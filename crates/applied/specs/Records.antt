@@ -1,11 +1,12 @@
 -- A list of written records, read from its start: the head of a record, by its mark, and the bytes behind it.
 -- Assumes nothing.
 use mathlib.Core.List.{List, []}
-use mathlib.Core.Bool.{Bool, true, false}
-use Prim.Native.Nat.{ℕ, _-_, _^_, _<_}
+use mathlib.Core.Bool.{Bool}
+use Prim.Native.Nat.{ℕ, _+_, _-_, _^_, _<_}
 use lib.Dec.{leb, eqb}
 use lib.ListN.{length}
 use Rattle.endian.specs.Bytes.{beAt}
+use Rattle.seqs.specs.Lists.{choose}
 use Rattle.records.specs.Records.{Record, WZ, WB, FL}
 use Rattle.applied.specs.declared.Decoded.{Decoded}
 use Rattle.applied.specs.declared.Piece.{Piece}
@@ -45,10 +46,6 @@ more = head 0 0 0 0
 abbrev pub refused : Decoded
 refused = record { number = 28; kind = 0; at = 0; len = 0; size = 0 }
 
-abbrev pub choose : Bool → Decoded → Decoded → Decoded
-choose true r s = r
-choose false r s = s
-
 -- too few bytes for a head: malformed where the list ends with them
 abbrev pub cut : Bool → Decoded
 cut last = choose last refused more
@@ -68,6 +65,16 @@ byMark mark last xs =
 unfoldable pub decodeDef : Bool → List ℕ → Decoded
 decodeDef last xs = choose (leb 2 (length xs)) (byMark (beAt 2 0 xs) last xs) (cut last)
 
+-- ---- where a write ends
+
+-- the end of the largest file or device
+abbrev pub largest : ℕ
+largest = 0x7fff_ffff_ffff_ffff
+
+-- A write of `len` bytes at the offset `at` ends no later.
+unfoldable pub withinDef : ℕ → ℕ → Bool
+withinDef at len = leb (at + len) largest
+
 -- ---- the bytes behind a head
 
 -- `here` bytes of the record stand here, `left` are still to come
@@ -77,14 +84,10 @@ part here left = record { number = 0; here = here; left = left }
 abbrev pub noBody : Piece
 noBody = record { number = 28; here = 0; left = 0 }
 
-abbrev pub pick : Bool → Piece → Piece → Piece
-pick true r s = r
-pick false r s = s
-
 -- The `len` bytes that a record still has, where `have` bytes are here: all of them, or as many as there are; malformed where the list
 -- ends before they do.
 unfoldable pub bodyDef : Bool → ℕ → ℕ → Piece
-bodyDef last len have = pick (leb len have) (part len 0) (pick last noBody (part have (len - have)))
+bodyDef last len have = choose (leb len have) (part len 0) (choose last noBody (part have (len - have)))
 
 -- ---- as they are written
 

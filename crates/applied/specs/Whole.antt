@@ -1,25 +1,22 @@
 -- A whole list of written records, read one after the other.
 -- Assumes nothing.
 use mathlib.Core.List.{List, [], _∷_}
-use mathlib.Core.Bool.{Bool, true, false}
+use mathlib.Core.Bool.{true}
 use Prim.Native.Nat.{ℕ, zero, suc}
 use lib.Dec.{eqb}
 use lib.ListN.{take, drop}
+use Rattle.seqs.specs.Lists.{choose}
 use Rattle.records.specs.Records.{Record, WZ, WB, FL, All}
 use Rattle.applied.specs.declared.Decoded.{Decoded}
 use Rattle.applied.specs.Records.{flush, zeros, decodeDef, fits}
 
-abbrev pub either : {A : Type 0} → Bool → A → A → A
-either true a b = a
-either false a b = b
-
 -- the record with this head, whose bytes `xs` begins with
 unfoldable pub recordOf : Decoded → List ℕ → Record
-recordOf d xs = either (eqb (d .kind) flush) FL (either (eqb (d .kind) zeros) (WZ (d .at) (d .len)) (WB (d .at) (take (d .len) xs)))
+recordOf d xs = choose (eqb (d .kind) flush) FL (choose (eqb (d .kind) zeros) (WZ (d .at) (d .len)) (WB (d .at) (take (d .len) xs)))
 
 -- how many bytes behind its head are its own
 unfoldable pub own : Decoded → ℕ
-own d = either (eqb (d .kind) flush) 0 (either (eqb (d .kind) zeros) 0 (d .len))
+own d = choose (eqb (d .kind) flush) 0 (choose (eqb (d .kind) zeros) 0 (d .len))
 
 -- the first `n` records of a list, each read where the one before it ends
 unfoldable pub readAll : ℕ → List ℕ → List Record

@@ -1,8 +1,9 @@
-// The written records, read back: the head of each, and how much of its bytes has been seen. A list is read in parts, so an answer
-// also says that more bytes are needed.
+// The written records, read back: the head of each, how much of its bytes has been seen, and where the list ends. A list is read in
+// parts, so an answer also says that more bytes are needed.
 ghost use mathlib.Core.Path.{_≡_};
-ghost use Prim.Native.Nat.{_≤_};
-ghost use Rattle.applied.specs.Records.{cut, refused, write, decodeDef, bodyDef};
+ghost use Prim.Native.Nat.{_+_, _≤_};
+ghost use Rattle.applied.specs.Records.{cut, refused, write, decodeDef, withinDef, bodyDef};
+ghost use Rattle.applied.specs.Flushes.{nextDef, endedDef};
 
 // The refusal of malformed records.
 pub const MALFORMED: u32 = 28;
@@ -28,6 +29,12 @@ pub const MARK: usize = 2;
 
 pub const HEAD: usize = 18;
 
+// The end of the largest file or device: no offset is above it.
+const LARGEST: u64 = 0x7fff_ffff_ffff_ffff;
+
+// How many flushes a list has.
+const FLUSHES: u8 = 2;
+
 // A record's head: what it asks for, where on the device and how many bytes, and the head's own size. `number` is 0, or 28 beside zeros.
 pub struct Decoded {
     pub number: u32,
@@ -42,6 +49,12 @@ pub struct Piece {
     pub number: u32,
     pub here: usize,
     pub left: u64,
+}
+
+// How many flushes of a list are past. `number` is 0, or 28 beside 0.
+pub struct Passed {
+    pub number: u32,
+    pub flushes: u8,
 }
 
 fn malformed() -> Decoded
@@ -116,9 +129,22 @@ pub fn decode(bytes: &[u8], last: bool) -> Decoded
     malformed()
 }
 
+// Whether a write of `len` bytes at the offset `at` ends where a file can.
+pub fn within(at: u64, len: u64) -> bool
+    ensures { λ r. ⌜ r ≡ withinDef at len ⌝ }
+{
+    if LARGEST < at {
+        return false;
+    }
+    if LARGEST - at < len {
+        return false;
+    }
+    true
+}
+
 // Of `len` bytes that a record still has, those among the `have` bytes that are here; `last` where the list ends with them.
 pub fn body(len: u64, have: usize, last: bool) -> Piece
-    ensures { λ r. ⌜ (r ≡ bodyDef last len have) × (r .here ≤ have) ⌝ }
+    ensures { λ r. ⌜ (r ≡ bodyDef last len have) × (r .here ≤ have) × (r .here + r .left ≤ len) ⌝ }
 {
     if len <= have as u64 {
         return Piece {
@@ -139,4 +165,33 @@ pub fn body(len: u64, have: usize, last: bool) -> Piece
         here: have,
         left: len - have as u64,
     }
+}
+
+// One more record of a list of which `flushes` are past. None may stand behind the last flush.
+pub fn next(flushes: u8, kind: u8) -> Passed
+    ensures { λ r. ⌜ r ≡ nextDef flushes kind ⌝ }
+{
+    if flushes < FLUSHES {
+        if kind == FLUSH {
+            return Passed {
+                number: 0,
+                flushes: flushes + 1,
+            };
+        }
+        return Passed { number: 0, flushes };
+    }
+    Passed {
+        number: MALFORMED,
+        flushes: 0,
+    }
+}
+
+// The end of the input, where `flushes` are past: 28 for a list that is cut.
+pub fn ended(flushes: u8) -> u32
+    ensures { λ r. ⌜ r ≡ endedDef flushes ⌝ }
+{
+    if flushes == FLUSHES {
+        return 0;
+    }
+    MALFORMED
 }

@@ -1,5 +1,5 @@
 // The list, as it is read from standard input: a record's head, and pieces of its bytes.
-ghost use Prim.Native.Nat.{_≤_};
+ghost use Prim.Native.Nat.{_+_, _≤_};
 ghost use lib.ListN.{length};
 use crate::ENDED;
 use crate::GOES_ON;
@@ -105,17 +105,19 @@ fn read_into(buf: &mut [u8]) -> Head
 }
 
 pub(crate) fn read_head() -> Head {
-    let mut buf = [0u8; 18];
+    let mut buf = [0u8; HEAD];
     read_into(&mut buf)
 }
 
-// Reads the next piece of the `left` bytes that a record still has.
+// Reads the next piece of the `left` bytes that a record still has: as many as the buffer holds, and all of these or none. A block of a
+// run's list has at most 16,384, so it is one piece.
 pub(crate) fn read_piece(left: u64, buf: &mut [u8]) -> Bytes
-    ensures { λ r. ⌜ r .here ≤ length (now (buf .exit)) ⌝ }
+    ensures { λ r. ⌜ (r .here ≤ length (now (buf .exit))) × (r .here + r .left ≤ left) ⌝ }
 {
     let room = applied::body(left, buf.len(), false);
-    let i = read_more(0, room.here, buf);
-    let piece = applied::body(left, i.n, !i.more);
+    let want = room.here;
+    let i = fill(0, want, buf);
+    let piece = applied::body(left, i.n, i.n < want);
     if i.failed {
         return Bytes {
             stop: READ_FAILED,
