@@ -28,7 +28,15 @@ pub fn write_chunk(run: Run, device: u64, k: u64, work: &mut [u8], buf: &mut [u8
     if n != 0 {
         return n;
     }
-    let n = part_of(run.geometry, k);
+    let g = run.geometry;
+    let n = part_of(
+        g.features,
+        g.sectsize,
+        g.inodesize,
+        g.blocksize,
+        g.agcount,
+        k,
+    );
     make_part(run, k, &mut work[0..0 + n]);
     put_chunk(run, device, k, &work[0..0 + n], buf);
     0
