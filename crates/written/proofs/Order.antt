@@ -80,19 +80,19 @@ module _ (run : Run) (device : ℕ) (s : Sound run device) where
 
   -- ---- the bytes of the list
 
-  opening-bytes : length (listBytes (opening run device)) ≡ 3 * 18 + (18 + run .geometry .blocksize)
+  pub opening-bytes : length (listBytes (opening run device)) ≡ 3 * 18 + (18 + run .geometry .blocksize)
   unfolding opening
   opening-bytes = zeros-and-block _ _ _ _ _ _ _ _ ∙ ap (λ (n : ℕ). 3 * 18 + (18 + n)) (s .log-long)
 
-  head-bytes : (k : ℕ) → k < run .geometry .agcount → length (listBytes (headRecords run k)) ≡ headBlocks (run .geometry) * (18 + run .geometry .blocksize)
+  pub head-bytes : (k : ℕ) → k < run .geometry .agcount → length (listBytes (headRecords run k)) ≡ headBlocks (run .geometry) * (18 + run .geometry .blocksize)
   unfolding headRecords
   head-bytes k h = blocks-bytes (run .geometry .blocksize) _ _ _ (head-room k h)
 
-  chunk-bytes : length (listBytes (chunkRecords run)) ≡ chunkBlocks (run .geometry) * (18 + run .geometry .blocksize)
+  pub chunk-bytes : length (listBytes (chunkRecords run)) ≡ chunkBlocks (run .geometry) * (18 + run .geometry .blocksize)
   unfolding chunkRecords
   chunk-bytes = blocks-bytes (run .geometry .blocksize) _ _ _ chunk-room
 
-  header-bytes : length (listBytes (headerRecords run)) ≡ headerBlocks (run .geometry) * (18 + run .geometry .blocksize)
+  pub header-bytes : length (listBytes (headerRecords run)) ≡ headerBlocks (run .geometry) * (18 + run .geometry .blocksize)
   header-bytes = blocks-bytes (run .geometry .blocksize) _ _ _ header-room
 
   heads-bytes : (n : ℕ) → n ≤ run .geometry .agcount → length (listBytes (headsTo run n)) ≡ n * headBlocks (run .geometry) * (18 + run .geometry .blocksize)
