@@ -63,7 +63,8 @@ module _ (r : Request) (a : AcceptedRun r) where
   unfolding formatNumber
   format = sym (or-second _ _ 0 (run-plans r a) (sym (run-timely r a)))
 
-  there : (k : ℕ) → k < chunkCount run → placeNumber run k ≡ 0
+  -- chunk k is there, or not
+  pub there : (k : ℕ) → k < chunkCount run → placeNumber run k ≡ 0
   unfolding chunkCount
   there k h = sym (place-there run k format (omega arith))
 
@@ -89,12 +90,14 @@ module _ (r : Request) (a : AcceptedRun r) where
   unfolding partAnswer
   write-is k room h m = sym (write-fits run k _ room (there k h) (chunk-long run (r .device) (sound r a) k) (rw (there k h) at m))
 
-  left-is : (k room n : ℕ) (old left : List ℕ) → k < chunkCount run → largestHead ≤ room → length old ≡ lengthAnswer run k .value
+  accept-is : (k room : ℕ) → k < chunkCount run → largestHead ≤ room → writeNumber run k (length (sent run (r .device) k)) room ≡ 0
+  accept-is k room h m = let p = part-is k h .1 in write-is k room h (omega arith)
+
+  left-is : (k room n : ℕ) (old left : List ℕ) → k < chunkCount run → partAnswer run k .value ≤ room → length old ≡ lengthAnswer run k .value
       → Written (writeNumber run k (length old) room) (sent run (r .device) k) old n left → (n ≡ 0) × (left ≡ sent run (r .device) k)
   left-is k room n old left h m e w =
-      let p = part-is k h .1 in
       let l : length old ≡ length (sent run (r .device) k) = e ∙ ap (λ (c : Counted). c .value) (length-is k h) in
-      let z : writeNumber run k (length old) room ≡ 0 = rw l (write-is k room h (omega arith)) in
+      let z : writeNumber run k (length old) room ≡ 0 = rw l (write-is k room h m) in
       (w .number ∙ z, written-in w z)
 
   none-is : (k len room : ℕ) → chunkCount run ≤ k → (placeNumber run k ≡ noChunk) × (writeNumber run k len room ≡ noChunk)
@@ -119,7 +122,7 @@ module _ (r : Request) (a : AcceptedRun r) where
         counted = count-is;
         long = length-is;
         part = part-is;
-        accepts = write-is;
+        accepts = accept-is;
         leaves = left-is;
         none = none-is;
         whole = sent-whole run (r .device);

@@ -1,6 +1,5 @@
 // The list of a run's written records, chunk by chunk: zeros and the log, the head of each group, the root chunk, and the end with the
 // finished superblock. The Rust's format of format.rs.
-ghost use mathlib.Core.Path.{_≡_};
 ghost use lib.ListN.{length};
 ghost use Rattle.endian.specs.Bytes.{patch};
 ghost use Rattle.structs.specs.Written.{Written};

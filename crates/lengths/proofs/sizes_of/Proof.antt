@@ -2,7 +2,6 @@
 -- Assumes nothing.
 use mathlib.Core.Path.{refl}
 use borrow.Author.Needs.{needs}
-use Rattle.lengths.specs.Lengths.{sizesOf}
 use Rattle.lengths.proofs.sizes_of.Statement.{statement}
 use Rattle.lengths.proofs.sizes_of.Tie as tie
 
