@@ -9,7 +9,6 @@ use Rattle.arith.specs.Choice.{bit}
 use Rattle.arith.specs.Numbers.{ceilDiv}
 use Rattle.arith.proofs.Laws.{bit-le}
 use Rattle.params.specs.declared.Features.{Features}
-use Rattle.geometry.specs.declared.Geometry.{Geometry}
 use Rattle.logsize.specs.Log.{headerOf, preallocOf}
 use Rattle.layout.specs.Places.{chunkOf}
 use Rattle.lengths.specs.declared.Sizes.{Sizes}
@@ -60,14 +59,14 @@ pub record Fit (s : Sizes) : Type 0 where
   pub head : blocksLength (s .block) (s .head) < 2 ^ 63
   pub chunk : blocksLength (s .block) (s .chunk) < 2 ^ 63
 
-pub all-fit : (g : Geometry) → g .blocksize < 2 ^ 32 → g .sectsize < 2 ^ 32 → g .inodesize < 2 ^ 32 → Fit (sizesOf g)
-all-fit g k s i =
+pub all-fit : (f : Features) (sector inode bs : ℕ) → sector < 2 ^ 32 → inode < 2 ^ 32 → bs < 2 ^ 32 → Fit (sizesOf f sector inode bs)
+all-fit f sector inode bs s i k =
     record {
       block = k;
-      one = block-fits (g .blocksize) k;
-      header = header-fits (g .blocksize) k (g .sectsize) s;
-      head = head-fits (g .blocksize) k (g .features) (g .sectsize) s;
-      chunk = chunk-fits (g .blocksize) k (g .inodesize) i;
+      one = block-fits bs k;
+      header = header-fits bs k sector s;
+      head = head-fits bs k f sector s;
+      chunk = chunk-fits bs k inode i;
     }
 
 -- blocks without their heads

@@ -5,37 +5,34 @@ use Prim.Native.Nat.{ℕ, _+_, _*_, _-_, _<_, _≤_}
 use native.Mathlib.Omega.{arith}
 use borrow.Author.Tests.{eq-eqb, ne-eqb, le-leb, lt-leb}
 use Rattle.arith.specs.Choice.{when}
-use Rattle.geometry.specs.declared.Geometry.{Geometry}
-use Rattle.lengths.specs.Lengths.{sizesOf, blocksLength, chunkLength, partLength}
+use Rattle.lengths.specs.declared.Sizes.{Sizes}
+use Rattle.lengths.specs.Lengths.{flushSize, headSize, blocksLength, lengthOf, partOf}
 
-module _ (g : Geometry) (k : ℕ) where
-  abbrev bs : ℕ
-  bs = g .blocksize
-
-  pub opening-length : k ≡ 0 → chunkLength g k ≡ 3 * 18 + blocksLength bs 1
-  unfolding chunkLength when
+module _ (s : Sizes) (groups k : ℕ) where
+  pub opening-length : k ≡ 0 → lengthOf s groups k ≡ 3 * headSize + blocksLength (s .block) 1
+  unfolding lengthOf when
   opening-length e = rw (eq-eqb k 0 e) refl
 
-  pub group-length : (k ≡ 0 → ⊥) → k ≤ g .agcount → chunkLength g k ≡ blocksLength bs (sizesOf g .head)
-  unfolding chunkLength when
-  group-length n h = rw (ne-eqb k 0 n, le-leb k (g .agcount) h) refl
+  pub group-length : (k ≡ 0 → ⊥) → k ≤ groups → lengthOf s groups k ≡ blocksLength (s .block) (s .head)
+  unfolding lengthOf when
+  group-length n h = rw (ne-eqb k 0 n, le-leb k groups h) refl
 
-  pub root-length : g .agcount < k → k - 1 ≡ g .agcount → chunkLength g k ≡ blocksLength bs (sizesOf g .chunk)
-  unfolding chunkLength when
-  root-length h e = rw (ne-eqb k 0 (λ q. omega arith), lt-leb k (g .agcount) h, eq-eqb k (g .agcount + 1) (omega arith)) refl
+  pub root-length : groups < k → k - 1 ≡ groups → lengthOf s groups k ≡ blocksLength (s .block) (s .chunk)
+  unfolding lengthOf when
+  root-length h e = rw (ne-eqb k 0 (λ q. omega arith), lt-leb k groups h, eq-eqb k (groups + 1) (omega arith)) refl
 
-  pub closing-length : g .agcount < k → (k - 1 ≡ g .agcount → ⊥) → chunkLength g k ≡ 2 + blocksLength bs (sizesOf g .header) + 2
-  unfolding chunkLength when
-  closing-length h n = rw (ne-eqb k 0 (λ q. omega arith), lt-leb k (g .agcount) h, ne-eqb k (g .agcount + 1) (λ q. n (omega arith))) refl
+  pub closing-length : groups < k → (k - 1 ≡ groups → ⊥) → lengthOf s groups k ≡ flushSize + blocksLength (s .block) (s .header) + flushSize
+  unfolding lengthOf when
+  closing-length h n = rw (ne-eqb k 0 (λ q. omega arith), lt-leb k groups h, ne-eqb k (groups + 1) (λ q. n (omega arith))) refl
 
-  pub opening-size : k ≡ 0 → partLength g k ≡ bs
-  unfolding partLength when
+  pub opening-size : k ≡ 0 → partOf s groups k ≡ s .block
+  unfolding partOf when
   opening-size e = rw (eq-eqb k 0 e) refl
 
-  pub root-size : (k ≡ 0 → ⊥) → k - 1 ≡ g .agcount → partLength g k ≡ sizesOf g .chunk * bs
-  unfolding partLength when
-  root-size n e = rw (ne-eqb k 0 n, eq-eqb k (g .agcount + 1) (omega arith)) refl
+  pub root-size : (k ≡ 0 → ⊥) → k - 1 ≡ groups → partOf s groups k ≡ s .chunk * s .block
+  unfolding partOf when
+  root-size n e = rw (ne-eqb k 0 n, eq-eqb k (groups + 1) (omega arith)) refl
 
-  pub head-size : (k ≡ 0 → ⊥) → (k - 1 ≡ g .agcount → ⊥) → partLength g k ≡ sizesOf g .head * bs
-  unfolding partLength when
-  head-size n h = rw (ne-eqb k 0 n, ne-eqb k (g .agcount + 1) (λ q. h (omega arith))) refl
+  pub head-size : (k ≡ 0 → ⊥) → (k - 1 ≡ groups → ⊥) → partOf s groups k ≡ s .head * s .block
+  unfolding partOf when
+  head-size n h = rw (ne-eqb k 0 n, ne-eqb k (groups + 1) (λ q. h (omega arith))) refl

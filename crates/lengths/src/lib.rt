@@ -1,11 +1,14 @@
 // How many blocks the parts of a run have, and how many bytes each chunk of its list and the part that it is split from.
 ghost use mathlib.Core.Path.{_≡_};
 ghost use Prim.Native.Nat.{_<_, _^_};
-ghost use Rattle.lengths.specs.Lengths.{sizesOf, blocksLength, chunkLength, partLength};
+ghost use Rattle.lengths.specs.Lengths.{sizesOf, blocksLength, lengthOf, partOf};
 use counts::inodes::chunk_of;
-use geometry::Geometry;
 use logsize::header_of;
 use logsize::prealloc_of;
+use params::Features;
+
+// Bytes of a flush: its mark alone.
+pub const FLUSH_SIZE: usize = 2;
 
 // Bytes of a record before its block: mark, offset, length.
 pub const HEAD: usize = 18;
@@ -18,17 +21,15 @@ pub struct Sizes {
     pub chunk: usize,
 }
 
-// The sizes of a geometry.
-pub fn sizes_of(g: Geometry) -> Sizes
-    ensures { λ r. ⌜ r ≡ sizesOf g ⌝ }
+// The sizes of a disk with these features, sectors, inodes and blocks.
+pub fn sizes_of(f: Features, sector: u32, inode: u32, bs: u32) -> Sizes
+    ensures { λ r. ⌜ r ≡ sizesOf f sector inode bs ⌝ }
 {
-    let f = g.features;
-    let bs = g.blocksize as u64;
-    let header = header_of(g.sectsize, bs);
-    let head = prealloc_of(f, g.sectsize, bs);
-    let chunk = chunk_of(g.inodesize, bs);
+    let header = header_of(sector, bs as u64);
+    let head = prealloc_of(f, sector, bs as u64);
+    let chunk = chunk_of(inode, bs as u64);
     Sizes {
-        block: g.blocksize as usize,
+        block: bs as usize,
         header: header as usize,
         head: head as usize,
         chunk: chunk as usize,
@@ -43,32 +44,32 @@ fn blocks_length(bs: usize, n: usize) -> usize
     n * (HEAD + bs)
 }
 
-// Bytes of chunk k.
-pub fn length_of(g: Geometry, k: u64) -> usize
-    ensures { λ r. ⌜ r ≡ chunkLength g k ⌝ }
+// Bytes of chunk k of a disk of so many groups.
+pub fn length_of(f: Features, sector: u32, inode: u32, bs: u32, groups: u64, k: u64) -> usize
+    ensures { λ r. ⌜ r ≡ lengthOf (sizesOf f sector inode bs) groups k ⌝ }
 {
-    let s = sizes_of(g);
+    let s = sizes_of(f, sector, inode, bs);
     if k == 0 {
         return 3 * HEAD + blocks_length(s.block, 1);
     }
-    if k <= g.agcount {
+    if k <= groups {
         return blocks_length(s.block, s.head);
     }
-    if k - 1 == g.agcount {
+    if k - 1 == groups {
         return blocks_length(s.block, s.chunk);
     }
-    2 + blocks_length(s.block, s.header) + 2
+    FLUSH_SIZE + blocks_length(s.block, s.header) + FLUSH_SIZE
 }
 
 // Bytes of the part that chunk k is split from.
-pub fn part_of(g: Geometry, k: u64) -> usize
-    ensures { λ r. ⌜ r ≡ partLength g k ⌝ }
+pub fn part_of(f: Features, sector: u32, inode: u32, bs: u32, groups: u64, k: u64) -> usize
+    ensures { λ r. ⌜ r ≡ partOf (sizesOf f sector inode bs) groups k ⌝ }
 {
-    let s = sizes_of(g);
+    let s = sizes_of(f, sector, inode, bs);
     if k == 0 {
         return s.block;
     }
-    if k - 1 == g.agcount {
+    if k - 1 == groups {
         return s.chunk * s.block;
     }
     s.head * s.block

@@ -16,9 +16,8 @@ use Rattle.run.specs.declared.Run.{Run}
 use Rattle.run.specs.Runs.{timeRefusal}
 use Rattle.written.specs.Listing.{chunkCount}
 use Rattle.shared.proofs.Accepted.{or-second, or-zero}
-use Rattle.lengths.specs.Lengths.{chunkLength, partLength}
 use Rattle.listing.specs.declared.Counted.{Counted}
-use Rattle.listing.specs.Chunks.{formatNumber, placeNumber, writeNumber, counted}
+use Rattle.listing.specs.Chunks.{listedLength, partLength, formatNumber, placeNumber, writeNumber, counted}
 
 -- ---- the numbers of a run
 
@@ -38,13 +37,13 @@ module _ (run : Run) where
       let o = or-zero (formatNumber run) _ z in
       (o .0, below-at (run .geometry .agcount + 3) k (leb (run .geometry .agcount + 3) k) refl (o .1))
 
-  pub write-zero : (k len room : ℕ) → writeNumber run k len room ≡ 0 → (placeNumber run k ≡ 0) × (len ≡ chunkLength (run .geometry) k) × (partLength (run .geometry) k ≤ room)
+  pub write-zero : (k len room : ℕ) → writeNumber run k len room ≡ 0 → (placeNumber run k ≡ 0) × (len ≡ listedLength (run .geometry) k) × (partLength (run .geometry) k ≤ room)
   unfolding writeNumber
   write-zero k len room z =
       let o = or-zero (placeNumber run k) _ z in
-      let p = passed 27 (require 27 (leb (partLength (run .geometry) k) room) 0) (eqb len (chunkLength (run .geometry) k)) (omega arith) (o .1) in
+      let p = passed 27 (require 27 (leb (partLength (run .geometry) k) room) 0) (eqb len (listedLength (run .geometry) k)) (omega arith) (o .1) in
       let q = passed 27 0 (leb (partLength (run .geometry) k) room) (omega arith) (p .1) in
-      (o .0, eqb-true len (chunkLength (run .geometry) k) (p .0), leb-true (partLength (run .geometry) k) room (q .0))
+      (o .0, eqb-true len (listedLength (run .geometry) k) (p .0), leb-true (partLength (run .geometry) k) room (q .0))
 
   -- chunk k is there, or not
   pub place-there : (k : ℕ) → formatNumber run ≡ 0 → k - 2 ≤ run .geometry .agcount → 0 ≡ placeNumber run k
@@ -56,23 +55,23 @@ module _ (run : Run) where
   place-none k f h = or-second (formatNumber run) _ 29 f (rw (le-leb (run .geometry .agcount + 3) k (omega arith)) refl)
 
   -- the buffer is the chunk's and the work room is enough, or not
-  pub write-fits : (k len room : ℕ) → placeNumber run k ≡ 0 → len ≡ chunkLength (run .geometry) k → partLength (run .geometry) k ≤ room → 0 ≡ writeNumber run k len room
+  pub write-fits : (k len room : ℕ) → placeNumber run k ≡ 0 → len ≡ listedLength (run .geometry) k → partLength (run .geometry) k ≤ room → 0 ≡ writeNumber run k len room
   unfolding writeNumber
-  write-fits k len room z e h = or-second (placeNumber run k) _ 0 z (rw (eq-eqb len (chunkLength (run .geometry) k) e, le-leb (partLength (run .geometry) k) room h) refl)
+  write-fits k len room z e h = or-second (placeNumber run k) _ 0 z (rw (eq-eqb len (listedLength (run .geometry) k) e, le-leb (partLength (run .geometry) k) room h) refl)
 
-  pub write-other : (k len room : ℕ) → placeNumber run k ≡ 0 → (len ≡ chunkLength (run .geometry) k → ⊥) → 27 ≡ writeNumber run k len room
+  pub write-other : (k len room : ℕ) → placeNumber run k ≡ 0 → (len ≡ listedLength (run .geometry) k → ⊥) → 27 ≡ writeNumber run k len room
   unfolding writeNumber
-  write-other k len room z h = or-second (placeNumber run k) _ 27 z (rw (ne-eqb len (chunkLength (run .geometry) k) h) refl)
+  write-other k len room z h = or-second (placeNumber run k) _ 27 z (rw (ne-eqb len (listedLength (run .geometry) k) h) refl)
 
-  pub write-narrow : (k len room : ℕ) → placeNumber run k ≡ 0 → len ≡ chunkLength (run .geometry) k → room < partLength (run .geometry) k → 27 ≡ writeNumber run k len room
+  pub write-narrow : (k len room : ℕ) → placeNumber run k ≡ 0 → len ≡ listedLength (run .geometry) k → room < partLength (run .geometry) k → 27 ≡ writeNumber run k len room
   unfolding writeNumber
-  write-narrow k len room z e h = or-second (placeNumber run k) _ 27 z (rw (eq-eqb len (chunkLength (run .geometry) k) e, lt-leb (partLength (run .geometry) k) room h) refl)
+  write-narrow k len room z e h = or-second (placeNumber run k) _ 27 z (rw (eq-eqb len (listedLength (run .geometry) k) e, lt-leb (partLength (run .geometry) k) room h) refl)
 
 -- what a chunk's buffer and its work room say
 pub record Filling (run : Run) (k len room : ℕ) : Type 0 where
   pub format : formatNumber run ≡ 0
   pub there : k < run .geometry .agcount + 3
-  pub long : len ≡ chunkLength (run .geometry) k
+  pub long : len ≡ listedLength (run .geometry) k
   pub roomy : partLength (run .geometry) k ≤ room
 
 pub filling : (run : Run) (k len room : ℕ) → writeNumber run k len room ≡ 0 → Filling run k len room

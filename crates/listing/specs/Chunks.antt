@@ -7,12 +7,28 @@ use Rattle.arith.specs.Choice.{when}
 use Rattle.endian.specs.Answer.{wrongLength}
 use Rattle.structs.specs.Written.{require}
 use Rattle.seqs.specs.Lists.{choose}
+use Rattle.geometry.specs.declared.Geometry.{Geometry}
 use Rattle.totals.specs.Totals.{plansNumber}
 use Rattle.run.specs.declared.Run.{Run}
 use Rattle.run.specs.Runs.{orNext, timeRefusal}
 use Rattle.written.specs.Listing.{chunkCount}
-use Rattle.lengths.specs.Lengths.{chunkLength, partLength}
+use Rattle.lengths.specs.declared.Sizes.{Sizes}
+use Rattle.lengths.specs.Lengths.{sizesOf, lengthOf, partOf}
 use Rattle.listing.specs.declared.Counted.{Counted}
+
+-- ---- lengths
+
+-- the sizes of a geometry
+abbrev pub sizesIn : Geometry → Sizes
+sizesIn g = sizesOf (g .features) (g .sectsize) (g .inodesize) (g .blocksize)
+
+-- bytes of chunk k
+abbrev pub listedLength : Geometry → ℕ → ℕ
+listedLength g k = lengthOf (sizesIn g) (g .agcount) k
+
+-- bytes of the part that it is split from
+abbrev pub partLength : Geometry → ℕ → ℕ
+partLength g k = partOf (sizesIn g) (g .agcount) k
 
 -- ---- numbers
 
@@ -32,7 +48,7 @@ placeNumber run k = orNext (formatNumber run) (when (leb (chunkCount run) k) noC
 -- has none
 unfoldable pub writeNumber : Run → ℕ → ℕ → ℕ → ℕ
 writeNumber run k len room =
-    orNext (placeNumber run k) (require wrongLength (eqb len (chunkLength (run .geometry) k)) (require wrongLength (leb (partLength (run .geometry) k) room) 0))
+    orNext (placeNumber run k) (require wrongLength (eqb len (listedLength (run .geometry) k)) (require wrongLength (leb (partLength (run .geometry) k) room) 0))
 
 -- the count where the number is 0, else the refusal
 abbrev pub counted : ℕ → ℕ → Counted
@@ -43,7 +59,7 @@ unfoldable pub countAnswer : Run → Counted
 countAnswer run = counted (formatNumber run) (chunkCount run)
 
 unfoldable pub lengthAnswer : Run → ℕ → Counted
-lengthAnswer run k = counted (placeNumber run k) (chunkLength (run .geometry) k)
+lengthAnswer run k = counted (placeNumber run k) (listedLength (run .geometry) k)
 
 unfoldable pub partAnswer : Run → ℕ → Counted
 partAnswer run k = counted (placeNumber run k) (partLength (run .geometry) k)

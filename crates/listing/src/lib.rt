@@ -1,7 +1,8 @@
 // How many chunks the list of a run has, how long each is, and which number refuses one.
 ghost use mathlib.Core.Path.{_≡_};
-ghost use Rattle.listing.specs.Chunks.{formatNumber, placeNumber, writeNumber, countAnswer, lengthAnswer, partAnswer};
+ghost use Rattle.listing.specs.Chunks.{listedLength, partLength, formatNumber, placeNumber, writeNumber, countAnswer, lengthAnswer, partAnswer};
 use arith::numbers::minus;
+use geometry::Geometry;
 use lengths::length_of;
 use lengths::part_of;
 use run::Run;
@@ -15,6 +16,34 @@ pub const NO_CHUNK: u32 = 29;
 pub struct Counted {
     pub number: u32,
     pub value: u64,
+}
+
+// Bytes of chunk k.
+fn listed_length(g: Geometry, k: u64) -> usize
+    ensures { λ r. ⌜ r ≡ listedLength g k ⌝ }
+{
+    length_of(
+        g.features,
+        g.sectsize,
+        g.inodesize,
+        g.blocksize,
+        g.agcount,
+        k,
+    )
+}
+
+// Bytes of the part that it is split from.
+fn listed_part(g: Geometry, k: u64) -> usize
+    ensures { λ r. ⌜ r ≡ partLength g k ⌝ }
+{
+    part_of(
+        g.features,
+        g.sectsize,
+        g.inodesize,
+        g.blocksize,
+        g.agcount,
+        k,
+    )
 }
 
 // 31, 25, 26, or 0.
@@ -56,10 +85,10 @@ pub fn write_number(run: Run, k: u64, len: usize, room: usize) -> u32
         return n;
     }
     let g = run.geometry;
-    if len != length_of(g, k) {
+    if len != listed_length(g, k) {
         return endian::WRONG_LENGTH;
     }
-    if part_of(g, k) <= room {
+    if listed_part(g, k) <= room {
         return 0;
     }
     endian::WRONG_LENGTH
@@ -92,7 +121,7 @@ pub fn chunk_length(run: Run, k: u64) -> Counted
     if n != 0 {
         return refused(n);
     }
-    let value = length_of(run.geometry, k) as u64;
+    let value = listed_length(run.geometry, k) as u64;
     Counted { number: 0, value }
 }
 
@@ -104,6 +133,6 @@ pub fn part_length(run: Run, k: u64) -> Counted
     if n != 0 {
         return refused(n);
     }
-    let value = part_of(run.geometry, k) as u64;
+    let value = listed_part(run.geometry, k) as u64;
     Counted { number: 0, value }
 }

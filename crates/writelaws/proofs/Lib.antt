@@ -1,1 +1,4 @@
 pub mod Long
+pub mod Room
+pub mod Whole
+pub mod Lent

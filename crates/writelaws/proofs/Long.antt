@@ -21,7 +21,7 @@ use Rattle.run.specs.declared.Run.{Run}
 use Rattle.written.specs.Listing.{headBlocks, headerBlocks, chunkBlocks, headWritten, headFinished, opening, headRecords, chunkRecords, headerRecords, closing, listChunk}
 use Rattle.written.specs.Sound.{Sound}
 use Rattle.written.proofs.Counts.{opening-total, closing-total}
-use Rattle.lengths.specs.Lengths.{blocksLength, chunkLength}
+use Rattle.lengths.specs.Lengths.{blocksLength, lengthOf}
 use Rattle.writelaws.specs.Long.{Long}
 use Rattle.writes.proofs.Splitting.{blocks-length}
 
@@ -65,5 +65,5 @@ module _ (run : Run) (device : ℕ) (s : Sound run device) where
 
   -- EACH CHUNK HAS ITS LENGTH
   pub chunk-long : (k : ℕ) → Long run device k
-  unfolding listChunk chunkLength
+  unfolding listChunk lengthOf
   chunk-long k = long-at k (eqb k 0) (leb k groups) (eqb k (groups + 1)) refl refl

@@ -1,1 +1,3 @@
 pub mod Long
+pub mod Whole
+pub mod Room

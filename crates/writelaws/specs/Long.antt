@@ -6,8 +6,8 @@ use lib.ListN.{length}
 use Rattle.records.specs.Records.{listBytes}
 use Rattle.run.specs.declared.Run.{Run}
 use Rattle.written.specs.Listing.{listChunk}
-use Rattle.lengths.specs.Lengths.{chunkLength}
+use Rattle.listing.specs.Chunks.{listedLength}
 
 -- the bytes of chunk k's records, one after the other, are as many as its length
 abbrev pub Long : Run → ℕ → ℕ → Type 0
-Long run device k = length (listBytes (listChunk run device k)) ≡ chunkLength (run .geometry) k
+Long run device k = length (listBytes (listChunk run device k)) ≡ listedLength (run .geometry) k

@@ -1,1 +1,1 @@
-// How long the chunks of a run's list are. No functions: see specs/ and proofs/.
+// That what is written for an accepted run, chunk by chunk, and read again is the run's list. No functions: see specs/ and proofs/.

@@ -117,7 +117,8 @@ fn write_most(run: Run, device: u64) -> bool {
     write_list(run, device, &mut work, &mut buf)
 }
 
-// Whether little room is enough: the first head and the root chunk, which is the chunk before the last, are the longest.
+// Whether little room is enough: the first head and the root chunk, which is the chunk before the last, are the longest (`room-enough` of
+// writelaws).
 fn needs_few(run: Run) -> bool {
     let count = listing::chunk_count(run);
     let head = listing::chunk_length(run, 1);

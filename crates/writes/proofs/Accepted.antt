@@ -8,7 +8,6 @@ use native.Mathlib.Omega.{arith}
 use native.Mathlib.Nat.{mul-le-mul, mul-le-mul-right}
 use borrow.Author.Tests.{le-leb}
 use lib.ListN.{length}
-use lib.Pow.{pow-mono}
 use Rattle.structs.specs.Written.{Written}
 use Rattle.structs.proofs.Written.{passed, written-in}
 use Rattle.params.specs.declared.Timestamp.{Timestamp}
@@ -19,8 +18,7 @@ use Rattle.layout.proofs.Inside.{blocks-least, fitting}
 use Rattle.places.specs.Answers.{rootChunk}
 use Rattle.totals.specs.Totals.{plansNumber}
 use Rattle.rootchunk.specs.Chunk.{chunkNumber, chunkBytes, ChunkMade}
-use Rattle.rootchunk.specs.Chunk as chunk
-use Rattle.rootchunk.proofs.Chunks.{a-place, first-group, whole-chunk, chunk-in}
+use Rattle.rootchunk.proofs.Chunks.{a-place, first-group, chunk-in}
 use Rattle.run.specs.Runs.{timeRefusal}
 use Rattle.head.specs.Head.{headLength}
 use Rattle.written.specs.Listing.{headBlocks, chunkBlocks, logBlock, headWritten, headFinished, headLeft}
@@ -85,18 +83,3 @@ module _ (g : Geometry) (z : Bounds g) where
   group-blocks k b n h few =
       let r = group-room k (b + n) h few .1 in
       omega arith
-
--- the room that its largest head and root chunk need
-pub work-room : (n bs : ℕ) → n ≤ 10 → bs ≤ 16384 → n * bs ≤ 163840
-work-room n bs h b = mul-le-mul h b
-
-root-bytes : (g : Geometry) → chunk.chunkLength g ≡ 64 * g .inodesize → g .inodesize ≤ 2048 → chunkBlocks g * g .blocksize ≤ 163840
-unfolding chunk.chunkLength
-root-bytes g e h = omega (arith, e)
-
-pub root-work : (g : Geometry) → Bounds g → chunkBlocks g * g .blocksize ≤ 163840
-root-work g z =
-    let e : chunk.chunkLength g ≡ 64 * g .inodesize = whole-chunk g z in
-    let p : 2 ^ g .inodelog ≤ 2 ^ 11 = pow-mono {j = 11} (z .sizes .inode-most) in
-    let i = z .sizes .inode-power in
-    root-bytes g e (omega arith)

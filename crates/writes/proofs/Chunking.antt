@@ -18,8 +18,9 @@ use Rattle.places.specs.Answers.{rootChunk}
 use Rattle.records.specs.Records.{Record, WZ, WB, FL, recordBytes, listBytes, blocks}
 use Rattle.run.specs.declared.Run.{Run}
 use Rattle.written.specs.Listing.{blocksEnd, tailStart, logOffset, logBlock, headBlocks, headerBlocks, chunkBlocks, headFinished, opening, headRecords, chunkRecords, closing, listChunk}
-use Rattle.lengths.specs.Lengths.{blocksLength, chunkLength, partLength}
+use Rattle.lengths.specs.Lengths.{blocksLength}
 use Rattle.lengths.proofs.Which.{group-length, root-length, head-size, root-size}
+use Rattle.listing.specs.Chunks.{sizesIn, listedLength, partLength}
 use Rattle.writes.specs.Writing.{partBytes, recordHead, zeroHeads}
 use Rattle.shared.proofs.Accepted.{size-least, size-most}
 use Rattle.writes.proofs.Which.{opening-chunk, group-chunk, root-chunk, closing-chunk, opening-part, group-part, root-part, closing-part}
@@ -96,24 +97,24 @@ blocks-done bs offset n src xs ys h l e = e ∙ patch-whole (listBytes (blocks b
 
 module _ (run : Run) (device : ℕ) where
   pub group-done : (bs at n k : ℕ) (src xs ys : List ℕ) → (k ≡ 0 → ⊥) → k ≤ run .geometry .agcount → bs ≡ run .geometry .blocksize → n ≡ headBlocks (run .geometry) → at ≡ byteOf bs (run .geometry .agsize) (k - 1) 0
-      → src ≡ partBytes run k → length src ≡ partLength (run .geometry) k → length xs ≡ chunkLength (run .geometry) k
+      → src ≡ partBytes run k → length src ≡ partLength (run .geometry) k → length xs ≡ listedLength (run .geometry) k
       → ys ≡ patch 0 (listBytes (blocks bs at n src)) xs → ys ≡ listBytes (listChunk run device k)
   unfolding headRecords
   group-done bs at n k src xs ys z h b m a s l lx e =
       let g = run .geometry in
-      let ls : length src ≡ headBlocks g * g .blocksize = l ∙ head-size g k z (λ q. z (omega arith)) in
-      blocks-done bs at n src xs ys (rw (m, b) (omega arith)) (rw (m, b) (lx ∙ group-length g k z h)) e
+      let ls : length src ≡ headBlocks g * g .blocksize = l ∙ head-size (sizesIn g) (g .agcount) k z (λ q. z (omega arith)) in
+      blocks-done bs at n src xs ys (rw (m, b) (omega arith)) (rw (m, b) (lx ∙ group-length (sizesIn g) (g .agcount) k z h)) e
       ∙ rw (a, s, group-part run k z h, m, b) refl
       ∙ ap (λ (r : List Record). listBytes r) (sym (group-chunk run device k z h))
 
   pub root-done : (bs at block n k : ℕ) (src xs ys : List ℕ) → run .geometry .agcount < k → k - 1 ≡ run .geometry .agcount → bs ≡ run .geometry .blocksize → n ≡ chunkBlocks (run .geometry) → block ≡ rootChunk (run .geometry)
-      → at ≡ byteOf bs (run .geometry .agsize) 0 block → src ≡ partBytes run k → length src ≡ partLength (run .geometry) k → length xs ≡ chunkLength (run .geometry) k
+      → at ≡ byteOf bs (run .geometry .agsize) 0 block → src ≡ partBytes run k → length src ≡ partLength (run .geometry) k → length xs ≡ listedLength (run .geometry) k
       → ys ≡ patch 0 (listBytes (blocks bs at n src)) xs → ys ≡ listBytes (listChunk run device k)
   unfolding chunkRecords
   root-done bs at block n k src xs ys z h b m r a s l lx e =
       let g = run .geometry in
-      let ls : length src ≡ chunkBlocks g * g .blocksize = l ∙ root-size g k (λ q. omega arith) h in
-      blocks-done bs at n src xs ys (rw (m, b) (omega arith)) (rw (m, b) (lx ∙ root-length g k z h)) e
+      let ls : length src ≡ chunkBlocks g * g .blocksize = l ∙ root-size (sizesIn g) (g .agcount) k (λ q. omega arith) h in
+      blocks-done bs at n src xs ys (rw (m, b) (omega arith)) (rw (m, b) (lx ∙ root-length (sizesIn g) (g .agcount) k z h)) e
       ∙ rw (a, s, root-part run k z h, r, m, b) refl
       ∙ ap (λ (r : List Record). listBytes r) (sym (root-chunk run device k z h))
 

@@ -7,8 +7,8 @@ ghost use Rattle.endian.specs.Bytes.{patch};
 ghost use Rattle.layout.specs.Places.{byteOf};
 ghost use Rattle.records.specs.Records.{WB, FL, recordBytes, listBytes, blocks};
 ghost use Rattle.written.specs.Listing.{listChunk};
-ghost use Rattle.lengths.specs.Lengths.{blocksLength, chunkLength, partLength};
-ghost use Rattle.listing.specs.Chunks.{formatNumber};
+ghost use Rattle.lengths.specs.Lengths.{flushSize, headSize, blocksLength};
+ghost use Rattle.listing.specs.Chunks.{listedLength, partLength, formatNumber};
 ghost use Rattle.writes.specs.Writing.{partBytes, zeroHeads};
 use crate::split::FLUSH;
 use crate::split::ZEROS;
@@ -19,6 +19,8 @@ use arith::numbers::min_u64;
 use arith::numbers::minus;
 use arith::numbers::round_down;
 use counts::inodes::root_chunk_of;
+use lengths::FLUSH_SIZE;
+use lengths::HEAD;
 use lengths::sizes_of;
 use run::Run;
 
@@ -35,43 +37,43 @@ fn byte_of(bs: usize, agsize: u64, k: u64, b: u64) -> u64
 
 // The heads of the three records of zeros: at the start and the end of the device, and over the log.
 fn put_zeros(bs: usize, device: u64, log: u64, n: u64, buf: &mut [u8])
-    requires { ⌜ 54 ≤ length (now buf) ⌝ }
+    requires { ⌜ 3 * headSize ≤ length (now buf) ⌝ }
     ensures { λ _. ⌜ now (buf .exit) ≡ patch 0 (zeroHeads bs device log n) (now (buf .entry)) ⌝ }
 {
     let end = round_down(device, bs as u64);
     let tail = round_down(minus(end, WHACK_SIZE), bs as u64);
-    put_head(ZEROS, log, n, 36, buf);
-    put_head(ZEROS, tail, minus(end, tail), 18, buf);
+    put_head(ZEROS, log, n, 2 * HEAD, buf);
+    put_head(ZEROS, tail, minus(end, tail), HEAD, buf);
     put_head(ZEROS, 0, min_u64(WHACK_SIZE, end), 0, buf);
 }
 
 // Zeros at the start and the end of the device and over the log, n bytes at `at`, and the log's first block.
 fn put_opening(bs: usize, device: u64, at: u64, n: u64, part: &[u8], buf: &mut [u8])
-    requires { ⌜ length (now buf) ≡ 54 + (18 + length (now part)) ⌝ }
+    requires { ⌜ length (now buf) ≡ 3 * headSize + (headSize + length (now part)) ⌝ }
     ensures { λ _. ⌜ now (buf .exit) ≡ zeroHeads bs device at n ++ recordBytes (WB at (now (part .entry))) ⌝ }
 {
-    put_block(at, part, 54, buf);
+    put_block(at, part, 3 * HEAD, buf);
     put_zeros(bs, device, at, n, buf);
 }
 
 // A flush, the first n blocks of the disk, and a flush; the last is written first.
 fn put_closing(bs: usize, n: usize, part: &[u8], buf: &mut [u8])
-    requires { ⌜ (0 < bs) × (n * bs ≤ 2 ^ 64) × (n * bs ≤ length (now part)) × (length (now buf) ≡ 2 + blocksLength bs n + 2) ⌝ }
+    requires { ⌜ (0 < bs) × (n * bs ≤ 2 ^ 64) × (n * bs ≤ length (now part)) × (length (now buf) ≡ flushSize + blocksLength bs n + flushSize) ⌝ }
     ensures { λ _. ⌜ now (buf .exit) ≡ recordBytes FL ++ (listBytes (blocks bs 0 n (now (part .entry))) ++ recordBytes FL) ⌝ }
 {
-    let end = buf.len() - 2;
+    let end = buf.len() - FLUSH_SIZE;
     endian::put16(buf, end, FLUSH);
-    put_blocks(bs, 0, n, part, 2, buf);
+    put_blocks(bs, 0, n, part, FLUSH_SIZE, buf);
     endian::put16(buf, 0, FLUSH);
 }
 
 // The records of chunk k, from its part.
 pub(crate) fn put_chunk(run: Run, device: u64, k: u64, part: &[u8], buf: &mut [u8])
-    requires { ⌜ (formatNumber run ≡ 0) × (k < run .geometry .agcount + 3) × (now part ≡ partBytes run k) × (length (now part) ≡ partLength (run .geometry) k) × (length (now buf) ≡ chunkLength (run .geometry) k) ⌝ }
+    requires { ⌜ (formatNumber run ≡ 0) × (k < run .geometry .agcount + 3) × (now part ≡ partBytes run k) × (length (now part) ≡ partLength (run .geometry) k) × (length (now buf) ≡ listedLength (run .geometry) k) ⌝ }
     ensures { λ _. ⌜ now (buf .exit) ≡ listBytes (listChunk run device k) ⌝ }
 {
     let g = run.geometry;
-    let s = sizes_of(g);
+    let s = sizes_of(g.features, g.sectsize, g.inodesize, g.blocksize);
     if k == 0 {
         let at = byte_of(s.block, g.agsize, g.logagno, g.log_agbno);
         put_opening(

@@ -1,6 +1,5 @@
 // The list of a run's written records, chunk by chunk: zeros and the log, the head of each group, the root chunk, and the end with the
 // finished superblock. The Rust's format of format.rs.
-ghost use mathlib.Core.Path.{_≡_};
 ghost use lib.ListN.{length};
 ghost use Rattle.endian.specs.Bytes.{patch};
 ghost use Rattle.structs.specs.Written.{Written};
@@ -28,7 +27,15 @@ pub fn write_chunk(run: Run, device: u64, k: u64, work: &mut [u8], buf: &mut [u8
     if n != 0 {
         return n;
     }
-    let n = part_of(run.geometry, k);
+    let g = run.geometry;
+    let n = part_of(
+        g.features,
+        g.sectsize,
+        g.inodesize,
+        g.blocksize,
+        g.agcount,
+        k,
+    );
     make_part(run, k, &mut work[0..0 + n]);
     put_chunk(run, device, k, &work[0..0 + n], buf);
     0

@@ -4,6 +4,7 @@ ghost use Prim.Native.Nat.{_+_, _*_, _<_, _≤_, _^_};
 ghost use lib.ListN.{length, take, drop};
 ghost use Rattle.endian.specs.Bytes.{patch};
 ghost use Rattle.records.specs.Records.{WB, recordBytes, listBytes, blocks as blocks·of};
+ghost use Rattle.lengths.specs.Lengths.{headSize};
 ghost use Rattle.writes.specs.Writing.{recordHead};
 use lengths::HEAD;
 
@@ -16,7 +17,7 @@ pub const FLUSH: u16 = 0x464c;
 
 // Mark, offset and length; the last is written first.
 pub(crate) fn put_head(mark: u16, offset: u64, n: u64, at: usize, buf: &mut [u8])
-    requires { ⌜ at + 18 ≤ length (now buf) ⌝ }
+    requires { ⌜ at + headSize ≤ length (now buf) ⌝ }
     ensures { λ _. ⌜ now (buf .exit) ≡ patch at (recordHead mark offset n) (now (buf .entry)) ⌝ }
 {
     endian::put64(buf, at + 10, n);
@@ -38,7 +39,7 @@ fn copy(src: &[u8], at: usize, buf: &mut [u8])
 
 // A block with its head.
 pub(crate) fn put_block(offset: u64, src: &[u8], at: usize, buf: &mut [u8])
-    requires { ⌜ at + (18 + length (now src)) ≤ length (now buf) ⌝ }
+    requires { ⌜ at + (headSize + length (now src)) ≤ length (now buf) ⌝ }
     ensures { λ _. ⌜ now (buf .exit) ≡ patch at (recordBytes (WB offset (now (src .entry)))) (now (buf .entry)) ⌝ }
 {
     copy(src, at + HEAD, buf);
@@ -47,8 +48,8 @@ pub(crate) fn put_block(offset: u64, src: &[u8], at: usize, buf: &mut [u8])
 
 // Block j of a write at `offset`, as the j-th record from `at` on.
 fn put_nth(bs: usize, offset: u64, src: &[u8], j: usize, at: usize, buf: &mut [u8])
-    requires { ⌜ (offset + j * bs < 2 ^ 64) × (j * bs + bs ≤ length (now src)) × (at + (j * (18 + bs) + (18 + bs)) ≤ length (now buf)) ⌝ }
-    ensures { λ _. ⌜ now (buf .exit) ≡ patch (at + j * (18 + bs)) (recordBytes (WB (offset + j * bs) (take bs (drop (j * bs) (now (src .entry)))))) (now (buf .entry)) ⌝ }
+    requires { ⌜ (offset + j * bs < 2 ^ 64) × (j * bs + bs ≤ length (now src)) × (at + (j * (headSize + bs) + (headSize + bs)) ≤ length (now buf)) ⌝ }
+    ensures { λ _. ⌜ now (buf .exit) ≡ patch (at + j * (headSize + bs)) (recordBytes (WB (offset + j * bs) (take bs (drop (j * bs) (now (src .entry)))))) (now (buf .entry)) ⌝ }
 {
     let from = j * bs;
     put_block(
@@ -61,7 +62,7 @@ fn put_nth(bs: usize, offset: u64, src: &[u8], j: usize, at: usize, buf: &mut [u
 
 // The n blocks of a write at `offset`, from `at` on.
 pub(crate) fn put_blocks(bs: usize, offset: u64, n: usize, src: &[u8], at: usize, buf: &mut [u8])
-    requires { ⌜ (offset + n * bs ≤ 2 ^ 64) × (0 < bs) × (n * bs ≤ length (now src)) × (at + n * (18 + bs) ≤ length (now buf)) ⌝ }
+    requires { ⌜ (offset + n * bs ≤ 2 ^ 64) × (0 < bs) × (n * bs ≤ length (now src)) × (at + n * (headSize + bs) ≤ length (now buf)) ⌝ }
     ensures { λ _. ⌜ now (buf .exit) ≡ patch at (listBytes (blocks·of bs offset n (now (src .entry)))) (now (buf .entry)) ⌝ }
 {
     let mut j = 0;

@@ -13,7 +13,7 @@ use Rattle.listing.proofs.chunk_count.Statement.{statement}
 use Rattle.listing.proofs.chunk_count.Tie as tie
 
 label : (s : tie.Start) → length (s .args .run .geometry .label) ≡ 12
-label s = search (needs, s .good .0 .1 .1 .1 .0 .0 .1 .1 .1 .1 .1 .1 .1 .1 .1 .1 .1 .1 .1 .1 .1 .1)
+label s = search needs
 
 returns : tie.Need-returns
 unfolding countAnswer

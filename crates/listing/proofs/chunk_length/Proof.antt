@@ -1,8 +1,7 @@
 -- `listing::chunk_length` meets its contract.
 -- Assumes nothing.
 use Rattle.listing.proofs.Numbers.{count-refused, count-given}
-use Rattle.lengths.specs.Lengths.{chunkLength}
-use Rattle.listing.specs.Chunks.{lengthAnswer, counted}
+use Rattle.listing.specs.Chunks.{listedLength, lengthAnswer, counted}
 use Prim.Native.Nat.{ℕ}
 use mathlib.Core.Path.{ap, _∙_}
 use borrow.Author.Needs.{needs}
@@ -14,11 +13,11 @@ unfolding lengthAnswer
 returns c =
     let s = c .before .before .before in
     let e = c .before .before .place-number .ensures in
-    count-refused _ _ _ (c .before .if1 .taken) (c .refused .ensures) ∙ ap (λ (n : ℕ). counted n (chunkLength (s .args .run .geometry) (s .args .k))) e
+    count-refused _ _ _ (c .before .if1 .taken) (c .refused .ensures) ∙ ap (λ (n : ℕ). counted n (listedLength (s .args .run .geometry) (s .args .k))) e
 
 returns-2 : tie.Need-returns-2
 unfolding lengthAnswer
-returns-2 c = count-given _ _ _ _ (c .before .before .place-number .ensures) (c .before .if1 .left) (c .length-of .ensures)
+returns-2 c = count-given _ _ _ _ (c .before .before .place-number .ensures) (c .before .if1 .left) (c .listed-length .ensures)
 
 pub chunk-length-spec : {M : Type 1} → statement M
 chunk-length-spec =

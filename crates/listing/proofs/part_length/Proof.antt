@@ -1,8 +1,7 @@
 -- `listing::part_length` meets its contract.
 -- Assumes nothing.
 use Rattle.listing.proofs.Numbers.{count-refused, count-given}
-use Rattle.lengths.specs.Lengths.{partLength}
-use Rattle.listing.specs.Chunks.{partAnswer, counted}
+use Rattle.listing.specs.Chunks.{partLength, partAnswer, counted}
 use Prim.Native.Nat.{ℕ}
 use mathlib.Core.Path.{ap, _∙_}
 use borrow.Author.Needs.{needs}
@@ -18,7 +17,7 @@ returns c =
 
 returns-2 : tie.Need-returns-2
 unfolding partAnswer
-returns-2 c = count-given _ _ _ _ (c .before .before .place-number .ensures) (c .before .if1 .left) (c .part-of .ensures)
+returns-2 c = count-given _ _ _ _ (c .before .before .place-number .ensures) (c .before .if1 .left) (c .listed-part .ensures)
 
 pub part-length-spec : {M : Type 1} → statement M
 part-length-spec =

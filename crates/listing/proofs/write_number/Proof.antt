@@ -16,21 +16,21 @@ returns c = or-first _ _ _ (c .before .place-number .ensures) (c .if1 .taken)
 returns-2 : tie.Need-returns-2
 returns-2 c =
     let s = c .before .before .before .before .before in
-    write-other (s .args .run) (s .args .k) _ _ (sym (c .before .before .before .before .place-number .ensures) ∙ c .before .before .before .if1 .left) (λ e. c .if2 .taken (e ∙ sym (c .before .length-of .ensures)))
+    write-other (s .args .run) (s .args .k) _ _ (sym (c .before .before .before .before .place-number .ensures) ∙ c .before .before .before .if1 .left) (λ e. c .if2 .taken (e ∙ sym (c .before .listed-length .ensures)))
 
 returns-3 : tie.Need-returns-3
 returns-3 c =
     let s = c .before .before .before .before .before .before .before in
-    let e = c .before .part-of .ensures in
+    let e = c .before .listed-part .ensures in
     let t = c .if3 .taken in
-    write-fits (s .args .run) (s .args .k) _ _ (sym (c .before .before .before .before .before .before .place-number .ensures) ∙ c .before .before .before .before .before .if1 .left) (c .before .before .if2 .left ∙ c .before .before .before .length-of .ensures) (omega arith)
+    write-fits (s .args .run) (s .args .k) _ _ (sym (c .before .before .before .before .before .before .place-number .ensures) ∙ c .before .before .before .before .before .if1 .left) (c .before .before .if2 .left ∙ c .before .before .before .listed-length .ensures) (omega arith)
 
 returns-4 : tie.Need-returns-4
 returns-4 c =
     let s = c .before .before .before .before .before .before .before in
-    let e = c .before .part-of .ensures in
+    let e = c .before .listed-part .ensures in
     let t = c .if3 .left in
-    write-narrow (s .args .run) (s .args .k) _ _ (sym (c .before .before .before .before .before .before .place-number .ensures) ∙ c .before .before .before .before .before .if1 .left) (c .before .before .if2 .left ∙ c .before .before .before .length-of .ensures) (omega arith)
+    write-narrow (s .args .run) (s .args .k) _ _ (sym (c .before .before .before .before .before .before .place-number .ensures) ∙ c .before .before .before .before .before .if1 .left) (c .before .before .if2 .left ∙ c .before .before .before .listed-length .ensures) (omega arith)
 
 pub write-number-spec : {M : Type 1} → statement M
 write-number-spec =

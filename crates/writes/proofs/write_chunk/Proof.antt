@@ -3,7 +3,7 @@
 use lib.ListN.{length}
 use mathlib.Core.List.{List}
 use Prim.Native.Nat.{ℕ, _≤_}
-use mathlib.Core.Path.{_≡_, sym, ap, _∙_}
+use mathlib.Core.Path.{sym, ap, _∙_}
 use native.Mathlib.Omega.{arith}
 use borrow.Author.Tests.{ne-eqb}
 use borrow.Author.Needs.{needs}
@@ -18,8 +18,8 @@ returns : tie.Need-returns
 returns c = (refused (sym (c .before .write-number .ensures)) (ne-eqb _ 0 (c .if1 .taken)), refused (sym (c .before .write-number .ensures)) (ne-eqb _ 0 (c .if1 .taken)))
 
 -- the part of an accepted chunk
-fill : (c : tie.After-part-of) → Filling (c .before .before .before .before .before .args .run) (c .before .before .before .before .before .args .k) (length (c .before .before .before .before .before .args .buf .now)) (length (c .before .before .before .before .before .args .work .now))
-fill c = let s = c .before .before .before .before .before in filling (s .args .run) (s .args .k) _ _ (sym (c .before .before .write-number .ensures) ∙ c .before .if1 .left)
+fill : (c : tie.After-part-of) → Filling (c .before .before .before .before .before .before .args .run) (c .before .before .before .before .before .before .args .k) (length (c .before .before .before .before .before .before .args .buf .now)) (length (c .before .before .before .before .before .before .args .work .now))
+fill c = let s = c .before .before .before .before .before .before in filling (s .args .run) (s .args .k) _ _ (sym (c .before .before .before .write-number .ensures) ∙ c .before .before .if1 .left)
 
 part-make-part-end : tie.Need-part-make-part-end
 part-make-part-end c = omega (arith, c .part-of .ensures, fill c .roomy)
@@ -28,7 +28,7 @@ make-part-requires : tie.Need-make-part-requires
 make-part-requires c κs =
     let f = fill (c .before) in
     let e = c .before .part-of .ensures in
-    (f .format, f .there, part-length 0 (c .before .part-of .result) (c .before .before .before .before .before .before .args .work .now) (omega (arith, e, f .roomy)) ∙ e)
+    (f .format, f .there, part-length 0 (c .before .part-of .result) (c .before .before .before .before .before .before .before .args .work .now) (omega (arith, e, f .roomy)) ∙ e)
 
 part-put-chunk-end : tie.Need-part-put-chunk-end
 part-put-chunk-end c =
@@ -42,9 +42,9 @@ put-chunk-requires c κs =
     let f = fill p in
     let e = p .part-of .ensures in
     let m = c .before .before .before .before .before .make-part in
-    let r : p .part-of .result ≤ length (p .before .before .before .before .before .args .work .now) = omega (arith, e, f .roomy) in
-    let a = lent-again (p .part-of .result) (p .before .before .before .before .before .args .work .now) _ r (m .kept .1 .1 .0) in
-    (f .format, f .there, a ∙ m .ensures, ap (λ (l : List ℕ). length l) a ∙ (m .kept .1 .1 .0 ∙ part-length 0 (p .part-of .result) (p .before .before .before .before .before .args .work .now) (omega arith) ∙ e), f .long)
+    let r : p .part-of .result ≤ length (p .before .before .before .before .before .before .args .work .now) = omega (arith, e, f .roomy) in
+    let a = lent-again (p .part-of .result) (p .before .before .before .before .before .before .args .work .now) _ r (m .kept .1 .1 .0) in
+    (f .format, f .there, a ∙ m .ensures, ap (λ (l : List ℕ). length l) a ∙ (m .kept .1 .1 .0 ∙ part-length 0 (p .part-of .result) (p .before .before .before .before .before .before .args .work .now) (omega arith) ∙ e), f .long)
 
 returns-2 : tie.Need-returns-2
 returns-2 c =
@@ -52,7 +52,7 @@ returns-2 c =
     let f = fill p in
     let e = p .part-of .ensures in
     let m = c .before .before .before .before .before .before .before .before .make-part in
-    let z = sym (p .before .before .write-number .ensures) ∙ p .before .if1 .left in
+    let z = sym (p .before .before .before .write-number .ensures) ∙ p .before .before .if1 .left in
     (done z (c .before .before .put-chunk .ensures), done z (lent-part (p .part-of .result) _ _ _ (omega (arith, e, f .roomy)) (m .kept .1 .1 .0) (m .ensures)))
 
 pub write-chunk-spec : {M : Type 1} → statement M

@@ -15,4 +15,4 @@ returns c =
     opening-whole (s .args .bs) (s .args .device) (s .args .at) (s .args .n) _ _ _ _ (s .pre) (c .before .before .before .before .before .before .put-block .ensures) (c .before .before .put-zeros .ensures)
 
 pub put-opening-spec : {M : Type 1} → statement M
-put-opening-spec = tie.close (tie.spec (λ c κs. search needs) put-zeros-requires (λ c. search needs) returns)
+put-opening-spec = tie.close (tie.spec (λ c. search needs) (λ c κs. search needs) put-zeros-requires (λ c. search needs) returns)

@@ -6,6 +6,7 @@ use native.Mathlib.Omega.{arith}
 use lib.ListN.{length}
 use Rattle.lengths.proofs.Which.{opening-size, root-size, head-size}
 use Rattle.totals.specs.Totals.{plansNumber}
+use Rattle.listing.specs.Chunks.{sizesIn}
 use Rattle.listing.proofs.Numbers.{format-zero}
 use Rattle.writes.proofs.Accepted.{log-made, group-made, finished-made}
 use Rattle.writes.proofs.Which.{one-less, opening-part, group-part, root-part, closing-part}
@@ -24,7 +25,7 @@ returns c =
     let s = c .before .before .before .before .before .before .before .before in
     let g = s .args .run .geometry in
     let e = c .before .before .before .before .if1 .taken in
-    log-made g (label s) (plans s) _ _ _ (s .pre .2 ∙ opening-size g (s .args .k) e) (c .before .before .log-block .ensures) ∙ sym (opening-part (s .args .run) (s .args .k) e)
+    log-made g (label s) (plans s) _ _ _ (s .pre .2 ∙ opening-size (sizesIn g) (g .agcount) (s .args .k) e) (c .before .before .log-block .ensures) ∙ sym (opening-part (s .args .run) (s .args .k) e)
 
 returns-2 : tie.Need-returns-2
 returns-2 c =
@@ -33,11 +34,11 @@ returns-2 c =
     let k = s .args .k in
     let n = c .before .before .before .before .before .before .if1 .left in
     let h = c .before .before .before .before .if2 .taken in
-    group-made g (label s) (plans s) _ (k - 1) _ _ (one-less k (g .agcount) n h) (s .pre .2 ∙ head-size g k n (λ q. n (omega arith))) (c .before .before .head-written .ensures)
+    group-made g (label s) (plans s) _ (k - 1) _ _ (one-less k (g .agcount) n h) (s .pre .2 ∙ head-size (sizesIn g) (g .agcount) k n (λ q. n (omega arith))) (c .before .before .head-written .ensures)
     ∙ sym (group-part (s .args .run) k n h)
 
 make-root-requires : tie.Need-make-root-requires
-make-root-requires c κs = let s = c .before .before .before .before .before .before .before .before .before in (s .pre .0, s .pre .2 ∙ root-size (s .args .run .geometry) (s .args .k) (c .before .before .before .before .before .if1 .left) (c .before .if3 .taken))
+make-root-requires c κs = let s = c .before .before .before .before .before .before .before .before .before in (s .pre .0, s .pre .2 ∙ root-size (sizesIn (s .args .run .geometry)) (s .args .run .geometry .agcount) (s .args .k) (c .before .before .before .before .before .if1 .left) (c .before .if3 .taken))
 
 returns-3 : tie.Need-returns-3
 returns-3 c = let s = c .before .before .before .before .before .before .before .before .before .before .before .before in c .before .before .make-root .ensures ∙ sym (root-part (s .args .run) (s .args .k) (c .before .before .before .before .before .before .if2 .left) (c .before .before .before .before .if3 .taken))
@@ -48,7 +49,7 @@ returns-4 c =
     let g = s .args .run .geometry in
     let k = s .args .k in
     let n = c .before .before .before .before .if3 .left in
-    finished-made g (label s) (plans s) _ _ _ (s .pre .2 ∙ head-size g k (c .before .before .before .before .before .before .before .before .if1 .left) n) (c .before .before .head-left .ensures)
+    finished-made g (label s) (plans s) _ _ _ (s .pre .2 ∙ head-size (sizesIn g) (g .agcount) k (c .before .before .before .before .before .before .before .before .if1 .left) n) (c .before .before .head-left .ensures)
     ∙ sym (closing-part (s .args .run) k (c .before .before .before .before .before .before .if2 .left) n)
 
 pub make-part-spec : {M : Type 1} → statement M
