@@ -10,7 +10,9 @@ use Rattle.structs.proofs.Written.{written-in}
 use Rattle.records.specs.Records.{Record, WZ, WB, FL, All, listBytes}
 use Rattle.applied.specs.Records.{fits}
 use Rattle.applied.specs.Whole.{readAll, allFit}
+use Rattle.applied.specs.Flushes.{ruled}
 use Rattle.applied.proofs.WholeList.{list-back}
+use Rattle.applied.proofs.Ending.{whole-list, cut-list}
 use Rattle.device.specs.Device.{Fits}
 use Rattle.request.specs.declared.Request.{Request}
 use Rattle.request.specs.Parse.{parseDef}
@@ -18,6 +20,8 @@ use Rattle.run.specs.declared.Run.{Run}
 use Rattle.run.specs.Runs.{runOf, accepted}
 use Rattle.written.specs.Listing.{listOf, chunkCount, listChunk, chunksTo, recordCount, listLength}
 use Rattle.written.proofs.Chunks.{by-chunks}
+use Rattle.written.proofs.Parts.{butLast, list-last}
+use Rattle.written.proofs.Cut.{told}
 use Rattle.accepted.specs.Accepted.{AcceptedRun}
 use Rattle.accepted.proofs.Runs.{run-plans, run-timely, run-bounds}
 use Rattle.accepted.proofs.Sound.{sound}
@@ -52,6 +56,14 @@ sent-is run device (suc n) = ap (λ (l : List ℕ). l ++ sent run device n) (sen
 
 sent-whole : (run : Run) (device : ℕ) → sentAll run device ≡ listBytes (listOf run device)
 sent-whole run device = sent-is run device (chunkCount run) ∙ ap listBytes (by-chunks run device)
+
+-- ---- where it ends: its second flush is its last record, and a front of it has fewer
+
+list-ends : (run : Run) (device : ℕ) → ruled 0 (listOf run device) ≡ 0
+list-ends run device = whole-list (listOf run device) .1 (record { two = told run device .whole-flushes; front = butLast run device; last = list-last run device })
+
+front-refused : (run : Run) (device : ℕ) (front rest : List Record) (w : Record) → front ++ (w ∷ rest) ≡ listOf run device → ruled 0 front ≡ 28
+front-refused run device front rest w e = sym (cut-list front (told run device .cut-noticed front rest w e))
 
 -- ---- an accepted run
 
@@ -128,6 +140,8 @@ module _ (r : Request) (a : AcceptedRun r) where
         whole = sent-whole run (r .device);
         bytes = bytes-is;
         back = read-is;
+        ends = list-ends run (r .device);
+        cut-refused = front-refused run (r .device);
       }
 
 -- THE SAME FOR EVERY INPUT THAT `accept` ACCEPTS

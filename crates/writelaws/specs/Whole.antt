@@ -1,12 +1,13 @@
 -- That what `writelist` sends for an accepted run, and `applylist` reads, is exactly the run's list.
 -- Assumes nothing.
 use mathlib.Core.Path.{_≡_}
-use mathlib.Core.List.{List, [], _++_}
+use mathlib.Core.List.{List, [], _∷_, _++_}
 use Prim.Native.Nat.{ℕ, zero, suc, _<_, _≤_}
 use lib.ListN.{length}
 use Rattle.structs.specs.Written.{Written}
-use Rattle.records.specs.Records.{listBytes}
+use Rattle.records.specs.Records.{Record, listBytes}
 use Rattle.applied.specs.Whole.{readAll}
+use Rattle.applied.specs.Flushes.{ruled}
 use Rattle.run.specs.declared.Run.{Run}
 use Rattle.written.specs.Listing.{listOf, chunkCount, listChunk, recordCount, listLength}
 use Rattle.listing.specs.Chunks.{noChunk, placeNumber, writeNumber, countAnswer, lengthAnswer, partAnswer}
@@ -44,5 +45,7 @@ pub record WrittenWhole (run : Run) (device : ℕ) : Type 0 where
   -- all chunks, one after the other, are the list's bytes: as many as the closed form says
   pub whole : sentAll run device ≡ listBytes (listOf run device)
   pub bytes : length (sentAll run device) ≡ listLength (run .geometry)
-  -- read record by record, they are the list
+  -- read record by record, they are the list, which ends where a list does; one that ends before that is refused
   pub back : readAll (recordCount (run .geometry)) (sentAll run device) ≡ listOf run device
+  pub ends : ruled 0 (listOf run device) ≡ 0
+  pub cut-refused : (front rest : List Record) (w : Record) → front ++ (w ∷ rest) ≡ listOf run device → ruled 0 front ≡ 28
