@@ -62,8 +62,8 @@ sent-whole run device = sent-is run device (chunkCount run) ∙ ap listBytes (by
 list-ends : (run : Run) (device : ℕ) → ruled 0 (listOf run device) ≡ 0
 list-ends run device = whole-list (listOf run device) .1 (record { two = told run device .whole-flushes; front = butLast run device; last = list-last run device })
 
-front-refused : (run : Run) (device : ℕ) (front rest : List Record) (w : Record) → front ++ (w ∷ rest) ≡ listOf run device → ruled 0 front ≡ 28
-front-refused run device front rest w e = sym (cut-list front (told run device .cut-noticed front rest w e))
+a-front-refused : (run : Run) (device : ℕ) (front rest : List Record) (w : Record) → front ++ (w ∷ rest) ≡ listOf run device → ruled 0 front ≡ 28
+a-front-refused run device front rest w e = sym (cut-list front (told run device .cut-noticed front rest w e))
 
 -- ---- an accepted run
 
@@ -141,7 +141,7 @@ module _ (r : Request) (a : AcceptedRun r) where
         bytes = bytes-is;
         back = read-is;
         ends = list-ends run (r .device);
-        cut-refused = front-refused run (r .device);
+        front-refused = a-front-refused run (r .device);
       }
 
 -- THE SAME FOR EVERY INPUT THAT `accept` ACCEPTS

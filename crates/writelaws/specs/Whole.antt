@@ -48,4 +48,4 @@ pub record WrittenWhole (run : Run) (device : ℕ) : Type 0 where
   -- read record by record, they are the list, which ends where a list does; one that ends before that is refused
   pub back : readAll (recordCount (run .geometry)) (sentAll run device) ≡ listOf run device
   pub ends : ruled 0 (listOf run device) ≡ 0
-  pub cut-refused : (front rest : List Record) (w : Record) → front ++ (w ∷ rest) ≡ listOf run device → ruled 0 front ≡ 28
+  pub front-refused : (front rest : List Record) (w : Record) → front ++ (w ∷ rest) ≡ listOf run device → ruled 0 front ≡ 28
