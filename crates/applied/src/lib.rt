@@ -4,16 +4,14 @@ ghost use mathlib.Core.Path.{_≡_};
 ghost use Prim.Native.Nat.{_+_, _≤_};
 ghost use Rattle.applied.specs.Records.{cut, refused, write, decodeDef, withinDef, bodyDef};
 ghost use Rattle.applied.specs.Flushes.{nextDef, endedDef};
+use records::BLOCK_MARK;
+use records::FLUSH_MARK;
+use records::HEAD_SIZE;
+use records::MARK_SIZE;
+use records::ZEROS_MARK;
 
 // The refusal of malformed records.
 pub const MALFORMED: u32 = 28;
-
-// The marks, two bytes each.
-const FL: u16 = 0x464c;
-
-const WZ: u16 = 0x575a;
-
-const WB: u16 = 0x5742;
 
 // What a record asks for; none is known yet where more bytes are needed.
 pub const MORE: u8 = 0;
@@ -23,11 +21,6 @@ pub const FLUSH: u8 = 1;
 pub const ZEROS: u8 = 2;
 
 pub const BYTES: u8 = 3;
-
-// The bytes of a mark, and of the head of a write: its mark, offset and length.
-pub const MARK: usize = 2;
-
-pub const HEAD: usize = 18;
 
 // The end of the largest file or device: no offset is above it.
 const LARGEST: u64 = 0x7fff_ffff_ffff_ffff;
@@ -89,7 +82,7 @@ fn too_few(last: bool) -> Decoded
 fn write_head(bytes: &[u8], last: bool, kind: u8) -> Decoded
     ensures { λ r. ⌜ r ≡ write last kind (now (bytes .entry)) ⌝ }
 {
-    if bytes.len() < HEAD {
+    if bytes.len() < HEAD_SIZE {
         return too_few(last);
     }
     let at = endian::be64(bytes, 2);
@@ -99,7 +92,7 @@ fn write_head(bytes: &[u8], last: bool, kind: u8) -> Decoded
         kind,
         at: at.value,
         len: len.value,
-        size: HEAD,
+        size: HEAD_SIZE,
     }
 }
 
@@ -107,23 +100,23 @@ fn write_head(bytes: &[u8], last: bool, kind: u8) -> Decoded
 pub fn decode(bytes: &[u8], last: bool) -> Decoded
     ensures { λ r. ⌜ r ≡ decodeDef last (now (bytes .entry)) ⌝ }
 {
-    if bytes.len() < MARK {
+    if bytes.len() < MARK_SIZE {
         return too_few(last);
     }
     let mark = endian::be16(bytes, 0);
-    if mark.value == FL {
+    if mark.value == FLUSH_MARK {
         return Decoded {
             number: 0,
             kind: FLUSH,
             at: 0,
             len: 0,
-            size: MARK,
+            size: MARK_SIZE,
         };
     }
-    if mark.value == WZ {
+    if mark.value == ZEROS_MARK {
         return write_head(bytes, last, ZEROS);
     }
-    if mark.value == WB {
+    if mark.value == BLOCK_MARK {
         return write_head(bytes, last, BYTES);
     }
     malformed()

@@ -6,9 +6,9 @@ use crate::GOES_ON;
 use crate::MALFORMED;
 use crate::READ_FAILED;
 use applied::Decoded;
-use applied::HEAD;
-use applied::MARK;
 use libc::STDIN_FILENO;
+use records::HEAD_SIZE;
+use records::MARK_SIZE;
 
 // How many bytes were read, whether there may be more, and whether a read failed.
 struct Input {
@@ -91,21 +91,21 @@ fn head_of(buf: &[u8], i: Input, want: usize) -> Head
 fn read_into(buf: &mut [u8]) -> Head
     requires { ⌜ 18 ≤ length (now buf) ⌝ }
 {
-    let i = fill(0, MARK, buf);
-    let mut h = head_of(buf, i, MARK);
+    let i = fill(0, MARK_SIZE, buf);
+    let mut h = head_of(buf, i, MARK_SIZE);
     if i.n == 0 && !i.failed {
         h.stop = ENDED;
     }
     let d = h.head;
     if h.stop == GOES_ON && d.kind == applied::MORE {
-        let rest = fill(MARK, HEAD, buf);
-        return head_of(buf, rest, HEAD);
+        let rest = fill(MARK_SIZE, HEAD_SIZE, buf);
+        return head_of(buf, rest, HEAD_SIZE);
     }
     h
 }
 
 pub(crate) fn read_head() -> Head {
-    let mut buf = [0u8; HEAD];
+    let mut buf = [0u8; HEAD_SIZE];
     read_into(&mut buf)
 }
 

@@ -6,12 +6,8 @@ use counts::inodes::chunk_of;
 use logsize::header_of;
 use logsize::prealloc_of;
 use params::Features;
-
-// Bytes of a flush: its mark alone.
-pub const FLUSH_SIZE: usize = 2;
-
-// Bytes of a record before its block: mark, offset, length.
-pub const HEAD: usize = 18;
+use records::HEAD_SIZE;
+use records::MARK_SIZE;
 
 // Bytes of a block; blocks of the four header sectors, of a group's head, and of the root chunk.
 pub struct Sizes {
@@ -41,7 +37,7 @@ fn blocks_length(bs: usize, n: usize) -> usize
     requires { ⌜ (bs < 2 ^ 32) × (blocksLength bs n < 2 ^ 63) ⌝ }
     ensures { λ r. ⌜ r ≡ blocksLength bs n ⌝ }
 {
-    n * (HEAD + bs)
+    n * (HEAD_SIZE + bs)
 }
 
 // Bytes of chunk k of a disk of so many groups.
@@ -50,7 +46,7 @@ pub fn length_of(f: Features, sector: u32, inode: u32, bs: u32, groups: u64, k: 
 {
     let s = sizes_of(f, sector, inode, bs);
     if k == 0 {
-        return 3 * HEAD + blocks_length(s.block, 1);
+        return 3 * HEAD_SIZE + blocks_length(s.block, 1);
     }
     if k <= groups {
         return blocks_length(s.block, s.head);
@@ -58,7 +54,7 @@ pub fn length_of(f: Features, sector: u32, inode: u32, bs: u32, groups: u64, k: 
     if k - 1 == groups {
         return blocks_length(s.block, s.chunk);
     }
-    FLUSH_SIZE + blocks_length(s.block, s.header) + FLUSH_SIZE
+    MARK_SIZE + blocks_length(s.block, s.header) + MARK_SIZE
 }
 
 // Bytes of the part that chunk k is split from.

@@ -10,8 +10,6 @@ ghost use Rattle.written.specs.Listing.{listChunk};
 ghost use Rattle.lengths.specs.Lengths.{flushSize, headSize, blocksLength};
 ghost use Rattle.listing.specs.Chunks.{listedLength, partLength, formatNumber};
 ghost use Rattle.writes.specs.Writing.{partBytes, zeroHeads};
-use crate::split::FLUSH;
-use crate::split::ZEROS;
 use crate::split::put_block;
 use crate::split::put_blocks;
 use crate::split::put_head;
@@ -19,9 +17,11 @@ use arith::numbers::min_u64;
 use arith::numbers::minus;
 use arith::numbers::round_down;
 use counts::inodes::root_chunk_of;
-use lengths::FLUSH_SIZE;
-use lengths::HEAD;
 use lengths::sizes_of;
+use records::FLUSH_MARK;
+use records::HEAD_SIZE;
+use records::MARK_SIZE;
+use records::ZEROS_MARK;
 use run::Run;
 
 // So much is zeroed at each end of the device.
@@ -42,9 +42,9 @@ fn put_zeros(bs: usize, device: u64, log: u64, n: u64, buf: &mut [u8])
 {
     let end = round_down(device, bs as u64);
     let tail = round_down(minus(end, WHACK_SIZE), bs as u64);
-    put_head(ZEROS, log, n, 2 * HEAD, buf);
-    put_head(ZEROS, tail, minus(end, tail), HEAD, buf);
-    put_head(ZEROS, 0, min_u64(WHACK_SIZE, end), 0, buf);
+    put_head(ZEROS_MARK, log, n, 2 * HEAD_SIZE, buf);
+    put_head(ZEROS_MARK, tail, minus(end, tail), HEAD_SIZE, buf);
+    put_head(ZEROS_MARK, 0, min_u64(WHACK_SIZE, end), 0, buf);
 }
 
 // Zeros at the start and the end of the device and over the log, n bytes at `at`, and the log's first block.
@@ -52,7 +52,7 @@ fn put_opening(bs: usize, device: u64, at: u64, n: u64, part: &[u8], buf: &mut [
     requires { ⌜ length (now buf) ≡ 3 * headSize + (headSize + length (now part)) ⌝ }
     ensures { λ _. ⌜ now (buf .exit) ≡ zeroHeads bs device at n ++ recordBytes (WB at (now (part .entry))) ⌝ }
 {
-    put_block(at, part, 3 * HEAD, buf);
+    put_block(at, part, 3 * HEAD_SIZE, buf);
     put_zeros(bs, device, at, n, buf);
 }
 
@@ -61,10 +61,10 @@ fn put_closing(bs: usize, n: usize, part: &[u8], buf: &mut [u8])
     requires { ⌜ (0 < bs) × (n * bs ≤ 2 ^ 64) × (n * bs ≤ length (now part)) × (length (now buf) ≡ flushSize + blocksLength bs n + flushSize) ⌝ }
     ensures { λ _. ⌜ now (buf .exit) ≡ recordBytes FL ++ (listBytes (blocks bs 0 n (now (part .entry))) ++ recordBytes FL) ⌝ }
 {
-    let end = buf.len() - FLUSH_SIZE;
-    endian::put16(buf, end, FLUSH);
-    put_blocks(bs, 0, n, part, FLUSH_SIZE, buf);
-    endian::put16(buf, 0, FLUSH);
+    let end = buf.len() - MARK_SIZE;
+    endian::put16(buf, end, FLUSH_MARK);
+    put_blocks(bs, 0, n, part, MARK_SIZE, buf);
+    endian::put16(buf, 0, FLUSH_MARK);
 }
 
 // The records of chunk k, from its part.

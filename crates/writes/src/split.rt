@@ -6,14 +6,8 @@ ghost use Rattle.endian.specs.Bytes.{patch};
 ghost use Rattle.records.specs.Records.{WB, recordBytes, listBytes, blocks as blocks·of};
 ghost use Rattle.lengths.specs.Lengths.{headSize};
 ghost use Rattle.writes.specs.Writing.{recordHead};
-use lengths::HEAD;
-
-// The marks: "WZ" for zeros, "WB" for a block, "FL" for a flush.
-pub const ZEROS: u16 = 0x575a;
-
-pub const BLOCK: u16 = 0x5742;
-
-pub const FLUSH: u16 = 0x464c;
+use records::BLOCK_MARK;
+use records::HEAD_SIZE;
 
 // Mark, offset and length; the last is written first.
 pub(crate) fn put_head(mark: u16, offset: u64, n: u64, at: usize, buf: &mut [u8])
@@ -42,8 +36,8 @@ pub(crate) fn put_block(offset: u64, src: &[u8], at: usize, buf: &mut [u8])
     requires { ⌜ at + (headSize + length (now src)) ≤ length (now buf) ⌝ }
     ensures { λ _. ⌜ now (buf .exit) ≡ patch at (recordBytes (WB offset (now (src .entry)))) (now (buf .entry)) ⌝ }
 {
-    copy(src, at + HEAD, buf);
-    put_head(BLOCK, offset, src.len() as u64, at, buf);
+    copy(src, at + HEAD_SIZE, buf);
+    put_head(BLOCK_MARK, offset, src.len() as u64, at, buf);
 }
 
 // Block j of a write at `offset`, as the j-th record from `at` on.
@@ -55,7 +49,7 @@ fn put_nth(bs: usize, offset: u64, src: &[u8], j: usize, at: usize, buf: &mut [u
     put_block(
         offset + (from as u64),
         &src[from..from + bs],
-        at + j * (HEAD + bs),
+        at + j * (HEAD_SIZE + bs),
         buf,
     );
 }
