@@ -50,6 +50,6 @@ module _ (r : Request) (a : AcceptedRun r) where
   room-enough =
       let z = run-bounds r a in
       record {
-        few = λ n k h p q. holds n k h (rw head-value at p) (rw root-value at q);
+        few = λ n k h p q. holds n k h (omega (arith, head-value)) (omega (arith, root-value));
         most = λ k h. holds longestChunk k h (head-within (run .geometry) z) (root-within (run .geometry) z);
       }
