@@ -21,12 +21,13 @@ unfoldable pub repeated : ℕ → List ℕ → List ℕ
 repeated zero xs = []
 repeated (suc n) xs = xs ++ repeated n xs
 
--- A record with one header sector: the count; its bytes, which are that sector, the unmount record's sector, and sectors of zeros but for the cycle in
--- each first word; and the two header fields in which the count or the unit stands, h_len and h_size.
+-- A record with one header sector: the count; its bytes, which are that sector, the unmount record's sector, and sectors of zeros
+-- but for the cycle in each first word; and the two header fields in which the count or the unit stands, h_len and h_size.
 pub record OneHeader (uuid : List ℕ) (sunit lsn tailLsn : ℕ) : Type 0 where
   pub headers : headersOf sunit ≡ 1
   pub sectors : recordBytes uuid sunit lsn tailLsn
-      ≡ sector (headerFields uuid sunit lsn tailLsn) ++ (sector (unmountFields 0 (cycleOf lsn)) ++ repeated (blocksOf sunit - 2) (sector (stamps (cycleOf lsn) 0 1)))
+      ≡ sector (headerFields uuid sunit lsn tailLsn)
+      ++ (sector (unmountFields 0 (cycleOf lsn)) ++ repeated (blocksOf sunit - 2) (sector (stamps (cycleOf lsn) 0 1)))
   pub each : (fs : List Field) → length (sector fs) ≡ basicBlock
   pub len : beAt 4 12 (recordBytes uuid sunit lsn tailLsn) ≡ max (2 * basicBlock) sunit - basicBlock * headersOf sunit
   pub size : beAt 4 320 (recordBytes uuid sunit lsn tailLsn) ≡ max sunit bigRecord

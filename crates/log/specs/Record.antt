@@ -70,7 +70,7 @@ blocksOf sunit = max 2 (roundedUp sunit basicBlock)
 unfoldable pub recordNumber : ℕ → ℕ → ℕ
 recordNumber sunit len = require wrongLength (eqb len (basicBlock * blocksOf sunit)) (require sunitTooLarge (leb sunit largestSunit) 0)
 
--- `struct xlog_rec_header`. The unmount record's first word has moved into the cycle data. The length is that of what follows this one header.
+-- `struct xlog_rec_header`. The unmount record's first word has moved into the cycle data. The length is that of what follows.
 unfoldable pub headerFields : List ℕ → ℕ → ℕ → ℕ → List Field
 headerFields uuid sunit lsn tailLsn =
     field 0 4 headerMagic  -- h_magicno
