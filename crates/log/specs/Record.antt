@@ -10,19 +10,16 @@ use Rattle.little.specs.Bytes.{leBytes}
 use Rattle.endian.specs.Fields.{Field, field, run, write}
 use Rattle.structs.specs.Written.{null32, require}
 
--- the refusal of a stripe unit above 262,144 bytes
+-- the refusal of a stripe unit above 16,384 bytes, the largest block
 abbrev pub sunitTooLarge : ℕ
 sunitTooLarge = 35
 
 abbrev pub largestSunit : ℕ
-largestSunit = 262144
+largestSunit = 16384
 
--- a basic block, in bytes; the bytes that the cycle data of one header covers; the least size that a header names (XLOG_BIG_RECORD_BSIZE)
+-- a basic block, in bytes; the size that the header names (XLOG_BIG_RECORD_BSIZE)
 abbrev pub basicBlock : ℕ
 basicBlock = 512
-
-abbrev pub headerCovers : ℕ
-headerCovers = 32768
 
 abbrev pub bigRecord : ℕ
 bigRecord = 32768
@@ -70,20 +67,16 @@ roundedUp a b = (a + (b - 1)) / b
 unfoldable pub blocksOf : ℕ → ℕ
 blocksOf sunit = max 2 (roundedUp sunit basicBlock)
 
--- of these a header for each 32,768 bytes of the stripe unit, at least one
-unfoldable pub headersOf : ℕ → ℕ
-headersOf sunit = max 1 (roundedUp sunit headerCovers)
-
 unfoldable pub recordNumber : ℕ → ℕ → ℕ
 recordNumber sunit len = require wrongLength (eqb len (basicBlock * blocksOf sunit)) (require sunitTooLarge (leb sunit largestSunit) 0)
 
--- `struct xlog_rec_header`. The first word of the unmount record has moved into the cycle data. The header's length is what follows the headers.
+-- `struct xlog_rec_header`. The unmount record's first word has moved into the cycle data. The length is that of what follows.
 unfoldable pub headerFields : List ℕ → ℕ → ℕ → ℕ → List Field
 headerFields uuid sunit lsn tailLsn =
     field 0 4 headerMagic  -- h_magicno
     ∷ field 4 4 (cycleOf lsn)  -- h_cycle
     ∷ field 8 4 2  -- h_version
-    ∷ field 12 4 (max 1024 sunit - basicBlock * headersOf sunit)  -- h_len
+    ∷ field 12 4 (max (2 * basicBlock) sunit - basicBlock)  -- h_len
     ∷ field 16 8 lsn  -- h_lsn
     ∷ field 24 8 tailLsn  -- h_tail_lsn
     ∷ field 32 4 0  -- h_crc
@@ -92,7 +85,17 @@ headerFields uuid sunit lsn tailLsn =
     ∷ field 44 4 unmountTid  -- h_cycle_data, the first of 64
     ∷ field 300 4 linuxLe  -- h_fmt
     ∷ run 304 uuid  -- h_fs_uuid
-    ∷ field 320 4 (max sunit bigRecord)  -- h_size
+    ∷ field 320 4 bigRecord  -- h_size
+    ∷ []
+
+-- The unmount record in the basic block at `at`: `struct xlog_op_header` and `struct xfs_unmount_log_format`, whose magic is little-endian.
+unfoldable pub unmountFields : ℕ → ℕ → List Field
+unmountFields at cycle =
+    field at 4 cycle  -- in the place of oh_tid
+    ∷ field (at + 4) 4 8  -- oh_len
+    ∷ field (at + 8) 1 clientLog  -- oh_clientid
+    ∷ field (at + 9) 1 unmountTrans  -- oh_flags
+    ∷ run (at + 12) (leBytes 2 unmountType)  -- magic
     ∷ []
 
 -- the first word of each of `n` basic blocks from the block `from` on is the cycle
@@ -100,23 +103,10 @@ unfoldable pub stamps : ℕ → ℕ → ℕ → List Field
 stamps cycle from zero = []
 stamps cycle from (suc n) = field (basicBlock * from) 4 cycle ∷ stamps cycle (suc from) n
 
--- `struct xlog_op_header` behind its first word, and `struct xfs_unmount_log_format`, whose magic is little-endian
-unfoldable pub unmountFields : ℕ → List Field
-unmountFields at =
-    field (at + 4) 4 8  -- oh_len
-    ∷ field (at + 8) 1 clientLog  -- oh_clientid
-    ∷ field (at + 9) 1 unmountTrans  -- oh_flags
-    ∷ run (at + 12) (leBytes 2 unmountType)  -- magic
-    ∷ []
-
--- the unmount record stands in the block behind the headers
-unfoldable pub bodyFields : ℕ → ℕ → List Field
-bodyFields sunit lsn =
-    stamps (cycleOf lsn) 1 (headersOf sunit)
-    ++ (unmountFields (basicBlock * headersOf sunit) ++ stamps (cycleOf lsn) (headersOf sunit + 1) (blocksOf sunit - (headersOf sunit + 1)))
-
+-- the header, the unmount record in the block behind it, and stamps in all others
 unfoldable pub recordFields : List ℕ → ℕ → ℕ → ℕ → List Field
-recordFields uuid sunit lsn tailLsn = headerFields uuid sunit lsn tailLsn ++ bodyFields sunit lsn
+recordFields uuid sunit lsn tailLsn =
+    headerFields uuid sunit lsn tailLsn ++ (unmountFields basicBlock (cycleOf lsn) ++ stamps (cycleOf lsn) 2 (blocksOf sunit - 2))
 
 -- every byte that no field names is zero
 unfoldable pub recordBytes : List ℕ → ℕ → ℕ → ℕ → List ℕ

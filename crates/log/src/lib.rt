@@ -1,20 +1,21 @@
 // The log as a formatter leaves it: zeros, with one record at its start that holds an unmount record. The Rust's structs/log.rs.
-pub mod parts; // the pieces of a record: sizes, header, stamps, the unmount record
+pub mod parts; // the pieces of a record: length, header, the unmount record, stamps
 
 ghost use mathlib.Core.Path.{_≡_};
 ghost use Prim.Native.Nat.{_^_};
 ghost use lib.ListN.{length};
 ghost use Rattle.structs.specs.Written.{Written};
 ghost use Rattle.log.specs.Record.{clearSunit, lsnOf, recordNumber, recordBytes};
-use parts::body;
 use parts::header;
 use parts::record_blocks;
+use parts::stamp_blocks;
+use parts::unmount;
 
 // The refusal of a stripe unit above `LARGEST_SUNIT`.
 pub const SUNIT_TOO_LARGE: u32 = 35;
 
 // The largest log stripe unit, in bytes.
-pub const LARGEST_SUNIT: u32 = 262144;
+pub const LARGEST_SUNIT: u32 = 16384;
 
 // The stripe unit that a log is cleared with: 1 stands for the log's sector size, which is 0 for 512 bytes.
 pub fn clear_sunit(logsunit: u32, logsectsize: u32) -> u32
@@ -38,15 +39,18 @@ pub fn record(uuid: &[u8; 16], sunit: u32, lsn: u64, tail_lsn: u64, rec: &mut [u
     ensures { λ r. ⌜ Written (recordNumber sunit (length (now (rec .entry)))) (recordBytes (now (uuid .entry)) sunit lsn «tail_lsn») (now (rec .entry)) r (now (rec .exit)) ⌝ }
 {
     let blocks = record_blocks(sunit);
-    if rec.len() != parts::BBSIZE * blocks {
+    let need = parts::BBSIZE * blocks;
+    if rec.len() != need {
         return endian::WRONG_LENGTH;
     }
     if LARGEST_SUNIT < sunit {
         return SUNIT_TOO_LARGE;
     }
+    let cycle = (lsn / 0x1_0000_0000) as u32;
     endian::put_same(rec, 0, rec.len(), 0);
     header(rec, uuid, sunit, lsn, tail_lsn);
-    body(rec, sunit, lsn);
+    unmount(rec, cycle);
+    stamp_blocks(rec, blocks, cycle);
     0
 }
 

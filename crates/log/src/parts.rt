@@ -1,17 +1,14 @@
-// The pieces of a log record: its sizes, its header, the stamps of its basic blocks and the unmount record.
+// The pieces of a log record: its length, its header, the unmount record and the stamps of the basic blocks behind it.
 ghost use mathlib.Core.Path.{_≡_};
-ghost use Prim.Native.Nat.{_+_, _*_, _-_, _≤_, max};
+ghost use Prim.Native.Nat.{_*_, _-_, _≤_, max};
 ghost use lib.ListN.{length};
 ghost use Rattle.endian.specs.Fields.{write};
-ghost use Rattle.log.specs.Record.{headersOf, blocksOf, headerFields, stamps, unmountFields, bodyFields};
+ghost use Rattle.log.specs.Record.{blocksOf, headerFields, stamps, unmountFields};
 
 // A basic block, in bytes.
 pub const BBSIZE: usize = 512;
 
-// The bytes that the cycle data of one header covers.
-pub const HEADER_CYCLE_SIZE: usize = 32768;
-
-// The least size that a header names.
+// The size that the header names.
 pub const BIG_RECORD_BSIZE: u64 = 32768;
 
 pub const HEADER_MAGIC: u64 = 0xfeed_babe;
@@ -64,13 +61,6 @@ fn larger(a: u64, b: u64) -> u64
     a
 }
 
-// The header blocks of a record: one for each 32,768 bytes of the stripe unit, at least one.
-pub(crate) fn headers(sunit: u32) -> u64
-    ensures { λ r. ⌜ r ≡ headersOf sunit ⌝ }
-{
-    larger(1, ((sunit as u64) + 32767) / 32768)
-}
-
 // The basic blocks of a record.
 pub(crate) fn record_blocks(sunit: u32) -> usize
     ensures { λ r. ⌜ r ≡ blocksOf sunit ⌝ }
@@ -80,13 +70,10 @@ pub(crate) fn record_blocks(sunit: u32) -> usize
 
 // The header, as `struct xlog_rec_header` has it.
 pub(crate) fn header(rec: &mut [u8], uuid: &[u8; 16], sunit: u32, lsn: u64, tail_lsn: u64)
-    requires { ⌜ (512 ≤ length (now rec)) × (sunit ≤ 262144) ⌝ }
+    requires { ⌜ 512 ≤ length (now rec) ⌝ }
     ensures { λ r. ⌜ now (rec .exit) ≡ write (headerFields (now (uuid .entry)) sunit lsn «tail_lsn») (now (rec .entry)) ⌝ }
 {
-    let unit = sunit as u64;
-    let hdrs = headers(sunit);
-    let len = larger(1024, unit) - 512 * hdrs;
-    let size = larger(unit, BIG_RECORD_BSIZE);
+    let len = larger(1024, sunit as u64) - 512;
     let at: [usize; 24] = [
         off::MAGICNO,
         4,
@@ -125,45 +112,33 @@ pub(crate) fn header(rec: &mut [u8], uuid: &[u8; 16], sunit: u32, lsn: u64, tail
         1,
         UNMOUNT_TID,
         FMT_LINUX_LE,
-        size,
+        BIG_RECORD_BSIZE,
     ];
     endian::put_all(rec, &at, &v);
     endian::put_bytes(rec, off::FS_UUID, uuid);
 }
 
-// The cycle goes into the first word of each basic block from `from` up to, not including, `to`.
-fn stamp_blocks(rec: &mut [u8], from: usize, to: usize, cycle: u32)
-    requires { ⌜ (from ≤ to) × (512 * to ≤ length (now rec)) ⌝ }
-    ensures { λ r. ⌜ now (rec .exit) ≡ write (stamps cycle from (to - from)) (now (rec .entry)) ⌝ }
+// The unmount record behind the header: `struct xlog_op_header`, whose first word has given way to the cycle, and
+// `struct xfs_unmount_log_format`.
+pub(crate) fn unmount(rec: &mut [u8], cycle: u32)
+    requires { ⌜ 1024 ≤ length (now rec) ⌝ }
+    ensures { λ r. ⌜ now (rec .exit) ≡ write (unmountFields 512 cycle) (now (rec .entry)) ⌝ }
 {
-    let mut i = from;
-    while i < to {
+    endian::put32(rec, 512, cycle);
+    endian::put32(rec, 516, 8);
+    endian::put8(rec, 520, CLIENT_LOG);
+    endian::put8(rec, 521, UNMOUNT_TRANS);
+    little::put_le16(rec, 524, UNMOUNT_TYPE);
+}
+
+// The cycle goes into the first word of each basic block behind the unmount record.
+pub(crate) fn stamp_blocks(rec: &mut [u8], blocks: usize, cycle: u32)
+    requires { ⌜ 512 * blocks ≤ length (now rec) ⌝ }
+    ensures { λ r. ⌜ now (rec .exit) ≡ write (stamps cycle 2 (blocks - 2)) (now (rec .entry)) ⌝ }
+{
+    let mut i = 2;
+    while i < blocks {
         endian::put32(rec, 512 * i, cycle);
         i += 1;
     }
-}
-
-// The unmount record in the basic block at `at`: the rest of `struct xlog_op_header` behind its first word, which is stamped, and
-// `struct xfs_unmount_log_format`.
-fn unmount(rec: &mut [u8], at: usize)
-    requires { ⌜ at + 512 ≤ length (now rec) ⌝ }
-    ensures { λ r. ⌜ now (rec .exit) ≡ write (unmountFields at) (now (rec .entry)) ⌝ }
-{
-    endian::put32(rec, at + 4, 8);
-    endian::put8(rec, at + 8, CLIENT_LOG);
-    endian::put8(rec, at + 9, UNMOUNT_TRANS);
-    little::put_le16(rec, at + 12, UNMOUNT_TYPE);
-}
-
-// Every basic block behind the first: stamps, and the unmount record behind the headers.
-pub(crate) fn body(rec: &mut [u8], sunit: u32, lsn: u64)
-    requires { ⌜ (length (now rec) ≡ 512 * blocksOf sunit) × (sunit ≤ 262144) ⌝ }
-    ensures { λ r. ⌜ now (rec .exit) ≡ write (bodyFields sunit lsn) (now (rec .entry)) ⌝ }
-{
-    let hdrs = headers(sunit) as usize;
-    let blocks = record_blocks(sunit);
-    let cycle = (lsn / 0x1_0000_0000) as u32;
-    stamp_blocks(rec, 1, hdrs + 1, cycle);
-    unmount(rec, 512 * hdrs);
-    stamp_blocks(rec, hdrs + 1, blocks, cycle);
 }

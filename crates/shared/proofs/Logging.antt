@@ -58,7 +58,7 @@ record-length uuid unit lsn tail =
 -- what an accepted length is
 accepted-length : (unit n : ℕ) → recordNumber unit n ≡ 0 → n ≡ 512 * blocksOf unit
 unfolding recordNumber
-accepted-length unit n z = eqb-true n (512 * blocksOf unit) (passed 27 (require 35 (leb unit 262144) 0) (eqb n (512 * blocksOf unit)) (omega arith) z .0)
+accepted-length unit n z = eqb-true n (512 * blocksOf unit) (passed 27 (require 35 (leb unit 16384) 0) (eqb n (512 * blocksOf unit)) (omega arith) z .0)
 
 -- ---- the unit: none, or a block
 
@@ -103,7 +103,7 @@ module _ (g : Geometry) (z : Bounds g) where
   record-accepted =
       let h = record-fits in
       let m = size-most g z in
-      rw (eq-eqb (max 1024 (logUnit g)) (512 * blocksOf (logUnit g)) record-whole, le-leb (logUnit g) 262144 (omega arith)) refl
+      rw (eq-eqb (max 1024 (logUnit g)) (512 * blocksOf (logUnit g)) record-whole, le-leb (logUnit g) 16384 (omega arith)) refl
 
 -- ---- the block
 

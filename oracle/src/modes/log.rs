@@ -14,22 +14,28 @@ pub struct Record;
 const KINDS: [&str; 4] = ["record", "first_record", "clear_sunit", "lsn"];
 const BAD_LENGTH: u32 = 27;
 const BAD_SUNIT: u32 = 35;
-const MOST_SUNIT: u32 = 262_144;
+/// Document 02, CR 8.
+const MOST_SUNIT: u32 = 16_384;
+/// The longest buffer that a case lends: that of a unit of 262,145 bytes, and one byte more.
+const MOST_LENT: usize = 262_657;
 
 /// The bytes of a record, by document 01.
 fn length(sunit: u32) -> usize {
     512 * (sunit as usize).div_ceil(512).max(2)
 }
 
+/// Five of eight are compared with the Rust; above the limit are its next neighbours, multiples of 32,768 bytes, from which
+/// on the Rust writes several headers, and units of any size.
 fn sunit(r: &mut Random) -> u32 {
     match r.below(8) {
         0 => r.below(3) as u32,
         1 => 511 + r.below(3) as u32,
-        2 => r.below(MOST_SUNIT as u64 + 9) as u32,
-        3 => r.pick(&[512, 1024, 2048, 4096, 8192, 16384, 32768]),
-        4 => MOST_SUNIT - 1 + r.below(3) as u32,
-        5 => r.below(2000) as u32,
-        _ => (1 + r.below(8) as u32) * 32_768 - 1 + r.below(3) as u32,
+        2 => r.below(MOST_SUNIT as u64 + 1) as u32,
+        3 => r.pick(&[512, 1024, 2048, 4096, 8192, 16384]),
+        4 => r.below(2000) as u32,
+        5 => MOST_SUNIT - 1 + r.below(3) as u32,
+        6 => (1 + r.below(8) as u32) * 32_768 - 1 + r.below(3) as u32,
+        _ => r.wide() as u32,
     }
 }
 
@@ -39,6 +45,7 @@ impl Mode for Record {
         let a = if op < 2 { sunit(r) } else { r.wide() as u32 & if r.one_in(3) { 1 } else { u32::MAX } };
         let len = match r.below(6) {
             _ if op >= 2 => 0,
+            _ if length(a) > MOST_LENT => r.below(20_000) as usize,
             0 => length(a) - 1,
             1 => length(a) + 1,
             _ => length(a),

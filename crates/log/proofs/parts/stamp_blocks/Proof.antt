@@ -7,19 +7,19 @@ use Rattle.endian.specs.Fields.{write}
 use borrow.Author.Needs.{needs}
 use native.Mathlib.Omega.{arith}
 use lib.ListN.{length}
-use Prim.Native.Nat.{_≤_, _-_}
+use Prim.Native.Nat.{_-_}
 use mathlib.Core.Path.{_≡_, refl, _∙_}
 use Rattle.log.proofs.parts.stamp_blocks.Statement.{statement}
 use Rattle.log.proofs.parts.stamp_blocks.Tie as tie
 
 abbrev Inv-loop : tie.InvT-loop
-Inv-loop rec₀ from to cycle i₀ rec i = (i ≤ to) × (length rec ≡ length rec₀) × (write (stamps cycle i (to - i)) rec ≡ write (stamps cycle from (to - from)) rec₀)
+Inv-loop rec₀ blocks cycle i₀ rec i = (length rec ≡ length rec₀) × (write (stamps cycle i (blocks - i)) rec ≡ write (stamps cycle 2 (blocks - 2)) rec₀)
 
 abbrev μ-loop : tie.MeasureT-loop
-μ-loop rec₀ from to cycle i₀ rec i = to - i
+μ-loop rec₀ blocks cycle i₀ rec i = blocks - i
 
 loop-holds : tie.Need-loop-holds Inv-loop μ-loop
-loop-holds c = (omega arith, refl, refl)
+loop-holds c = (refl, refl)
 
 mul-put32 : tie.Need-mul-put32 Inv-loop μ-loop
 mul-put32 c = omega arith
@@ -34,13 +34,13 @@ loop-less : tie.Need-loop-less Inv-loop μ-loop
 loop-less c = omega arith
 
 loop-again : tie.Need-loop-again Inv-loop μ-loop
-loop-again c = (omega arith, c .before .before .put32 .kept .0 ∙ c .before .before .before .before .before .loop .inv .1, stamp-turn _ _ _ _ _ _ (c .before .before .before .before .loop-test .taken) (c .before .before .before .before .before .loop .inv .2) (put-in (c .before .before .put32 .ensures) (omega arith)))
+loop-again c = (c .before .before .put32 .kept .0 ∙ c .before .before .before .before .before .loop .inv .0, stamp-turn _ _ _ _ _ _ (c .before .before .before .before .loop-test .taken) (c .before .before .before .before .before .loop .inv .1) (put-in (c .before .before .put32 .ensures) (omega arith)))
 
 same-length : tie.Need-same-length Inv-loop μ-loop
-same-length c = c .before .loop .inv .1
+same-length c = c .before .loop .inv .0
 
 returns : tie.Need-returns Inv-loop μ-loop
-returns c = stamp-ends _ _ _ _ _ (c .loop-test .left) (c .before .loop .inv .2)
+returns c = stamp-ends _ _ _ _ _ (c .loop-test .left) (c .before .loop .inv .1)
 
 pub stamp-blocks-spec : {M : Type 1} → statement M
 stamp-blocks-spec =

@@ -7,26 +7,17 @@ use borrow.Author.Needs.{needs}
 use Rattle.log.proofs.parts.unmount.Statement.{statement}
 use Rattle.log.proofs.parts.unmount.Tie as tie
 
-add-put32 : tie.Need-add-put32
-add-put32 c = search needs
-
 put32-requires : tie.Need-put32-requires
 put32-requires c κs = search needs
 
-add-put8 : tie.Need-add-put8
-add-put8 c = search needs
+put32-requires-2 : tie.Need-put32-requires-2
+put32-requires-2 c κs = search needs
 
 put8-requires : tie.Need-put8-requires
 put8-requires c κs = search needs
 
-add-put8-2 : tie.Need-add-put8-2
-add-put8-2 c = search needs
-
 put8-requires-2 : tie.Need-put8-requires-2
 put8-requires-2 c κs = search needs
-
-add-put-le16 : tie.Need-add-put-le16
-add-put-le16 c = search needs
 
 put-le16-requires : tie.Need-put-le16-requires
 put-le16-requires c κs = search needs
@@ -36,19 +27,16 @@ same-length c = search needs
 
 returns : tie.Need-returns
 unfolding unmountFields
-returns c = rw (put-in (c .before .before .put-le16 .ensures) (search needs), put-in (c .before .before .before .before .before .before .put82 .ensures) (search needs), put-in (c .before .before .before .before .before .before .before .before .before .before .put8 .ensures) (search needs), put-in (c .before .before .before .before .before .before .before .before .before .before .before .before .before .before .put32 .ensures) (search needs)) refl
+returns c = rw (put-in (c .before .before .put-le16 .ensures) (search needs), put-in (c .before .before .before .before .before .before .put82 .ensures) (search needs), put-in (c .before .before .before .before .before .before .before .before .before .before .put8 .ensures) (search needs), put-in (c .before .before .before .before .before .before .before .before .before .before .before .before .before .before .put322 .ensures) (search needs), put-in (c .before .before .before .before .before .before .before .before .before .before .before .before .before .before .before .before .before .before .put32 .ensures) (search needs)) refl
 
 pub unmount-spec : {M : Type 1} → statement M
 unmount-spec =
     tie.close
     (tie.spec
-    add-put32
     put32-requires
-    add-put8
+    put32-requires-2
     put8-requires
-    add-put8-2
     put8-requires-2
-    add-put-le16
     put-le16-requires
     same-length
     returns)
