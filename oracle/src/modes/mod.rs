@@ -128,7 +128,7 @@ pub fn named(name: &str) -> Option<Box<dyn Mode + Sync>> {
         "reader" => Box::new(reader::Reader),
         "tables" => Box::new(reader::Tables),
         "damage" => Box::new(damage::Damage::new()),
-        "mkfs" => Box::new(made::Made),
+        "mkfs" => Box::new(made::Made::new()),
         "readings" => Box::new(readings::Readings::new()),
         "model" => Box::new(models::Step),
         "model_list" => Box::new(models::List),

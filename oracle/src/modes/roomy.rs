@@ -4,6 +4,7 @@
 use std::io;
 
 use super::damage::Damage;
+use super::made::Made;
 use super::plans::{accepted, Planlist, Plans};
 use super::reader::{Reader, Tables};
 use super::requests::Requests;
@@ -42,6 +43,7 @@ pub fn named(name: &str) -> Option<Box<dyn Mode + Sync>> {
         "refusals" => boxed(Box::new(Refusals), refused, 0),
         "reader" => boxed(Box::new(Reader), run, 0),
         "tables" => boxed(Box::new(Tables), run, 0),
+        "mkfs" => Some(Box::new(Made::roomy())),
         "damage" => Some(Box::new(Damage::roomy())),
         _ => None,
     }
