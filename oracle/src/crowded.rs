@@ -1,4 +1,4 @@
-//! Requests from a seed for disks whose log group is crowded: where roomy sizing gives another log than the old one, or another number.
+//! Requests from a seed for disks whose log group is crowded: where roomy sizing gives another log than plain sizing, or another number.
 
 use crate::random::Random;
 use crate::request::{op, Request};
@@ -109,7 +109,7 @@ pub fn request(r: &mut Random, groups: u64) -> Request {
     q
 }
 
-/// The request's records with a sizing: mostly roomy, but the old one, none, another value or two of them too; malformed in other ways sometimes.
+/// The request's records with a sizing: mostly roomy, but plain, none, another value or two of them too; malformed in other ways sometimes.
 pub fn records(r: &mut Random, q: &Request) -> Vec<u8> {
     let mut q = q.clone();
     q.options[op::SIZING] = match r.below(32) {

@@ -4,7 +4,7 @@
 //! order of the written records, the superblocks' counts and root inodes, and the reader's answers.
 //! The Rust's, asked with the model's geometry: the default size of groups and the largest, `plan_ag`, and the bytes of heads,
 //! root chunk and log record, none of which looks at the sizing but through the log's blocks.
-//! In the old sizing the model is held to the Rust by the modes `model` and `model_list`.
+//! In plain sizing the model is held to the Rust by the modes `model` and `model_list`.
 
 use std::io;
 
@@ -21,10 +21,10 @@ use crate::request::{op, Request};
 const MIB: u64 = 1 << 20;
 const TIB: u64 = 1 << 40;
 
-/// How the log's upper limit is found.
+/// How the log's upper limit is found: by document 01, or by document 02's option.
 #[derive(Clone, Copy, Debug, PartialEq, Eq)]
 pub enum Sizing {
-    Old,
+    Plain,
     Roomy,
 }
 
@@ -142,7 +142,7 @@ fn free_list(f: &Features) -> u64 {
 /// Document 01's log, and document 02's where its group's own length is the measure.
 fn log_blocks(sizing: Sizing, s: &Sizes, g: &Groups, f: &Features) -> u64 {
     let limit = match sizing {
-        Sizing::Old => g.size - head_blocks(s, f) - 5,
+        Sizing::Plain => g.size - head_blocks(s, f) - 5,
         Sizing::Roomy => g.length(g.count / 2).saturating_sub(head_blocks(s, f) + free_list(f).max(5)),
     };
     let wanted = (g.blocks / 2048).max(64 * MIB / s.block);
@@ -215,6 +215,14 @@ pub fn run(q: &Request, sizing: Sizing) -> Result<Geometry, u32> {
     Ok(g)
 }
 
+/// The sizing that the reader reports of an accepted run: plain where that leaves the same log.
+pub fn reported(q: &Request, g: &Geometry) -> Sizing {
+    match planned(q, Sizing::Plain) {
+        Ok(plain) if plain.logblocks == g.logblocks => Sizing::Plain,
+        _ => Sizing::Roomy,
+    }
+}
+
 /// The superblock of a group while the run isn't finished. Those of the groups after 0 count the chunk as free and don't name the root
 /// inode, but for the last one and, above 2 groups, group (agcount - 1) / 2.
 fn superblock(g: &Geometry, uuid: [u8; 16], k: u64) -> SbState {
@@ -284,12 +292,12 @@ pub struct Found {
     pub uuid: [u8; 16],
 }
 
-/// Group 0's head: the old sizing first, which is the one reported where both leave these bytes.
+/// Group 0's head: plain sizing first, which is the one reported where both leave these bytes.
 pub fn read_group0(bytes: &[u8]) -> Result<Found, u32> {
     refuse(27, bytes.len() < 512)?;
     let q = name(bytes).ok_or(30u32)?;
     let uuid = q.id.unwrap_or_default();
-    let both = [Sizing::Old, Sizing::Roomy];
+    let both = [Sizing::Plain, Sizing::Roomy];
     let accepted = both.map(|sizing| step(&q, sizing).ok());
     let length = accepted.iter().flatten().map(head_bytes).next().ok_or(30u32)?;
     refuse(27, bytes.len() != length)?;

@@ -136,7 +136,7 @@ impl Request {
     pub fn sizing(&self) -> Sizing {
         match self.options[op::SIZING] {
             Some(1) => Sizing::Roomy,
-            _ => Sizing::Old,
+            _ => Sizing::Plain,
         }
     }
 

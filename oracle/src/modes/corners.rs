@@ -32,19 +32,19 @@ struct Corner {
     agsize: u64,
     agcount: u64,
     features: u64,
-    old: Answer,
+    plain: Answer,
     roomy: Answer,
 }
 
 const ALL: u64 = 127;
 const NO_RMAPBT: u64 = 125;
 
-const fn by_size(name: &'static str, sizes: [u64; 2], features: u64, old: Answer, roomy: Answer) -> Corner {
-    Corner { name, blocks: sizes[0], agsize: sizes[1], agcount: 0, features, old, roomy }
+const fn by_size(name: &'static str, sizes: [u64; 2], features: u64, plain: Answer, roomy: Answer) -> Corner {
+    Corner { name, blocks: sizes[0], agsize: sizes[1], agcount: 0, features, plain, roomy }
 }
 
-const fn by_count(name: &'static str, counts: [u64; 2], features: u64, old: Answer, roomy: Answer) -> Corner {
-    Corner { name, blocks: counts[0], agsize: 0, agcount: counts[1], features, old, roomy }
+const fn by_count(name: &'static str, counts: [u64; 2], features: u64, plain: Answer, roomy: Answer) -> Corner {
+    Corner { name, blocks: counts[0], agsize: 0, agcount: counts[1], features, plain, roomy }
 }
 
 const CORNERS: [Corner; 20] = [
@@ -70,7 +70,7 @@ const CORNERS: [Corner; 20] = [
     by_count("groups without a block", [20_000 * 16_396 - 19_000, 20_000], ALL, Refused(24), Refused(22)),
 ];
 
-/// Both sizings, the old one as absent and as 0.
+/// Both sizings, plain as absent and as 0.
 const SIZINGS: [Option<u64>; 3] = [None, Some(0), Some(1)];
 
 impl Corner {
@@ -121,7 +121,7 @@ impl Mode for Corners {
 
     fn answer(&self, case: &[u8], out: Out) -> io::Result<Told> {
         let (c, q) = corner(case).ok_or_else(|| io::Error::other("no corner"))?;
-        let wanted = if q.options[op::SIZING] == Some(1) { c.roomy } else { c.old };
+        let wanted = if q.options[op::SIZING] == Some(1) { c.roomy } else { c.plain };
         let (told, run) = accepted(case);
         let found = run.map_or(Refused(told.number), |(_, g)| Log(g.logblocks));
         if found != wanted {

@@ -1,4 +1,4 @@
-//! The model (`../model.rs`) in the old sizing, in the port's place, against the Rust: its geometry step, and its written records.
+//! The model (`../model.rs`) in plain sizing, in the port's place, against the Rust: its geometry step, and its written records.
 
 use std::io;
 
@@ -31,7 +31,7 @@ impl Mode for Step {
     }
 
     fn ours(&self, case: &[u8]) -> Option<Vec<u8>> {
-        let answer = Request::parse(case).ok_or(MALFORMED).and_then(|q| model::step(&q, Sizing::Old));
+        let answer = Request::parse(case).ok_or(MALFORMED).and_then(|q| model::step(&q, Sizing::Plain));
         Some(line(answer.as_ref().err().copied().unwrap_or(0), answer.as_ref().ok()).into_bytes())
     }
 
@@ -60,7 +60,7 @@ impl Mode for List {
                     q.encode()
                 }
             };
-            if accepted(&case).1.is_none_or(|(q, g)| g.agcount <= GROUPS && q.sizing() == Sizing::Old) {
+            if accepted(&case).1.is_none_or(|(q, g)| g.agcount <= GROUPS && q.sizing() == Sizing::Plain) {
                 return case;
             }
         }
@@ -73,7 +73,7 @@ impl Mode for List {
     fn ours(&self, case: &[u8]) -> Option<Vec<u8>> {
         let mut out = Vec::new();
         let q = Request::parse(case);
-        match q.as_ref().ok_or(MALFORMED).and_then(|q| model::run(q, Sizing::Old)) {
+        match q.as_ref().ok_or(MALFORMED).and_then(|q| model::run(q, Sizing::Plain)) {
             Ok(g) => drop(model::written(&q?, &g, Records(&mut out)).ok()?),
             Err(number) => out.extend(format!("refused {number}\n").bytes()),
         }

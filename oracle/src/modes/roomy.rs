@@ -1,5 +1,5 @@
 //! Roomy sizing: other modes on crowded disks with code 12. The answers are the model's (`../model.rs`), which the Rust isn't asked for;
-//! where the code is absent or 0 they are the Rust's. Cases are counted by what the old sizing gives beside roomy's.
+//! where the code is absent or 0 they are the Rust's. Cases are counted by what plain sizing gives beside roomy's.
 
 use std::io;
 
@@ -100,13 +100,13 @@ pub fn run(r: &mut Random) -> Vec<u8> {
 
 /// What the two sizings give to a request.
 pub fn beside(q: &Request) -> &'static str {
-    match (planned(q, Sizing::Old), planned(q, Sizing::Roomy)) {
+    match (planned(q, Sizing::Plain), planned(q, Sizing::Roomy)) {
         (Ok(a), Ok(b)) if a == b => "the same log in both sizings,",
         (Ok(_), Ok(_)) => "different logs, both accepted,",
-        (Err(25), Ok(_)) => "25 in the old sizing, accepted in roomy,",
-        (Ok(_), Err(22)) => "accepted in the old sizing, 22 in roomy,",
-        (Err(24), Err(22)) => "24 in the old sizing, 22 in roomy,",
-        (Err(25), Err(22)) => "25 in the old sizing, 22 in roomy,",
+        (Err(25), Ok(_)) => "25 in plain sizing, accepted in roomy,",
+        (Ok(_), Err(22)) => "accepted in plain sizing, 22 in roomy,",
+        (Err(24), Err(22)) => "24 in plain sizing, 22 in roomy,",
+        (Err(25), Err(22)) => "25 in plain sizing, 22 in roomy,",
         (Err(a), Err(b)) if a == b => "refused alike in both sizings,",
         _ => "OTHERWISE,",
     }
@@ -121,7 +121,7 @@ impl Mode for Roomy {
         let told = self.mode.answer(case, out)?;
         let kind = match case.get(self.from..).and_then(Request::parse) {
             None => "malformed,",
-            Some(q) if q.sizing() == Sizing::Old => "the old sizing,",
+            Some(q) if q.sizing() == Sizing::Plain => "plain sizing,",
             Some(q) => beside(&q),
         };
         Ok(Told { kind, ..told })

@@ -31,8 +31,8 @@ fn request(r: &mut Random) -> Request {
         let mut q = if corner { corners::pick(r) } else { crowded::request(r, GROUPS) };
         q.id = Some(r.bytes(16).try_into().unwrap());
         let most = if corner { 3000 } else { GROUPS };
-        let (old, roomy) = (planned(&q, Sizing::Old), planned(&q, Sizing::Roomy));
-        if old.or(roomy).is_ok_and(|g| g.agcount <= most) {
+        let (plain, roomy) = (planned(&q, Sizing::Plain), planned(&q, Sizing::Roomy));
+        if plain.or(roomy).is_ok_and(|g| g.agcount <= most) {
             return q;
         }
     }
@@ -45,14 +45,14 @@ fn requests(case: &[u8]) -> Option<(Request, Request)> {
     Some((Request::parse(f.bytes(n))?, Request::parse(f.rest())?))
 }
 
-/// The disks of a request, in the old sizing by the Rust, in roomy by the model; none where it is refused.
+/// The disks of a request, in plain sizing by the Rust, in roomy by the model; none where it is refused.
 fn disks(q: &Request) -> io::Result<[Option<Disk>; 2]> {
     let of = |sizing, value| {
         let mut q = q.clone();
         q.options[op::SIZING] = value;
         planned(&q, sizing).ok().map(|g| Disk::of(q, g)).transpose()
     };
-    Ok([of(Sizing::Old, None)?, of(Sizing::Roomy, Some(1))?])
+    Ok([of(Sizing::Plain, None)?, of(Sizing::Roomy, Some(1))?])
 }
 
 /// The head with the fields of another request's name.
