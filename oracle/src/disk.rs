@@ -7,6 +7,7 @@ use std::ops::Range;
 use mkfs_xfs::geometry::Geometry;
 
 use crate::frames::Fields;
+use crate::model::{self, Sizing};
 use crate::modes::geometry::step;
 use crate::recorded::{formatted, Sink};
 use crate::request::{op, Request};
@@ -109,8 +110,8 @@ impl Disk {
     }
 }
 
-/// What group 0's head names, by document 01's places: the request that asks for it, and its geometry.
-pub fn named(head: &[u8]) -> Option<(Request, Geometry)> {
+/// What group 0's head names, by document 01's places: the request that asks for it; none where its bytes pass 2^64 - 1.
+pub fn name(head: &[u8]) -> Option<Request> {
     let at = |from: usize| Fields(&head[from..]);
     let block = u64::from(at(4).u32());
     let mut q = Request { logical: 512, physical: 512, ..Request::default() };
@@ -125,6 +126,12 @@ pub fn named(head: &[u8]) -> Option<(Request, Geometry)> {
     q.options[op::FEATURES] = Some(bits.iter().enumerate().map(|(i, &b)| u64::from(b) << i).sum());
     q.label = Some(head[108..120].to_vec());
     q.id = Some(at(32).array());
-    let geometry = step(&q).1?;
+    Some(q)
+}
+
+/// What group 0's head names, and its geometry, if either sizing accepts it.
+pub fn named(head: &[u8]) -> Option<(Request, Geometry)> {
+    let q = name(head)?;
+    let geometry = step(&q).1.or_else(|| model::step(&q, Sizing::Roomy).ok())?;
     Some((q, geometry))
 }

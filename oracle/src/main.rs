@@ -9,6 +9,8 @@
 //!                                                  program that replays them
 //!     oracle compare MODE --cases N --seed S       both sides on N cases; the port's is the static library that is
 //!         [--program PATH | --each PATH]           linked in, a program over streams, or one run for each case
+//!
+//! With --roomy the cases are crowded disks in roomy sizing (modes/roomy.rs), for the modes that have such.
 
 use std::io::{self, BufReader, BufWriter, Read, Write};
 use std::process::ExitCode;
@@ -17,8 +19,10 @@ use modes::Mode;
 use random::Random;
 
 mod compare;
+mod crowded;
 mod disk;
 mod frames;
+mod model;
 mod modes;
 mod numbers;
 mod random;
@@ -31,6 +35,7 @@ struct Words {
     cases: u64,
     seed: u64,
     frames: bool,
+    roomy: bool,
     program: Option<String>,
     each: Option<String>,
     folder: Option<String>,
@@ -38,13 +43,15 @@ struct Words {
 
 impl Words {
     fn read(words: &[String]) -> Option<Words> {
-        let mut w = Words { cases: 1000, seed: 1, frames: false, program: None, each: None, folder: None };
+        let mut w =
+            Words { cases: 1000, seed: 1, frames: false, roomy: false, program: None, each: None, folder: None };
         let mut it = words.iter();
         while let Some(word) = it.next() {
             match word.as_str() {
                 "--cases" => w.cases = it.next()?.parse().ok()?,
                 "--seed" => w.seed = it.next()?.parse().ok()?,
                 "--frames" => w.frames = true,
+                "--roomy" => w.roomy = true,
                 "--program" => w.program = Some(it.next()?.clone()),
                 "--each" => w.each = Some(it.next()?.clone()),
                 _ if word.starts_with('-') || w.folder.is_some() => return None,
@@ -90,8 +97,8 @@ fn run(words: &[String]) -> Option<io::Result<bool>> {
         _ => "answer",
     };
     let rest = if verb == "answer" { words } else { &words[1..] };
-    let mode = modes::named(rest.first()?)?;
     let w = Words::read(&rest[1..])?;
+    let mode = if w.roomy { modes::roomy::named } else { modes::named }(rest.first()?)?;
     if w.folder.is_some() != (verb == "replay") {
         return None;
     }
@@ -121,7 +128,7 @@ fn main() -> ExitCode {
             ExitCode::from(2)
         }
         None => {
-            eprintln!("usage: oracle [cases | count | sample | replay | compare] MODE [--cases N] [--seed S] [--frames] [--program PATH | --each PATH] [DIR]");
+            eprintln!("usage: oracle [cases | count | sample | replay | compare] MODE [--cases N] [--seed S] [--roomy] [--frames] [--program PATH | --each PATH] [DIR]");
             ExitCode::from(2)
         }
     }

@@ -9,6 +9,7 @@ use mkfs_xfs::error::{Error, Result};
 use mkfs_xfs::format::format;
 use mkfs_xfs::geometry::Geometry;
 
+use crate::model::{self, Sizing};
 use crate::request::Request;
 
 /// What is done with that which `format` writes.
@@ -18,8 +19,11 @@ pub trait Sink: Send {
     fn flush(&mut self) -> io::Result<()>;
 }
 
-/// Runs `format` on a device of the request's sizes, and gives back the sink with all that was written.
+/// Runs `format` on a device of the request's sizes, and gives back the sink with all that was written. A roomy run is the model's.
 pub fn formatted<S: Sink>(q: &Request, g: &Geometry, sink: S) -> io::Result<S> {
+    if q.sizing() == Sizing::Roomy {
+        return model::written(q, g, sink);
+    }
     let (size, logical, physical) = (q.device, q.logical, q.physical);
     let device = Recorded { size, logical, physical, block: g.blocksize as usize, sink: Mutex::new(sink) };
     block_on(format(&device, &q.params())).map_err(|e| io::Error::other(format!("{e:?}")))?;

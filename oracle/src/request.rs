@@ -1,8 +1,9 @@
-//! Document 01's input records: read, as the Rust's parameters, and written.
+//! Document 01's input records, with document 02's codes: read, as the Rust's parameters, and written.
 
 use mkfs_xfs::geometry::{Features, Params, Timestamp};
 
 use crate::frames::Fields;
+use crate::model::Sizing;
 
 pub const MALFORMED: u32 = 28;
 
@@ -19,7 +20,8 @@ pub mod op {
     pub const FEATURES: usize = 9;
     pub const SECONDS: usize = 10;
     pub const NANOSECONDS: usize = 11;
-    pub const LAST: usize = NANOSECONDS;
+    pub const SIZING: usize = 12;
+    pub const LAST: usize = SIZING;
 }
 
 /// What the records say. `options[code]` is the value of the `OP` record with that code.
@@ -33,12 +35,13 @@ pub struct Request {
     pub id: Option<[u8; 16]>,
 }
 
-/// The largest value that an option's type in the Rust holds.
+/// The largest value that an option's type in the Rust holds; that of the sizing is document 02's.
 fn largest(code: usize) -> u64 {
     match code {
         op::BLOCK | op::SECTOR | op::INODE | op::NANOSECONDS => u64::from(u32::MAX),
         op::IMAXPCT => u64::from(u8::MAX),
         op::FEATURES => 127,
+        op::SIZING => 1,
         _ => u64::MAX,
     }
 }
@@ -126,6 +129,14 @@ impl Request {
             bigtime: on(4),
             nrext64: on(5),
             sparse: on(6),
+        }
+    }
+
+    /// Absent or 0 is document 01's sizing.
+    pub fn sizing(&self) -> Sizing {
+        match self.options[op::SIZING] {
+            Some(1) => Sizing::Roomy,
+            _ => Sizing::Plain,
         }
     }
 

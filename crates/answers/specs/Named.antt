@@ -17,23 +17,23 @@ use Rattle.answers.specs.declared.Named.{Named}
 use Rattle.geometry.specs.declared.Geometry.{Geometry}
 use Rattle.geometry.specs.declared.Computed.{Computed}
 
--- block, sector and inode size, agsize, imaxpct, label and features are given, size and agcount absent
-unfoldable pub namedOptions : Named → Params
-namedOptions n =
+-- block, sector and inode size, agsize, imaxpct, label and features are given, size and agcount absent; a superblock doesn't name the sizing
+unfoldable pub namedOptions : Bool → Named → Params
+namedOptions roomy n =
     options Absent (Given32 (n .blocksize)) (Given32 (n .sectsize)) (Given32 (n .inodesize)) Absent (Given (n .agsize * n .blocksize)) (Given8 (n .imaxpct))
-    (record { length = labelRoom; bytes = n .label }) noUuid AbsentTime Absent (n .features)
+    (record { length = labelRoom; bytes = n .label }) noUuid AbsentTime Absent (n .features) roomy
 
 -- what the geometry step answers for them on a device of the block count's bytes, with logical sector 512
-unfoldable pub namedOn : Named → ℕ → Computed
-namedOn n physical = computeDef (namedOptions n) (n .dblocks * n .blocksize) minSector physical
+unfoldable pub namedOn : Bool → Named → ℕ → Computed
+namedOn roomy n physical = computeDef (namedOptions roomy n) (n .dblocks * n .blocksize) minSector physical
 
 -- the bytes of all blocks, and of a group, fit 64 bits
 unfoldable pub namedFits : Named → Bool
 namedFits n = ltb (n .dblocks * n .blocksize) (2 ^ 64) && ltb (n .agsize * n .blocksize) (2 ^ 64)
 
--- the geometry that is named, or a refusal: 30 where the bytes pass 64 bits
-unfoldable pub namedAnswer : Named → Computed
-namedAnswer n = cond (namedFits n) (namedOn n minSector) (refused 30)
+-- the geometry that is named under a sizing, or a refusal: 30 where the bytes pass 64 bits
+unfoldable pub namedAnswer : Bool → Named → Computed
+namedAnswer roomy n = cond (namedFits n) (namedOn roomy n minSector) (refused 30)
 
 -- what the geometry's superblock names
 unfoldable pub namesOf : Geometry → Named
@@ -49,7 +49,7 @@ namesOf g =
       label = g .label;
     }
 
--- the geometry is an answer: it comes again from what it names
+-- the geometry is an answer: it comes again from what it names under its sizing
 unfoldable pub isAnswer : Geometry → Bool
 isAnswer g =
-    eqb (namedAnswer (namesOf g) .number) 0 && sameGeometry (namedAnswer (namesOf g) .geometry) g
+    eqb (namedAnswer (g .roomy) (namesOf g) .number) 0 && sameGeometry (namedAnswer (g .roomy) (namesOf g) .geometry) g

@@ -50,5 +50,6 @@ sameFrom (suc n) i a b = eqb (getD a i 0) (getD b i 0) && sameFrom n (i + 1) a b
 
 unfoldable pub sameGeometry : Geometry → Geometry → Bool
 sameGeometry a b =
-    sameFeatures (a .features) (b .features)
-    && (sameFrom 12 0 (a .label) (b .label) && sameFrom 19 0 (numbersOf a) (numbersOf b))
+    sameBool (a .roomy) (b .roomy)
+    && (sameFeatures (a .features) (b .features)
+    && (sameFrom 12 0 (a .label) (b .label) && sameFrom 19 0 (numbersOf a) (numbersOf b)))

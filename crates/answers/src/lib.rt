@@ -32,10 +32,10 @@ pub struct Named {
 }
 
 impl Named {
-    // The options that are named; the group's bytes fit.
-    fn options(self) -> Params
+    // The options that are named, under a sizing; the group's bytes fit.
+    fn options(self, roomy: bool) -> Params
         requires { ⌜ self .agsize * self .blocksize < 2 ^ 64 ⌝ }
-        ensures { λ r. ⌜ r ≡ namedOptions self ⌝ }
+        ensures { λ r. ⌜ r ≡ namedOptions roomy self ⌝ }
     {
         let features = self.features;
         let bytes = self.label;
@@ -61,12 +61,13 @@ impl Named {
             time: OptTime::Absent,
             gen_seed: OptU64::Absent,
             features,
+            roomy,
         }
     }
 
-    // The geometry that is named, or the number of its refusal; 30 where the bytes of all blocks or of a group pass 64 bits.
-    pub fn answer(self) -> Computed
-        ensures { λ r. ⌜ r ≡ namedAnswer self ⌝ }
+    // The geometry that is named under a sizing, or the number of its refusal; 30 where the bytes of all blocks or of a group pass 64 bits.
+    pub fn answer(self, roomy: bool) -> Computed
+        ensures { λ r. ⌜ r ≡ namedAnswer roomy self ⌝ }
     {
         let bs = self.blocksize as u64;
         let blocks_fit = product_fits(self.dblocks, bs);
@@ -79,7 +80,7 @@ impl Named {
             };
         }
         let sector = sizes::MIN_SECTORSIZE;
-        Geometry::compute(self.options(), self.dblocks * bs, sector, sector)
+        Geometry::compute(self.options(roomy), self.dblocks * bs, sector, sector)
     }
 }
 
@@ -105,7 +106,7 @@ pub fn names_of(g: Geometry) -> Named
 pub fn is_answer(g: Geometry) -> bool
     ensures { λ r. ⌜ r ≡ isAnswer g ⌝ }
 {
-    let answer = names_of(g).answer();
+    let answer = names_of(g).answer(g.roomy);
     let again = answer.geometry;
     both(answer.number == 0, same_geometry(again, g))
 }

@@ -83,5 +83,6 @@ pub fn same_geometry(a: Geometry, b: Geometry) -> bool
     let l = a.label;
     let m = b.label;
     let ok = same_numbers(numbers(a), numbers(b));
-    both(same_features(f, g), both(same_label(l, m), ok))
+    let ok = both(same_features(f, g), both(same_label(l, m), ok));
+    both(same_bool(a.roomy, b.roomy), ok)
 }

@@ -1,10 +1,9 @@
 -- Uses and totals by the bytes, of every disk that an accepted run leaves, and so of every disk that the reader accepts whole.
 -- Assumes nothing.
-use mathlib.Core.Path.{_≡_, refl, ap, sym, subst, _∙_}
+use mathlib.Core.Path.{_≡_, refl}
 use mathlib.Core.List.{List}
 use Prim.Native.Nat.{ℕ, _<_}
 use Rattle.geometry.specs.declared.Geometry.{Geometry}
-use Rattle.geometry.specs.declared.Computed.{Computed}
 use Rattle.request.specs.declared.Request.{Request}
 use Rattle.run.specs.Runs.{runOf}
 use Rattle.device.specs.Device.{Device, applied, read}
@@ -14,11 +13,10 @@ use Rattle.written.proofs.Left.{left as device-left}
 use Rattle.accepted.specs.Accepted.{AcceptedRun, Source}
 use Rattle.accepted.proofs.Runs.{source-plans, source-label, source-uuid, source-of}
 use Rattle.accepted.proofs.Sound.{sound}
-use Rattle.named.specs.Named.{namedBy}
+use Rattle.exact.specs.Read.{readGroup0}
 use Rattle.exact.specs.Left.{Octets, ReadWhole}
-use Rattle.exact.proofs.Heads.{some-group, left-named}
 use Rattle.exact.proofs.Example.{disk, disk-accepted}
-use Rattle.exact.proofs.Whole.{exact-whole}
+use Rattle.exact.proofs.Whole.{whole-source, whole-heads}
 use Rattle.byuse.specs.ByUse.{LeftHeads, Used}
 use Rattle.byuse.proofs.OneUse.{one-use, no-use}
 use Rattle.byuse.proofs.Totals.{free-total, count-total}
@@ -55,15 +53,12 @@ device-used r a d =
     used (run .geometry) (run .uuid) heads
     (left (run .geometry) (run .uuid) heads (source-of r a) (device-left run (r .device) (sound r a) d .head))
 
--- EVERY DISK THAT THE READER ACCEPTS WHOLE, with the geometry that its superblock names
-pub whole-used : (heads : ℕ → List ℕ) (log : List ℕ) → Octets (heads 0) → ReadWhole heads log → Used (namedBy (heads 0) .geometry) heads
+-- EVERY DISK THAT THE READER ACCEPTS WHOLE, with the geometry that group 0's head gives
+pub whole-used : (heads : ℕ → List ℕ) (log : List ℕ) → Octets (heads 0) → ReadWhole heads log → Used (readGroup0 (heads 0) .geometry) heads
 whole-used heads log o r =
-    let w = exact-whole heads log o .0 r in
-    let g = runOf (w .request) .geometry in
-    let u = runOf (w .request) .uuid in
-    let s = source-of (w .request) (w .accepted) in
-    let e : namedBy (heads 0) .geometry ≡ g = ap (λ (xs : List ℕ). namedBy xs .geometry) (w .head 0 (some-group g u s)) ∙ ap (λ (c : Computed). c .geometry) (left-named g u s) in
-    subst (λ (x : Geometry). Used x heads) (sym e) (used g u heads (left g u heads s (w .head)))
+    let g = readGroup0 (heads 0) .geometry in
+    let u = readGroup0 (heads 0) .uuid in
+    used g u heads (left g u heads (whole-source heads log o r) (whole-heads heads log o r))
 
 -- an accepted run, so that nothing here is said of nothing
 pub example-used : Used (runOf disk .geometry) (headLeft (runOf disk .geometry) (runOf disk .uuid))

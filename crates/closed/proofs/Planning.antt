@@ -4,9 +4,9 @@ use mathlib.Core.Path.{_≡_, refl, ap, _∙_}
 use mathlib.Core.Bool.{Bool, true, false}
 use mathlib.Core.Logic.{_⊎_, inl, inr}
 use mathlib.Core.List.{[], _∷_, _++_}
-use Prim.Native.Nat.{ℕ, _+_, _-_, _<_}
+use Prim.Native.Nat.{ℕ, _+_, _-_, _≤_, _<_}
 use native.Mathlib.Omega.{arith}
-use borrow.Author.Tests.{eq-eqb, ne-eqb}
+use borrow.Author.Tests.{eq-eqb, ne-eqb, eqb-true, le-ltb}
 use lib.Dec.{ltb, eqb}
 use lib.ListN.{length}
 use Rattle.seqs.specs.Lists.{both, choose}
@@ -14,7 +14,7 @@ use Rattle.seqs.specs.Runs.{weigh, blocks}
 use Rattle.seqs.proofs.Weights.{additive-blocks, weigh-append, weigh-one}
 use Rattle.geometry.specs.declared.Geometry.{Geometry}
 use Rattle.answers.specs.Named.{isAnswer}
-use Rattle.layout.specs.Places.{freelistOf}
+use Rattle.layout.specs.Places.{freelistOf, groupBlocks}
 use Rattle.layout.proofs.Bounding.{answer-bounds}
 use Rattle.places.proofs.Refused.{group-there}
 use Rattle.site.specs.declared.Site.{Site}
@@ -97,6 +97,22 @@ module _ (g : Geometry) (l : length (g .label) ≡ 12) (h : isAnswer g ≡ true)
   -- THE LOG GROUP IS REFUSED EXACTLY WHERE ITS FREE BLOCKS ARE FEWER THAN ITS FREE LIST
   pub log-group-refused : planned g (g .logagno) .number ≡ choose (ltb (freeBlocks (siteOf g (g .logagno))) (freelistOf (g .features))) 25 0
   log-group-refused = planned-number (g .logagno) (answer-bounds g l h .places .log-inside) ∙ rw log-short
+
+  roomy-long : g .roomy ≡ true → short (siteOf g (g .logagno)) ≡ false
+  unfolding short siteOf listAt
+  roomy-long e =
+      let z = answer-bounds g l h .places in
+      let w = z .log-roomy e in
+      let s : g .«log_agbno» + g .logblocks + freelistOf (g .features) ≤ groupBlocks (g .dblocks) (g .agsize) (g .agcount) (g .logagno) = w in
+      rw (eq-eqb (g .logagno) (g .logagno) refl) (le-ltb _ (freelistOf (g .features)) (omega arith))
+
+  -- IN ROOMY SIZING NO GROUP IS REFUSED
+  pub roomy-planned : g .roomy ≡ true → (k : ℕ) → k < g .agcount → planned g k .number ≡ 0
+  roomy-planned e k i = planned-number k i ∙ ap (λ (t : Bool). choose t 25 0) (by-group k (eqb k (g .logagno)) refl)
+    where
+      by-group : (k : ℕ) (t : Bool) → eqb k (g .logagno) ≡ t → short (siteOf g k) ≡ false
+      by-group k true q = rw (eqb-true k (g .logagno) q) (roomy-long e)
+      by-group k false q = elsewhere-long k q
 
   -- GROUP 0 IS PLANNED
   pub first-planned : planned g 0 .number ≡ 0

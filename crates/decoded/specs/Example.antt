@@ -32,6 +32,7 @@ small =
       «log_agbno» = 0;
       features = record { finobt = false; rmapbt = false; reflink = false; inobtcount = false; bigtime = false; nrext64 = false; sparse = false };
       label = replicate 12 0;
+      roomy = false;
     }
 
 -- n bytes with fields

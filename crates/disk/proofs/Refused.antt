@@ -15,8 +15,9 @@ use Rattle.answers.specs.Named.{isAnswer}
 use Rattle.layout.proofs.Bounding.{answer-bounds}
 use Rattle.named.specs.Named.{namedBy, uuidAt}
 use Rattle.refusals.specs.Table.{first}
-use Rattle.exact.specs.Read.{foundAs, firstTests, readGroup0, placeTests, groupNumber, readGroup, readLog}
-use Rattle.exact.proofs.First.{number-found}
+use Rattle.exact.specs.Read.{foundAs, firstTests, readAs, readGroup0, placeTests, groupNumber, readGroup, readLog}
+use Rattle.exact.specs.declared.Found.{Found}
+use Rattle.exact.proofs.First.{number-as, one-of}
 use Rattle.exact.proofs.Others.{number-read}
 use Rattle.exact.proofs.Numbers.{first-numbers}
 use Rattle.disk.specs.declared.Disk.{Disk}
@@ -30,11 +31,14 @@ found-none : (n : ℕ) (g : Geometry) (u : List ℕ) → (n ≡ 0 → ⊥) → f
 unfolding foundAs
 found-none n g u h = rw (ne-eqb n 0 h) refl
 
+none-as : (xs : List ℕ) (roomy : Bool) → (readAs roomy xs .number ≡ 0 → ⊥) → readAs roomy xs .geometry ≡ zeroGeometry
+unfolding readAs
+none-as xs roomy h =
+    let n = first (firstTests xs (namedBy roomy xs) (uuidAt xs)) 0 in
+    found-none n (namedBy roomy xs .geometry) (uuidAt xs) (λ z. h (number-as roomy xs ∙ z))
+
 no-geometry : (xs : List ℕ) → (readGroup0 xs .number ≡ 0 → ⊥) → readGroup0 xs .geometry ≡ zeroGeometry
-unfolding readGroup0
-no-geometry xs h =
-    let n = first (firstTests xs (namedBy xs .geometry) (uuidAt xs)) 0 in
-    found-none n (namedBy xs .geometry) (uuidAt xs) (λ z. h (number-found n (namedBy xs .geometry) (uuidAt xs) ∙ z))
+no-geometry xs = one-of xs (λ (f : Found). (f .number ≡ 0 → ⊥) → f .geometry ≡ zeroGeometry) (none-as xs)
 
 small-at : (n : ℕ) (a b c : Bool) → eqb n 0 ≡ a → eqb n 27 ≡ b → eqb n 30 ≡ c → T (a || (b || (c || false))) → n < 31
 small-at n true b c e f g t = let z = eqb-true n 0 e in omega arith

@@ -15,7 +15,7 @@ use Rattle.params.specs.Params.{noOptions, withAgcount}
 use Rattle.sizes.specs.Sizes.{defaultSector, sizesOf, sizesRefusals}
 use Rattle.geometry.specs.declared.Geometry.{Geometry}
 use Rattle.grouping.specs.Groups.{askedBlocks, defaultSize, initialGroups, isShort, trim, optionsRefusals, groupsRefusals}
-use Rattle.logsize.specs.Log.{headerOf, preallocOf, logBlocks, defaultImaxpct, lastRefusals}
+use Rattle.logsize.specs.Log.{headerOf, preallocOf, logLimit, logBlocks, defaultImaxpct, lastRefusals}
 use Rattle.geometry.specs.Compute.{withGroups, withSizes, chosenOf, refusals, refusalOf, labelOf, geometryOf, zeroGeometry, computeDef}
 use Rattle.geometry.specs.Compute as compute
 use Rattle.answers.specs.Same.{sameFeatures, numbersOf, sameFrom, sameGeometry}
@@ -61,7 +61,7 @@ record Computed : Type 0 where
   pub zero-answer : isAnswer zeroGeometry ≡ false
 
 computed : Computed
-unfolding disk tight when bit ceilDiv powerIn powerLog leastFrom log2Up defaultSector sizesOf sizesRefusals askedBlocks defaultSize initialGroups isShort trim optionsRefusals groupsRefusals headerOf preallocOf logBlocks defaultImaxpct lastRefusals withGroups withSizes chosenOf refusals refusalOf labelOf geometryOf zeroGeometry compute.answer computeDef sameFeatures numbersOf sameFrom sameGeometry namedOptions namedOn namedFits namedAnswer namesOf isAnswer ibtBlock rmapBlock refcBlock freelistOf chunkOf clusterOf alignOf roundUp aligned rootChunkOf groupBlocks fsbOf inoOf groupRefusal siteOf firstIndex pushed appended fold turns upFrom valid weigh blocks negative cut takenAt takenFrom taken fitter bigger pickedFrom picked joinsLeft joinsRight insertedAt takes inserted freeAtFirst rmapAtFirst atFirst failed noted moved turn listed chunked answer planOf planned firstTo plansNumber timeInside notEarly shifted timeOf stepOf timeRefusal runNumber
+unfolding disk tight when bit ceilDiv powerIn powerLog leastFrom log2Up defaultSector sizesOf sizesRefusals askedBlocks defaultSize initialGroups isShort trim optionsRefusals groupsRefusals headerOf preallocOf logLimit logBlocks defaultImaxpct lastRefusals withGroups withSizes chosenOf refusals refusalOf labelOf geometryOf zeroGeometry compute.answer computeDef sameFeatures numbersOf sameFrom sameGeometry namedOptions namedOn namedFits namedAnswer namesOf isAnswer ibtBlock rmapBlock refcBlock freelistOf chunkOf clusterOf alignOf roundUp aligned rootChunkOf groupBlocks fsbOf inoOf groupRefusal siteOf firstIndex pushed appended fold turns upFrom valid weigh blocks negative cut takenAt takenFrom taken fitter bigger pickedFrom picked joinsLeft joinsRight insertedAt takes inserted freeAtFirst rmapAtFirst atFirst failed noted moved turn listed chunked answer planOf planned firstTo plansNumber timeInside notEarly shifted timeOf stepOf timeRefusal runNumber
 computed = record { disk-number = refl; tight-answer = refl; tight-plans = refl; zero-answer = refl }
 
 pub disk-accepted : AcceptedRun disk

@@ -32,7 +32,7 @@ use Rattle.accepted.proofs.Sizes.{block-least, block-most}
 use Rattle.accepted.proofs.Runs.{source-plans, source-answer, source-label, source-label-bytes, source-uuid, source-uuid-bytes}
 use Rattle.accepted.proofs.Sound.{sound}
 use Rattle.named.specs.Named.{namesAt, namedBy, uuidAt}
-use Rattle.named.proofs.Back.{names-back, named-back, uuid-back, progress-back}
+use Rattle.named.proofs.Back.{names-back, named-back, uuid-back, log-back, progress-back}
 use Rattle.exact.specs.Left.{Octets, Handed}
 
 -- a sector is at most a block
@@ -102,8 +102,8 @@ module _ (g : Geometry) (u : List ℕ) (s : Source g u) where
   pub log-length : length (logBlock g u) ≡ g .blocksize
   log-length = rw (← s .geometry, ← s .uuid) (sound (s .request) (s .accepted) .log-long)
 
-  -- GROUP 0'S NAMES THE GEOMETRY AND THE UUID
-  pub left-named : namedBy (headLeft g u 0) ≡ record { number = 0; geometry = g }
+  -- GROUP 0'S NAMES THE GEOMETRY, UNDER ITS SIZING, AND THE UUID
+  pub left-named : namedBy (g .roomy) (headLeft g u 0) ≡ record { number = 0; geometry = g }
   unfolding headLeft headFinished finishedState
   left-named =
       named-back g (finishedState g u) (source-uuid g u s) (source-label g u s) (source-answer g u s) (headLeft g u 0) (head-first g (planned g 0 .plan) u (finishedState g u))
@@ -118,6 +118,15 @@ module _ (g : Geometry) (u : List ℕ) (s : Source g u) where
   unfolding headLeft headFinished finishedState bit
   left-progress =
       progress-back g (finishedState g u) (source-uuid g u s) (source-label g u s) (source-answer g u s) (headLeft g u 0) (head-first g (planned g 0 .plan) u (finishedState g u))
+
+-- an answer's head in group 0 has its log's blocks, and is finished, whether its plans are accepted or not
+pub left-log : (g : Geometry) (u : List ℕ) → length (g .label) ≡ 12 → isAnswer g ≡ true → length u ≡ 16 → beAt 4 96 (headLeft g u 0) ≡ g .logblocks
+unfolding headLeft headFinished finishedState
+left-log g u l a n = log-back g (finishedState g u) n l a (headLeft g u 0) (head-first g (planned g 0 .plan) u (finishedState g u))
+
+pub left-done : (g : Geometry) (u : List ℕ) → length (g .label) ≡ 12 → isAnswer g ≡ true → length u ≡ 16 → beAt 1 126 (headLeft g u 0) ≡ 0
+unfolding headLeft headFinished finishedState bit
+left-done g u l a n = progress-back g (finishedState g u) n l a (headLeft g u 0) (head-first g (planned g 0 .plan) u (finishedState g u))
 
 -- what an answer's head in group 0 names, whether its plans are accepted or not
 pub left-names : (g : Geometry) (u : List ℕ) → length (g .label) ≡ 12 → isAnswer g ≡ true → length u ≡ 16 → namesAt (headLeft g u 0) ≡ namesOf g

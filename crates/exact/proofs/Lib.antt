@@ -1,12 +1,15 @@
 pub mod Lists
 pub mod Sources
 pub mod Heads
+pub mod Sizings
 pub mod First
 pub mod Others
 pub mod Recovery
 pub mod Whole
 pub mod Numbers
 pub mod Refused
+pub mod Group0
 pub mod Zeros
 pub mod Disk
 pub mod Example
+pub mod Roomy

@@ -11,8 +11,9 @@ use Rattle.geometry.specs.declared.Geometry.{Geometry}
 use Rattle.head.specs.Head.{headLength}
 use Rattle.written.specs.Listing.{logBlock, headLeft}
 use Rattle.named.specs.Named.{namedBy, uuidAt}
-use Rattle.exact.specs.Read.{firstTests, placeTests, readGroup0, groupNumber, readGroup, readLog}
-use Rattle.exact.proofs.First.{number-found}
+use Rattle.exact.specs.declared.Found.{Found}
+use Rattle.exact.specs.Read.{firstTests, placeTests, readAs, readGroup0, groupNumber, readGroup, readLog}
+use Rattle.exact.proofs.First.{number-as, one-of}
 use Rattle.exact.proofs.Others.{number-read}
 
 abbrev pub oneOf : List ℕ → ℕ → Bool
@@ -45,11 +46,12 @@ groupNumbers = 0 ∷ 27 ∷ 29 ∷ 30 ∷ 31 ∷ []
 abbrev pub logNumbers : List ℕ
 logNumbers = 0 ∷ 27 ∷ 30 ∷ 31 ∷ []
 
+as-numbers : (xs : List ℕ) (roomy : Bool) → T (oneOf firstNumbers (readAs roomy xs .number))
+unfolding firstTests
+as-numbers xs roomy = rw (number-as roomy xs) (first-of firstNumbers (firstTests xs (namedBy roomy xs) (uuidAt xs)) tt tt)
+
 pub first-numbers : (xs : List ℕ) → T (oneOf firstNumbers (readGroup0 xs .number))
-unfolding readGroup0 firstTests
-first-numbers xs =
-    let ts = firstTests xs (namedBy xs .geometry) (uuidAt xs) in
-    rw (number-found (first ts 0) (namedBy xs .geometry) (uuidAt xs)) (first-of firstNumbers ts tt tt)
+first-numbers xs = one-of xs (λ (f : Found). T (oneOf firstNumbers (f .number))) (as-numbers xs)
 
 pub group-numbers : (g : Geometry) (u : List ℕ) (k : ℕ) (xs : List ℕ) → T (oneOf groupNumbers (readGroup g u k xs .number))
 unfolding groupNumber placeTests

@@ -30,7 +30,7 @@ use Rattle.exact.specs.Left.{Handed}
 -- the options with this UUID, and with neither time nor seed
 abbrev withUuidAlone : Params → List ℕ → Params
 withUuidAlone p u =
-    options (p .size) (p .«block_size») (p .«sector_size») (p .«inode_size») (p .agcount) (p .agsize) (p .imaxpct) (p .label) (record { presence = Given; bytes = u }) AbsentTime Absent (p .features)
+    options (p .size) (p .«block_size») (p .«sector_size») (p .«inode_size») (p .agcount) (p .agsize) (p .imaxpct) (p .label) (record { presence = Given; bytes = u }) AbsentTime Absent (p .features) (p .roomy)
 
 -- a run's geometry depends on neither
 pub step-same : (p : Params) (u : List ℕ) (device logical physical : ℕ) → computeDef (withUuidAlone p u) device logical physical ≡ computeDef p device logical physical

@@ -16,8 +16,9 @@ use Rattle.accepted.specs.Accepted.{Source}
 use Rattle.accepted.proofs.Runs.{source-of}
 use Rattle.exact.specs.declared.Found.{Found}
 use Rattle.exact.specs.Read.{found, readGroup0, readGroup, readLog}
-use Rattle.exact.specs.Left.{Octets, OneRun, ReadWhole}
+use Rattle.exact.specs.Left.{Octets, Left, OneRun, ReadWhole, reported}
 use Rattle.exact.proofs.Heads.{source-handed, some-group}
+use Rattle.exact.proofs.Sizings.{reported-plain, reported-source, reported-log, reported-here}
 use Rattle.exact.proofs.First.{complete-first, exact-first}
 use Rattle.exact.proofs.Others.{group-sound, complete-group, exact-log}
 
@@ -38,44 +39,59 @@ module _ (heads : ℕ → List ℕ) (log : List ℕ) where
   each g u z n k h true e = rw (eqb-true k 0 e) z
   each g u z n k h false e = n k (let o = eqb-false k 0 e in omega arith) h
 
-  whole-sound : Octets (heads 0) → ReadWhole heads log → OneRun heads log
-  whole-sound o r =
-      let f = readGroup0 (heads 0) in
-      let g = f .geometry in
-      let u = f .uuid in
-      let n = r .first in
-      let e : readGroup0 (heads 0) ≡ found g u (f .plan) = λ i. record { number = n i; geometry = g; uuid = u; plan = f .plan } in
-      let l = exact-first (heads 0) g u (f .plan) o .0 e .0 in
-      let s = l .source in
-      let d = source-handed g u s in
-      one-run g u s
-      (λ k h. each g u (l .bytes) (λ j p q. group-sound g u j (heads j) d (r .others j p q) .bytes) k h (eqb k 0) refl)
-      (exact-log g u log d .0 (r .log-block) .bytes)
+  module _ (o : Octets (heads 0)) (r : ReadWhole heads log) where
+    abbrev g : Geometry
+    g = readGroup0 (heads 0) .geometry
+
+    abbrev u : List ℕ
+    u = readGroup0 (heads 0) .uuid
+
+    first-left : Left g u 0 (heads 0)
+    first-left =
+        let n = r .first in
+        let p = readGroup0 (heads 0) .plan in
+        let e : readGroup0 (heads 0) ≡ found g u p = λ i. record { number = n i; geometry = g; uuid = u; plan = p } in
+        exact-first (heads 0) g u p o .0 e .0
+
+    -- some accepted run has the geometry and the UUID that group 0's head gives
+    pub whole-source : Source (readGroup0 (heads 0) .geometry) (readGroup0 (heads 0) .uuid)
+    whole-source = first-left .source
+
+    -- and leaves all heads
+    pub whole-heads : (k : ℕ) → k < readGroup0 (heads 0) .geometry .agcount → heads k ≡ headLeft (readGroup0 (heads 0) .geometry) (readGroup0 (heads 0) .uuid) k
+    whole-heads k h =
+        each g u (first-left .bytes) (λ j p q. group-sound g u j (heads j) (source-handed g u whole-source) (r .others j p q) .bytes) k h (eqb k 0) refl
+
+    whole-sound : OneRun heads log
+    whole-sound = one-run g u whole-source whole-heads (exact-log g u log (source-handed g u whole-source) .0 (r .log-block) .bytes)
 
   pub whole-complete : OneRun heads log → ReadWhole heads log
   whole-complete w =
       let g = runOf (w .request) .geometry in
       let u = runOf (w .request) .uuid in
       let s = source-of (w .request) (w .accepted) in
-      let e : readGroup0 (heads 0) ≡ found g u (planned g 0 .plan) = ap readGroup0 (w .head 0 (some-group g u s)) ∙ complete-first g u s in
+      let h = reported g in
+      let t = reported-source g u s in
+      let e : readGroup0 (heads 0) ≡ found h u (planned g 0 .plan) = ap readGroup0 (w .head 0 (some-group g u s)) ∙ complete-first g u s in
       record {
         first = ap (λ (x : Found). x .number) e;
         others =
-            λ k p h.
-            let q : k < g .agcount = subst (λ (x : Found). k < x .geometry .agcount) e h in
+            λ k p m.
+            let n : k < h .agcount = subst (λ (x : Found). k < x .geometry .agcount) e m in
+            let q : k < g .agcount = subst (λ (x : Geometry). k < x .agcount) (reported-plain g) n in
             subst (λ (x : Found). readGroup (x .geometry) (x .uuid) k (heads k) .number ≡ 0) (sym e)
-            (ap (λ (x : Planned). x .number) (complete-group g u k (heads k) (record { source = s; group = q; bytes = w .head k q })));
+            (ap (λ (x : Planned). x .number) (complete-group h u k (heads k) (reported-here g u s k (heads k) (record { source = s; group = q; bytes = w .head k q }))));
         log-block =
             subst (λ (x : Found). readLog (x .geometry) (x .uuid) log ≡ 0) (sym e)
-            (exact-log g u log (source-handed g u s) .1 (record { source = s; bytes = w .log-block }));
+            (exact-log h u log (source-handed h u t) .1 (record { source = t; bytes = w .log-block ∙ sym (reported-log g u s) }));
       }
 
   -- heads by their groups and a log block are accepted whole exactly where one accepted run leaves them all
   pub exact-whole : Octets (heads 0) → (ReadWhole heads log → OneRun heads log) × (OneRun heads log → ReadWhole heads log)
   exact-whole o = (whole-sound o, whole-complete)
 
-  -- and then group 0's head gives that run's geometry and UUID
-  pub whole-found : (w : OneRun heads log) → readGroup0 (heads 0) ≡ found (runOf (w .request) .geometry) (runOf (w .request) .uuid) (planned (runOf (w .request) .geometry) 0 .plan)
+  -- and then group 0's head gives that run's geometry, as it is reported, and UUID
+  pub whole-found : (w : OneRun heads log) → readGroup0 (heads 0) ≡ found (reported (runOf (w .request) .geometry)) (runOf (w .request) .uuid) (planned (runOf (w .request) .geometry) 0 .plan)
   whole-found w =
       let s = source-of (w .request) (w .accepted) in
       ap readGroup0 (w .head 0 (some-group (runOf (w .request) .geometry) (runOf (w .request) .uuid) s)) ∙ complete-first (runOf (w .request) .geometry) (runOf (w .request) .uuid) s

@@ -1,6 +1,7 @@
 -- Zeros name no geometry.
 -- Assumes nothing.
 use mathlib.Core.Path.{_≡_, refl, ap, sym, _∙_}
+use mathlib.Core.Bool.{false}
 use mathlib.Core.List.{List}
 use Prim.Native.Nat.{ℕ, _+_, _-_, _≤_}
 use native.Mathlib.Omega.{arith}
@@ -33,12 +34,12 @@ part-zeros off k n h =
     ∙ take-at (zeros k) (zeros m) k (length-replicate k 0)
 
 -- a block size of 0 is no power of two
-number-of-zeros : namedBy (zeros 512) .number ≡ 2
+number-of-zeros : namedBy false (zeros 512) .number ≡ 2
 unfolding when bit ceilDiv powerIn powerLog leastFrom log2Up beAt defaultSector sizesOf sizesRefusals withGroups withSizes chosenOf refusals refusalOf compute.answer computeDef namedOptions namedOn namedFits namedAnswer hasBit featuresAt namesAt namedBy
 number-of-zeros = refl
 
 -- bytes that begin with n zeros, in which every named place lies
-pub zeros-named : (xs : List ℕ) (n : ℕ) → 220 ≤ n → take n xs ≡ zeros n → namedBy xs .number ≡ 2
+pub zeros-named : (xs : List ℕ) (n : ℕ) → 220 ≤ n → take n xs ≡ zeros n → namedBy false xs .number ≡ 2
 zeros-named xs n h e =
     let p : (off k : ℕ) → off + k ≤ 220 → part off k xs ≡ zeros k = λ off k l. part-first n off k xs (zeros n) (omega arith) e ∙ part-zeros off k n (omega arith) in
     ap (λ (c : Computed). c .number)
@@ -51,5 +52,5 @@ zeros-named xs n h e =
           (p 102 2 (lit≤ tt), (p 104 2 (lit≤ tt), (p 108 12 (lit≤ tt), (p 127 1 (lit≤ tt), (p 212 4 (lit≤ tt), (p 216 4 (lit≤ tt), tt)))))),
         ),
       ),
-    ))
+    ) false)
     ∙ number-of-zeros

@@ -5,11 +5,14 @@ use mathlib.Core.List.{List}
 use Prim.Native.Nat.{ℕ, _<_}
 use lib.ListN.{length, getD}
 use Rattle.geometry.specs.declared.Geometry.{Geometry}
+use Rattle.seqs.specs.Lists.{choose}
+use Rattle.answers.specs.Named.{isAnswer}
 use Rattle.naming.specs.Answers.{TypedGeometry}
 use Rattle.request.specs.declared.Request.{Request}
 use Rattle.run.specs.Runs.{runOf}
 use Rattle.written.specs.Listing.{logBlock, headLeft}
 use Rattle.accepted.specs.Accepted.{AcceptedRun, Source}
+use Rattle.named.specs.Sizings.{plain}
 use Rattle.exact.specs.Read.{readGroup0, readGroup, readLog}
 
 -- every number is a byte
@@ -32,6 +35,16 @@ pub record Left (g : Geometry) (u : List ℕ) (k : ℕ) (xs : List ℕ) : Type 0
 pub record LeftLog (g : Geometry) (u xs : List ℕ) : Type 0 where
   pub source : Source g u
   pub bytes : xs ≡ logBlock g u
+
+-- some accepted run leaves these bytes in group 0's head, whatever its sizing
+pub record LeftFirst (xs : List ℕ) : Type 0 where
+  pub geometry : Geometry
+  pub uuid : List ℕ
+  pub left : Left geometry uuid 0 xs
+
+-- the geometry as the reader reports it: with plain sizing where this gives the same log
+unfoldable pub reported : Geometry → Geometry
+reported g = choose (isAnswer (plain g)) (plain g) g
 
 -- one accepted run leaves all these heads, by their groups, and this log block
 pub record OneRun (heads : ℕ → List ℕ) (log : List ℕ) : Type 0 where

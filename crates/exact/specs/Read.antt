@@ -1,6 +1,6 @@
 -- What the reader answers: for group 0's head, and with what that gave for any group's head and for the log block.
 -- Assumes nothing.
-use mathlib.Core.Bool.{Bool, false, not}
+use mathlib.Core.Bool.{Bool, true, false, not}
 use mathlib.Core.List.{List, [], _∷_}
 use Prim.Native.Nat.{ℕ}
 use lib.Dec.{ltb, leb, eqb}
@@ -9,6 +9,7 @@ use Rattle.endian.specs.Answer.{wrongLength}
 use Rattle.refusals.specs.Table.{Refusal, _if_, first}
 use Rattle.seqs.specs.Lists.{choose}
 use Rattle.geometry.specs.declared.Geometry.{Geometry}
+use Rattle.geometry.specs.declared.Computed.{Computed}
 use Rattle.geometry.specs.Compute.{zeroGeometry}
 use Rattle.answers.specs.Named.{isAnswer}
 use Rattle.plan.specs.declared.AgPlan.{AgPlan}
@@ -52,18 +53,26 @@ abbrev pub found : Geometry → List ℕ → AgPlan → Found
 found g u p = record { number = 0; geometry = g; uuid = u; plan = p }
 
 -- 27 under 512 bytes, then 30 if the superblock names no geometry that the geometry step accepts, then 27 unless the bytes have its head's length, then 30
-unfoldable pub firstTests : List ℕ → Geometry → List ℕ → List Refusal
-firstTests xs g u =
+unfoldable pub firstTests : List ℕ → Computed → List ℕ → List Refusal
+firstTests xs c u =
     wrongLength if ltb (length xs) leastSector
-    ∷ notLeft if not (eqb (namedBy xs .number) 0)
-    ∷ wrongLength if not (eqb (length xs) (headLength g))
-    ∷ leftTests g (headLeft g u 0) xs
+    ∷ notLeft if not (eqb (c .number) 0)
+    ∷ wrongLength if not (eqb (length xs) (headLength (c .geometry)))
+    ∷ leftTests (c .geometry) (headLeft (c .geometry) u 0) xs
 
 unfoldable pub foundAs : ℕ → Geometry → List ℕ → Found
 foundAs n g u = choose (eqb n 0) (found g u (planned g 0 .plan)) (notFound n)
 
+-- under one sizing of the log
+unfoldable pub readAs : Bool → List ℕ → Found
+readAs roomy xs = foundAs (first (firstTests xs (namedBy roomy xs) (uuidAt xs)) 0) (namedBy roomy xs .geometry) (uuidAt xs)
+
+-- under both: the one with the smaller number, and plain sizing where they have the same
+abbrev pub lesser : Found → Found → Found
+lesser roomy old = choose (ltb (roomy .number) (old .number)) roomy old
+
 unfoldable pub readGroup0 : List ℕ → Found
-readGroup0 xs = foundAs (first (firstTests xs (namedBy xs .geometry) (uuidAt xs)) 0) (namedBy xs .geometry) (uuidAt xs)
+readGroup0 xs = lesser (readAs true xs) (readAs false xs)
 
 -- ---- any group and the log, with the geometry and the UUID that group 0 gave
 

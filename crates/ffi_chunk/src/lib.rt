@@ -1,5 +1,6 @@
 // The root chunk for a caller in C or Rust: the comparison with the Rust calls the port through it. The geometry comes field by field, in
 // its own order.
+ghost use mathlib.Core.Bool.{false};
 ghost use mathlib.Core.Path.{_≡_};
 ghost use lib.ListN.{length};
 ghost use Rattle.rootchunk.specs.Chunk.{summaryDraw, chunkNumber, chunkBytes, ChunkMade};
@@ -45,7 +46,7 @@ pub extern "C" fn zq_root_chunk(
     next: &mut u64,
     buf: &mut [u8],
 ) -> u32
-    ensures { λ r. ⌜ ChunkMade (chunkNumber (record { blocksize = blocksize; blocklog = blocklog; sectsize = sectsize; sectlog = sectlog; lsectsize = lsectsize; lsectlog = lsectlog; inodesize = inodesize; inodelog = inodelog; inopblock = inopblock; inopblog = inopblog; dirblocklog = dirblocklog; dblocks = dblocks; agsize = agsize; agcount = agcount; agblklog = agblklog; imaxpct = imaxpct; logblocks = logblocks; logagno = logagno; «log_agbno» = «log_agbno»; features = record { finobt = finobt; rmapbt = rmapbt; reflink = reflink; inobtcount = inobtcount; bigtime = bigtime; nrext64 = nrext64; sparse = sparse }; label = now (label .entry) }) agbno (record { secs = secs; nsecs = nsecs }) (length (now (buf .entry)))) (summaryDraw seed .state) (chunkBytes (record { blocksize = blocksize; blocklog = blocklog; sectsize = sectsize; sectlog = sectlog; lsectsize = lsectsize; lsectlog = lsectlog; inodesize = inodesize; inodelog = inodelog; inopblock = inopblock; inopblog = inopblog; dirblocklog = dirblocklog; dblocks = dblocks; agsize = agsize; agcount = agcount; agblklog = agblklog; imaxpct = imaxpct; logblocks = logblocks; logagno = logagno; «log_agbno» = «log_agbno»; features = record { finobt = finobt; rmapbt = rmapbt; reflink = reflink; inobtcount = inobtcount; bigtime = bigtime; nrext64 = nrext64; sparse = sparse }; label = now (label .entry) }) agbno (now (uuid .entry)) (record { secs = secs; nsecs = nsecs }) seed) (now (buf .entry)) r (now (next .exit)) (now (buf .exit)) ⌝ }
+    ensures { λ r. ⌜ ChunkMade (chunkNumber (record { blocksize = blocksize; blocklog = blocklog; sectsize = sectsize; sectlog = sectlog; lsectsize = lsectsize; lsectlog = lsectlog; inodesize = inodesize; inodelog = inodelog; inopblock = inopblock; inopblog = inopblog; dirblocklog = dirblocklog; dblocks = dblocks; agsize = agsize; agcount = agcount; agblklog = agblklog; imaxpct = imaxpct; logblocks = logblocks; logagno = logagno; «log_agbno» = «log_agbno»; features = record { finobt = finobt; rmapbt = rmapbt; reflink = reflink; inobtcount = inobtcount; bigtime = bigtime; nrext64 = nrext64; sparse = sparse }; label = now (label .entry); roomy = false }) agbno (record { secs = secs; nsecs = nsecs }) (length (now (buf .entry)))) (summaryDraw seed .state) (chunkBytes (record { blocksize = blocksize; blocklog = blocklog; sectsize = sectsize; sectlog = sectlog; lsectsize = lsectsize; lsectlog = lsectlog; inodesize = inodesize; inodelog = inodelog; inopblock = inopblock; inopblog = inopblog; dirblocklog = dirblocklog; dblocks = dblocks; agsize = agsize; agcount = agcount; agblklog = agblklog; imaxpct = imaxpct; logblocks = logblocks; logagno = logagno; «log_agbno» = «log_agbno»; features = record { finobt = finobt; rmapbt = rmapbt; reflink = reflink; inobtcount = inobtcount; bigtime = bigtime; nrext64 = nrext64; sparse = sparse }; label = now (label .entry); roomy = false }) agbno (now (uuid .entry)) (record { secs = secs; nsecs = nsecs }) seed) (now (buf .entry)) r (now (next .exit)) (now (buf .exit)) ⌝ }
 {
     let text = *label;
     let features = Features {
@@ -79,6 +80,7 @@ pub extern "C" fn zq_root_chunk(
         log_agbno,
         features,
         label: text,
+        roomy: false, // plain: roomy runs aren't compared with the Rust
     };
     let time = Timestamp { secs, nsecs };
     let made = root_chunk(g, agbno, uuid, time, seed, buf);

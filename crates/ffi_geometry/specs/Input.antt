@@ -75,4 +75,4 @@ unfoldable pub paramsOf : ℕ → ℕ → ℕ → ℕ → ℕ → ℕ → ℕ �
 paramsOf given size block sector inode agcount agsize imaxpct features label =
     options (opt64 (isOn given sizeCode) size) (opt32 (isOn given blockCode) block) (opt32 (isOn given sectorCode) sector) (opt32 (isOn given inodeCode) inode)
     (opt64 (isOn given agcountCode) agcount) (opt64 (isOn given agsizeCode) agsize) (opt8 (isOn given imaxpctCode) imaxpct)
-    label noUuid AbsentTime Absent (featuresOf features)
+    label noUuid AbsentTime Absent (featuresOf features) false

@@ -147,6 +147,7 @@ pub fn params_of(
         time: OptTime::Absent,
         gen_seed: OptU64::Absent,
         features,
+        roomy: false, // plain: roomy runs aren't compared with the Rust
     }
 }
 

@@ -1,5 +1,6 @@
 // The superblock for a caller in C or Rust: comparison, replay and measurement call the port through it. Geometry and state come field by
 // field, in their own order.
+ghost use mathlib.Core.Bool.{false};
 ghost use mathlib.Core.Path.{_≡_};
 ghost use lib.ListN.{length};
 ghost use Rattle.structs.specs.Written.{Written};
@@ -47,7 +48,7 @@ pub extern "C" fn zq_sb(
     inprogress: bool,
     sector: &mut [u8],
 ) -> u32
-    ensures { λ r. ⌜ Written (sbNumber (record { blocksize = blocksize; blocklog = blocklog; sectsize = sectsize; sectlog = sectlog; lsectsize = lsectsize; lsectlog = lsectlog; inodesize = inodesize; inodelog = inodelog; inopblock = inopblock; inopblog = inopblog; dirblocklog = dirblocklog; dblocks = dblocks; agsize = agsize; agcount = agcount; agblklog = agblklog; imaxpct = imaxpct; logblocks = logblocks; logagno = logagno; «log_agbno» = «log_agbno»; features = record { finobt = finobt; rmapbt = rmapbt; reflink = reflink; inobtcount = inobtcount; bigtime = bigtime; nrext64 = nrext64; sparse = sparse }; label = now (label .entry) }) (length (now (sector .entry)))) (sbBytes (record { blocksize = blocksize; blocklog = blocklog; sectsize = sectsize; sectlog = sectlog; lsectsize = lsectsize; lsectlog = lsectlog; inodesize = inodesize; inodelog = inodelog; inopblock = inopblock; inopblog = inopblog; dirblocklog = dirblocklog; dblocks = dblocks; agsize = agsize; agcount = agcount; agblklog = agblklog; imaxpct = imaxpct; logblocks = logblocks; logagno = logagno; «log_agbno» = «log_agbno»; features = record { finobt = finobt; rmapbt = rmapbt; reflink = reflink; inobtcount = inobtcount; bigtime = bigtime; nrext64 = nrext64; sparse = sparse }; label = now (label .entry) }) (record { uuid = now (uuid .entry); rootino = rootino; rbmino = rbmino; rsumino = rsumino; icount = icount; ifree = ifree; fdblocks = fdblocks; inprogress = inprogress }) (now (sector .entry))) (now (sector .entry)) r (now (sector .exit)) ⌝ }
+    ensures { λ r. ⌜ Written (sbNumber (record { blocksize = blocksize; blocklog = blocklog; sectsize = sectsize; sectlog = sectlog; lsectsize = lsectsize; lsectlog = lsectlog; inodesize = inodesize; inodelog = inodelog; inopblock = inopblock; inopblog = inopblog; dirblocklog = dirblocklog; dblocks = dblocks; agsize = agsize; agcount = agcount; agblklog = agblklog; imaxpct = imaxpct; logblocks = logblocks; logagno = logagno; «log_agbno» = «log_agbno»; features = record { finobt = finobt; rmapbt = rmapbt; reflink = reflink; inobtcount = inobtcount; bigtime = bigtime; nrext64 = nrext64; sparse = sparse }; label = now (label .entry); roomy = false }) (length (now (sector .entry)))) (sbBytes (record { blocksize = blocksize; blocklog = blocklog; sectsize = sectsize; sectlog = sectlog; lsectsize = lsectsize; lsectlog = lsectlog; inodesize = inodesize; inodelog = inodelog; inopblock = inopblock; inopblog = inopblog; dirblocklog = dirblocklog; dblocks = dblocks; agsize = agsize; agcount = agcount; agblklog = agblklog; imaxpct = imaxpct; logblocks = logblocks; logagno = logagno; «log_agbno» = «log_agbno»; features = record { finobt = finobt; rmapbt = rmapbt; reflink = reflink; inobtcount = inobtcount; bigtime = bigtime; nrext64 = nrext64; sparse = sparse }; label = now (label .entry); roomy = false }) (record { uuid = now (uuid .entry); rootino = rootino; rbmino = rbmino; rsumino = rsumino; icount = icount; ifree = ifree; fdblocks = fdblocks; inprogress = inprogress }) (now (sector .entry))) (now (sector .entry)) r (now (sector .exit)) ⌝ }
 {
     let text = *label;
     let id = *uuid;
@@ -82,6 +83,7 @@ pub extern "C" fn zq_sb(
         log_agbno,
         features,
         label: text,
+        roomy: false, // plain: roomy runs aren't compared with the Rust
     };
     let s = SbState {
         uuid: id,

@@ -13,7 +13,7 @@ use Rattle.logsize.specs.Limits.{labelRoom}
 use Rattle.geometry.specs.Limits.{minDirBlock, minDirLog}
 use Rattle.sizes.specs.Sizes.{sizesOf, sizesRefusals}
 use Rattle.grouping.specs.Groups.{askedBlocks, initialGroups, isShort, trim, optionsRefusals, groupsRefusals}
-use Rattle.logsize.specs.Log.{preallocOf, logBlocks, imaxpctOf, lastRefusals}
+use Rattle.logsize.specs.Log.{preallocOf, logLimit, logBlocks, imaxpctOf, lastRefusals}
 use Rattle.params.specs.declared.Params.{Params}
 use Rattle.sizes.specs.declared.Sizes.{Sizes}
 use Rattle.grouping.specs.declared.Groups.{Groups}
@@ -32,7 +32,7 @@ withGroups p s a g =
       groups = g;
       imaxpct = imaxpctOf (p .imaxpct) (s .block) (g .dblocks);
       prealloc = preallocOf (p .features) (s .sector) (s .block);
-      log = logBlocks (g .dblocks) (g .agsize) (preallocOf (p .features) (s .sector) (s .block)) (s .block);
+      log = logBlocks (g .dblocks) (logLimit (p .roomy) (p .features) (g .dblocks) (g .agsize) (g .agcount) (preallocOf (p .features) (s .sector) (s .block))) (s .block);
     }
 
 -- the groups that the options ask for on a device, for chosen sizes
@@ -91,6 +91,7 @@ geometryOf p c =
       «log_agbno» = c .prealloc;
       features = p .features;
       label = labelOf (p .label .length) (p .label .bytes);
+      roomy = p .roomy;
     }
 
 unfoldable pub zeroGeometry : Geometry
@@ -126,6 +127,7 @@ zeroGeometry =
             sparse = false;
           };
       label = replicate 12 0;
+      roomy = false;
     }
 
 -- a refusal: its number beside zeros

@@ -39,6 +39,7 @@ pub struct Geometry {
     pub log_agbno: u64, // the log's first block within its group
     pub features: Features,
     pub label: [u8; 12], // filled up with zeros
+    pub roomy: bool, // roomy log sizing, else plain
 }
 
 // The number is 0 for an accepted geometry; a refusal has the geometry of zeros.

@@ -22,6 +22,7 @@ use grouping::trimmed;
 use logsize::imaxpct_of;
 use logsize::last_refusal;
 use logsize::log_blocks;
+use logsize::log_limit;
 use logsize::prealloc_of;
 use params::Features;
 use params::Params;
@@ -58,7 +59,15 @@ fn choose(params: Params, device: u64, logical: u32, physical: u32) -> Chosen
     let groups = trimmed(asked, min_group(bs));
     let percent = imaxpct_of(imaxpct, bs, groups.dblocks);
     let prealloc = prealloc_of(features, sizes.sector, bs);
-    let log = log_blocks(groups.dblocks, groups.agsize, prealloc, bs);
+    let limit = log_limit(
+        params.roomy,
+        features,
+        groups.dblocks,
+        groups.agsize,
+        groups.agcount,
+        prealloc,
+    );
+    let log = log_blocks(groups.dblocks, limit, bs);
     Chosen {
         sizes,
         asked,
@@ -137,6 +146,7 @@ fn built(params: Params, c: Chosen) -> Geometry
         log_agbno: c.prealloc,
         features,
         label,
+        roomy: params.roomy,
     }
 }
 
@@ -176,6 +186,7 @@ impl Geometry {
             log_agbno: 0,
             features,
             label: [0u8; 12],
+            roomy: false,
         }
     }
 

@@ -2,7 +2,7 @@
 -- Assumes nothing.
 use mathlib.Core.Bool.{Bool, _&&_, not}
 use mathlib.Core.List.{List, [], _∷_}
-use Prim.Native.Nat.{ℕ, _*_, _/_, _%_, min}
+use Prim.Native.Nat.{ℕ, _*_, _-_, _/_, _%_, min}
 use lib.Dec.{ltb, leb, eqb}
 use Rattle.arith.specs.Choice.{when}
 use Rattle.arith.specs.Numbers.{ceilDiv}
@@ -29,6 +29,10 @@ defaultSize bs d =
 -- groups of s blocks over d blocks
 abbrev pub groupsOf : ℕ → ℕ → Groups
 groupsOf d s = record { dblocks = d; agsize = s; agcount = ceilDiv d s }
+
+-- blocks of group k, of n groups of s blocks over d blocks: the last has what is left
+unfoldable pub groupBlocks : ℕ → ℕ → ℕ → ℕ → ℕ
+groupBlocks d s n k = when (eqb k (n - 1)) (d - k * s) s
 
 -- agsize decides where both are given
 unfoldable pub initialGroups : OptU64 → OptU64 → ℕ → ℕ → Groups

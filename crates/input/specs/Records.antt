@@ -28,6 +28,7 @@ optionBits =
     ∷ 7  -- 9 features
     ∷ 64  -- 10 seconds
     ∷ 32  -- 11 nanoseconds
+    ∷ 1  -- 12 roomy
     ∷ []
 
 -- the code is known, and the number fits the option's type

@@ -18,8 +18,11 @@ use Rattle.grouping.specs.declared.Groups.{Groups}
 use Rattle.geometry.specs.declared.Geometry.{Geometry}
 use Rattle.grouping.specs.Limits.{mib, minGroup, maxGroup}
 use Rattle.logsize.specs.Limits.{minLogBytes}
-use Rattle.grouping.specs.Groups.{isShort, trim}
-use Rattle.logsize.specs.Log.{preallocOf, logBlocks}
+use Rattle.grouping.specs.Groups.{groupBlocks, isShort, trim}
+use Rattle.logsize.specs.Log.{preallocOf, freelistOf, logLimit, logBlocks}
+use Rattle.arith.specs.Choice.{when}
+use Rattle.params.specs.declared.Features.{Features}
+use lib.Dec.{eqb}
 use Rattle.geometry.specs.Compute.{withGroups, askedGroups, withSizes, chosenOf, refusalOf, geometryOf, computeDef}
 use Rattle.geometry.specs.declared.Computed.{Computed}
 use Rattle.answers.specs.Named.{isAnswer}
@@ -29,7 +32,7 @@ use Rattle.naming.proofs.Tests.{Sized, Grouped, Ended, all-clear, sizes-of, gro
 use Rattle.naming.proofs.Again.{chosen, number, is-accepted, its-geometry, bytes}
 use Rattle.naming.proofs.Exact.{sound}
 use Rattle.layout.specs.Bounds.{SizeBounds, GroupBounds, PlaceBounds, Bounds}
-use Rattle.layout.proofs.Ceil.{Counted, lastOf, counted, last-least}
+use Rattle.layout.proofs.Ceil.{Counted, lastOf, counted, last-least, group-within}
 use Rattle.layout.proofs.Wide.{pow-order, block-bytes}
 use Rattle.layout.proofs.Small.{header-most, head-most, chunk-most, cluster-most, chunk-after, chunk-room}
 
@@ -83,13 +86,24 @@ group-most bs size h w =
 
 -- ---- the log
 
-log-blocks : (d size pre bs : ℕ) → logBlocks d size pre bs ≤ 1048576
+log-blocks : (d limit bs : ℕ) → logBlocks d limit bs ≤ 1048576
 unfolding logBlocks
-log-blocks d size pre bs = omega arith
+log-blocks d limit bs = omega arith
 
-log-room : (d size pre bs : ℕ) → 0 < logBlocks d size pre bs → pre + logBlocks d size pre bs + 5 ≤ size
+log-limit : (d limit bs : ℕ) → logBlocks d limit bs ≤ limit
 unfolding logBlocks
-log-room d size pre bs h = omega arith
+log-limit d limit bs = omega arith
+
+-- the limit of either sizing leaves 5 blocks of a whole group
+limit-room : (f : Features) (d s n pre log : ℕ) (roomy : Bool) → d ≤ n * s → n / 2 < n → 0 < log → log ≤ logLimit roomy f d s n pre → pre + log + 5 ≤ s
+unfolding logLimit groupBlocks when
+limit-room f d s n pre log true w h p l = let g = group-within d s n (n / 2) (eqb (n / 2) (n - 1)) refl w h in omega arith
+limit-room f d s n pre log false w h p l = omega arith
+
+-- the roomy limit leaves the free list's blocks of the log group
+limit-roomy : (f : Features) (d s n pre log : ℕ) (roomy : Bool) → roomy ≡ true → 0 < log → log ≤ logLimit roomy f d s n pre → pre + log + freelistOf f ≤ groupBlocks d s n (n / 2)
+unfolding logLimit when
+limit-roomy f d s n pre log roomy e p l = let q = rw e at l in omega arith
 
 log-some : (bs log : ℕ) → 0 < bs → bs ≤ 16384 → minLogBytes / bs ≤ log → 0 < log
 log-some bs log p h w = let v : 4096 ≤ minLogBytes / bs = le-div-iff-mul-le p .1 (omega arith) in omega arith
@@ -187,10 +201,17 @@ module _ (p : Params) (device : ℕ) (s : Sizes) (a g : Groups) (z : refusalOf p
         log-not-first = let w = r .count-least in omega arith;
         log-inside = let w = r .count-least in omega arith;
         log-bytes = in-bytes 64 (withGroups p s a g .log) (r .log-least);
-        log-blocks = log-blocks (g .dblocks) (g .agsize) (preallocOf (p .features) (s .sector) (s .block)) (s .block);
+        log-blocks = log-blocks (g .dblocks) (logLimit (p .roomy) (p .features) (g .dblocks) (g .agsize) (g .agcount) (preallocOf (p .features) (s .sector) (s .block))) (s .block);
         log-room =
-            log-room (g .dblocks) (g .agsize) (preallocOf (p .features) (s .sector) (s .block)) (s .block)
-            (log-some (s .block) (withGroups p s a g .log) bp (t .block-most) (r .log-least));
+            limit-room (p .features) (g .dblocks) (g .agsize) (g .agcount) (preallocOf (p .features) (s .sector) (s .block)) (withGroups p s a g .log) (p .roomy)
+            (count-of .enough) (let w = r .count-least in omega arith)
+            (log-some (s .block) (withGroups p s a g .log) bp (t .block-most) (r .log-least))
+            (log-limit (g .dblocks) (logLimit (p .roomy) (p .features) (g .dblocks) (g .agsize) (g .agcount) (preallocOf (p .features) (s .sector) (s .block))) (s .block));
+        log-roomy =
+            λ e.
+            limit-roomy (p .features) (g .dblocks) (g .agsize) (g .agcount) (preallocOf (p .features) (s .sector) (s .block)) (withGroups p s a g .log) (p .roomy) e
+            (log-some (s .block) (withGroups p s a g .log) bp (t .block-most) (r .log-least))
+            (log-limit (g .dblocks) (logLimit (p .roomy) (p .features) (g .dblocks) (g .agsize) (g .agcount) (preallocOf (p .features) (s .sector) (s .block))) (s .block));
         chunk-most = chunk-most (s .inode) (s .block) bp (t .inode-half);
         cluster-most = cluster-most (s .inode) (s .block) bp (t .inode-half);
         chunk-after = chunk-after (p .features) (s .sector) (s .inode) (s .block) sp (t .sector-block) (t .inode-half);

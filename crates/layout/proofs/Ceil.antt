@@ -67,3 +67,13 @@ ceil-most a b k h p e =
     let c = counted a b h p in
     let w : ceilDiv a b - 1 < k = lt-of-mul-lt-mul-right b (let v = c .before in omega arith) in
     omega (arith, c .some, w)
+
+-- no group is longer than s, the last neither
+pub group-within : (d s n k : ℕ) (t : Bool) → eqb k (n - 1) ≡ t → d ≤ n * s → k < n → when t (d - k * s) s ≤ s
+unfolding when
+group-within d s n k true e w h =
+    let i : k ≡ n - 1 = eqb-true k (n - 1) e in
+    let o = one-more n s (omega arith) in
+    let v = ap (λ (x : ℕ). x * s) i in
+    omega arith
+group-within d s n k false e w h = omega arith

@@ -2,5 +2,6 @@ pub mod Ceil
 pub mod Wide
 pub mod Small
 pub mod Bounding
+pub mod Sizings
 pub mod Inside
 pub mod Unreachable

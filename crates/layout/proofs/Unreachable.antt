@@ -36,13 +36,13 @@ wanted-is d agsize prealloc b =
     rw (ratio-blocks d b, e)
 
 -- the source's log is the definition's
-pub source-log : (d agsize prealloc b : ℕ) → sourceLog d agsize prealloc b ≡ logBlocks d agsize prealloc (2 ^ b)
+pub source-log : (d agsize prealloc b : ℕ) → sourceLog d agsize prealloc b ≡ logBlocks d (agsize - prealloc - 5) (2 ^ b)
 unfolding sourceLog logBlocks
 source-log d agsize prealloc b =
     capped (sourceWanted d agsize prealloc b) maxLogBytes b (ltb maxLogBytes (sourceWanted d agsize prealloc b * 2 ^ b)) refl
     ∙ ap (λ (x : ℕ). min x (maxLogBytes / 2 ^ b)) (wanted-is d agsize prealloc b)
 
-log-fits : (d agsize prealloc bs : ℕ) → logBlocks d agsize prealloc bs ≤ agsize - prealloc
+log-fits : (d agsize prealloc bs : ℕ) → logBlocks d (agsize - prealloc - 5) bs ≤ agsize - prealloc
 unfolding logBlocks
 log-fits d agsize prealloc bs = omega arith
 

@@ -1,13 +1,14 @@
 -- The bounds of an answer of the geometry step, as one record.
 -- Assumes nothing.
 use mathlib.Core.Path.{_≡_}
+use mathlib.Core.Bool.{true}
 use Prim.Native.Nat.{ℕ, _+_, _*_, _-_, _/_, _^_, _≤_, _<_}
 use Rattle.arith.specs.Numbers.{ceilDiv}
 use Rattle.geometry.specs.declared.Geometry.{Geometry}
 use Rattle.grouping.specs.Limits.{minGroupBytes, maxGroups}
 use Rattle.logsize.specs.Limits.{minGroups, minBytes, minLogBytes, maxLogBlocks, logReserve, maxImaxpct}
 use Rattle.logsize.specs.Log.{headerOf, preallocOf}
-use Rattle.layout.specs.Places.{chunkOf, clusterOf, rootChunkOf, freelistOf}
+use Rattle.layout.specs.Places.{chunkOf, clusterOf, rootChunkOf, freelistOf, groupBlocks}
 
 -- sizes in bytes and their logarithms
 pub record SizeBounds (g : Geometry) : Type 0 where
@@ -55,8 +56,9 @@ pub record PlaceBounds (g : Geometry) : Type 0 where
   pub log-inside : g .logagno < g .agcount
   pub log-bytes : minLogBytes ≤ g .logblocks * g .blocksize
   pub log-blocks : g .logblocks ≤ maxLogBlocks
-  -- the log lies in its group, with 5 blocks to spare
+  -- the log fits a whole group, with 5 blocks to spare; in roomy sizing its own, with room for the free list
   pub log-room : g .«log_agbno» + g .logblocks + logReserve ≤ g .agsize
+  pub log-roomy : g .roomy ≡ true → g .«log_agbno» + g .logblocks + freelistOf (g .features) ≤ groupBlocks (g .dblocks) (g .agsize) (g .agcount) (g .logagno)
   -- a chunk and a cluster have at most 32 blocks
   pub chunk-most : chunkOf (g .inodesize) (g .blocksize) ≤ 32
   pub cluster-most : clusterOf (g .inodesize) (g .blocksize) ≤ 32

@@ -13,13 +13,6 @@ agflSlot = 4
 abbrev pub agflReserve : ℕ
 agflReserve = 4
 
--- blocks of a free list, with rmapbt and without
-abbrev pub rmapFreelist : ℕ
-rmapFreelist = 6
-
-abbrev pub plainFreelist : ℕ
-plainFreelist = 4
-
 -- inodes of a chunk
 abbrev pub chunkInodes : ℕ
 chunkInodes = 64

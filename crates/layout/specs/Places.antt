@@ -6,8 +6,10 @@ use lib.Dec.{ltb, eqb}
 use Rattle.arith.specs.Choice.{when, bit}
 use Rattle.arith.specs.Numbers.{ceilDiv}
 use Rattle.params.specs.declared.Features.{Features}
-use Rattle.layout.specs.Limits.{agflHeader, agflSlot, agflReserve, rmapFreelist, plainFreelist, chunkInodes, bigCluster, leastInode, realtimeExtent, logHeader, addressUnit}
+use Rattle.layout.specs.Limits.{agflHeader, agflSlot, agflReserve, chunkInodes, bigCluster, leastInode, realtimeExtent, logHeader, addressUnit}
 use Rattle.logsize.specs.Log.{preallocOf}
+unfoldable pub use Rattle.grouping.specs.Groups.{groupBlocks}
+unfoldable pub use Rattle.logsize.specs.Log.{freelistOf}
 
 -- ---- the head of a group, in blocks from its start: header blocks, roots by block and by count, inode root,
 -- then free inode root, rmap root and reference count root where their features are on
@@ -36,10 +38,6 @@ usableOf agsize prealloc = agsize - (prealloc + agflReserve)
 -- its slots: what its sector holds after the header
 unfoldable pub agflSize : ℕ → ℕ
 agflSize sector = (sector - agflHeader) / agflSlot
-
--- it has 6 blocks with rmapbt, else 4
-unfoldable pub freelistOf : Features → ℕ
-freelistOf f = when (f .rmapbt) rmapFreelist plainFreelist
 
 -- ---- inodes
 
@@ -86,10 +84,6 @@ unfoldable pub logsunitOf : ℕ → ℕ
 logsunitOf unit = when (eqb unit 0) 1 unit
 
 -- ---- blocks
-
--- blocks of group k, of n groups of s blocks over d blocks: the last has what is left
-unfoldable pub groupBlocks : ℕ → ℕ → ℕ → ℕ → ℕ
-groupBlocks d s n k = when (eqb k (n - 1)) (d - k * s) s
 
 -- block b of group k is on the disk
 unfoldable pub isPlace : ℕ → ℕ → ℕ → ℕ → ℕ → Bool

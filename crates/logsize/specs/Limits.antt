@@ -27,9 +27,16 @@ maxLogBlocks = 1048576
 abbrev pub logRatio : ℕ
 logRatio = 2048
 
--- blocks of the log's group that the log leaves free
+-- blocks that the log's upper limit leaves of a group
 abbrev pub logReserve : ℕ
 logReserve = 5
+
+-- blocks of a free list, with rmapbt and without
+abbrev pub rmapFreelist : ℕ
+rmapFreelist = 6
+
+abbrev pub plainFreelist : ℕ
+plainFreelist = 4
 
 -- percent of the blocks that inodes may take
 abbrev pub maxImaxpct : ℕ

@@ -1,6 +1,6 @@
 -- Head blocks, log and imaxpct, and refusals 19 to 24.
 -- Assumes nothing.
-use mathlib.Core.Bool.{not}
+use mathlib.Core.Bool.{Bool, not}
 use mathlib.Core.List.{List, [], _∷_}
 use Prim.Native.Nat.{ℕ, _+_, _*_, _-_, _/_, min, max}
 use lib.Dec.{ltb, eqb}
@@ -8,7 +8,8 @@ use Rattle.arith.specs.Choice.{when, bit}
 use Rattle.arith.specs.Numbers.{ceilDiv}
 use Rattle.refusals.specs.Table.{Refusal, _if_}
 use Rattle.grouping.specs.Limits.{tib}
-use Rattle.logsize.specs.Limits.{minBytes, minLogBytes, maxLogBytes, maxLogBlocks, logRatio, logReserve, minGroups, maxImaxpct, labelRoom}
+use Rattle.grouping.specs.Groups.{groupBlocks}
+use Rattle.logsize.specs.Limits.{minBytes, minLogBytes, maxLogBytes, maxLogBlocks, logRatio, logReserve, rmapFreelist, plainFreelist, minGroups, maxImaxpct, labelRoom}
 use Rattle.params.specs.Options.{or8}
 use Rattle.params.specs.declared.OptU8.{OptU8}
 use Rattle.params.specs.declared.Features.{Features}
@@ -21,10 +22,19 @@ headerOf sector bs = ceilDiv (4 * sector) bs
 unfoldable pub preallocOf : Features → ℕ → ℕ → ℕ
 preallocOf f sector bs = headerOf sector bs + 3 + bit (f .finobt) + bit (f .rmapbt) + bit (f .reflink)
 
--- the log: a 2048th of the blocks, at least 64 MiB, at most what the group has room for, 1,048,576 blocks and 2,136,997,888 bytes
-unfoldable pub logBlocks : ℕ → ℕ → ℕ → ℕ → ℕ
-logBlocks dblocks agsize prealloc bs =
-    min (min (min (max (dblocks / logRatio) (minLogBytes / bs)) (agsize - prealloc - logReserve)) maxLogBlocks) (maxLogBytes / bs)
+-- the free list has 6 blocks with rmapbt, else 4
+unfoldable pub freelistOf : Features → ℕ
+freelistOf f = when (f .rmapbt) rmapFreelist plainFreelist
+
+-- the log's upper limit: in roomy sizing the log group's own length less head and the larger of 5 and the free list, else agsize less head and 5
+unfoldable pub logLimit : Bool → Features → ℕ → ℕ → ℕ → ℕ → ℕ
+logLimit roomy f dblocks agsize agcount prealloc =
+    when roomy (groupBlocks dblocks agsize agcount (agcount / 2) - prealloc - max logReserve (freelistOf f)) (agsize - prealloc - logReserve)
+
+-- the log: a 2048th of the blocks, at least 64 MiB, at most the limit, 1,048,576 blocks and 2,136,997,888 bytes
+unfoldable pub logBlocks : ℕ → ℕ → ℕ → ℕ
+logBlocks dblocks limit bs =
+    min (min (min (max (dblocks / logRatio) (minLogBytes / bs)) limit) maxLogBlocks) (maxLogBytes / bs)
 
 -- imaxpct where none is given: 25 below 1 TiB, 5 below 50 TiB, else 1
 unfoldable pub defaultImaxpct : ℕ → ℕ → ℕ

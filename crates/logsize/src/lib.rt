@@ -1,8 +1,11 @@
 // Head blocks, log and imaxpct, and the refusals that they meet: 19 to 24.
 ghost use mathlib.Core.Path.{_≡_};
 ghost use Rattle.refusals.specs.Table.{first};
-ghost use Rattle.logsize.specs.Log.{headerOf, preallocOf, logBlocks, defaultImaxpct, imaxpctOf, lastRefusals};
+ghost use Prim.Native.Nat.{_/_};
+ghost use Rattle.grouping.specs.Groups.{groupBlocks};
+ghost use Rattle.logsize.specs.Log.{headerOf, preallocOf, freelistOf, logLimit, logBlocks, defaultImaxpct, imaxpctOf, lastRefusals};
 use arith::choice::bit_of;
+use arith::choice::pick_u64;
 use arith::numbers::div_ceil;
 use arith::numbers::max_u64;
 use arith::numbers::min_u64;
@@ -30,6 +33,10 @@ pub const LOG_RATIO: u64 = 2048; // blocks of the file system for one of the log
 
 pub const ALLOCBT_AGFL_RESERVE: u64 = 4; // blocks
 
+pub const RMAP_FREELIST: u64 = 6; // blocks of a free list with rmapbt
+
+pub const PLAIN_FREELIST: u64 = 4; // and without
+
 pub const MAX_IMAXPCT: u8 = 100; // percent
 
 pub const MAX_LABEL: usize = 12; // bytes
@@ -50,14 +57,51 @@ pub fn prealloc_of(f: Features, sector: u32, bs: u64) -> u64
     header + 3 + bit_of(f.finobt) + bit_of(f.rmapbt) + bit_of(f.reflink)
 }
 
-// The blocks of the log.
-pub fn log_blocks(dblocks: u64, agsize: u64, prealloc: u64, bs: u64) -> u64
-    ensures { λ r. ⌜ r ≡ logBlocks dblocks agsize prealloc bs ⌝ }
+// Blocks of the free list with these features.
+pub fn freelist_of(f: Features) -> u64
+    ensures { λ r. ⌜ r ≡ freelistOf f ⌝ }
 {
-    let room = minus(minus(agsize, prealloc), ALLOCBT_AGFL_RESERVE + 1);
+    pick_u64(f.rmapbt, RMAP_FREELIST, PLAIN_FREELIST)
+}
+
+// Blocks of the log group: only of one group or two it is the last.
+fn log_group_blocks(dblocks: u64, agsize: u64, agcount: u64) -> u64
+    ensures { λ r. ⌜ r ≡ groupBlocks dblocks agsize agcount (agcount / 2) ⌝ }
+{
+    if agcount < 2 {
+        return dblocks;
+    }
+    if agcount == 2 {
+        return minus(dblocks, agsize);
+    }
+    agsize
+}
+
+// The log's upper limit, by its sizing.
+pub fn log_limit(
+    roomy: bool,
+    f: Features,
+    dblocks: u64,
+    agsize: u64,
+    agcount: u64,
+    prealloc: u64,
+) -> u64
+    ensures { λ r. ⌜ r ≡ logLimit roomy f dblocks agsize agcount prealloc ⌝ }
+{
+    let reserve = ALLOCBT_AGFL_RESERVE + 1;
+    let own = log_group_blocks(dblocks, agsize, agcount);
+    let left = max_u64(reserve, freelist_of(f));
+    let limit = minus(minus(own, prealloc), left);
+    pick_u64(roomy, limit, minus(minus(agsize, prealloc), reserve))
+}
+
+// The blocks of the log.
+pub fn log_blocks(dblocks: u64, limit: u64, bs: u64) -> u64
+    ensures { λ r. ⌜ r ≡ logBlocks dblocks limit bs ⌝ }
+{
     let least = quotient(REALISTIC_LOG_BYTES, bs);
     let wanted = max_u64(dblocks / LOG_RATIO, least);
-    let within = min_u64(min_u64(wanted, room), MAX_LOG_BLOCKS);
+    let within = min_u64(min_u64(wanted, limit), MAX_LOG_BLOCKS);
     min_u64(within, quotient(MAX_LOG_BYTES, bs))
 }
 

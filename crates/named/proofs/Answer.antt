@@ -16,51 +16,60 @@ use Rattle.geometry.specs.declared.Computed.{Computed}
 use Rattle.answers.specs.declared.Named.{Named}
 use Rattle.answers.specs.Named.{namedOptions, namedOn, namedFits, namedAnswer}
 use Rattle.naming.specs.Answers.{Answered}
-use Rattle.naming.proofs.Again.{label-kept}
+use Rattle.naming.proofs.Again.{label-kept, sizing-kept}
 use Rattle.naming.proofs.Exact.{fitting, accepted-fits}
 use Rattle.named.specs.Named.{namesAt, namedBy}
 use Rattle.named.proofs.Inside.{part-length}
 
-module _ (n : Named) (l : length (n .label) ≡ 12) (z : namedAnswer n .number ≡ 0) where
-  answer-is : namedAnswer n ≡ namedOn n 512
-  answer-is = fitting n (accepted-fits n z)
+module _ (roomy : Bool) (n : Named) (l : length (n .label) ≡ 12) (z : namedAnswer roomy n .number ≡ 0) where
+  answer-is : namedAnswer roomy n ≡ namedOn roomy n 512
+  answer-is = fitting roomy n (accepted-fits roomy n z)
 
-  step-number : namedOn n 512 .number ≡ 0
+  step-number : namedOn roomy n 512 .number ≡ 0
   step-number = ap (λ (c : Computed). c .number) (sym answer-is) ∙ z
 
-  answered : Answered (namedAnswer n .geometry)
+  pub answered : Answered (namedAnswer roomy n .geometry)
   unfolding namedOn namedOptions namedFits
   answered =
       let e = step-number in
-      let i : namedOn n 512 .geometry ≡ namedAnswer n .geometry = ap (λ (c : Computed). c .geometry) (sym answer-is) in
+      let i : namedOn roomy n 512 .geometry ≡ namedAnswer roomy n .geometry = ap (λ (c : Computed). c .geometry) (sym answer-is) in
       let d = n .dblocks * n .blocksize in
       record {
-        options = namedOptions n;
+        options = namedOptions roomy n;
         label = l;
         device = d;
-        small = ltb-true d (2 ^ 64) (left-true (ltb d (2 ^ 64)) _ (accepted-fits n z));
+        small = ltb-true d (2 ^ 64) (left-true (ltb d (2 ^ 64)) _ (accepted-fits roomy n z));
         logical = 512;
         physical = 512;
         accepted = λ k. record { number = e k; geometry = i k };
       }
 
-  label-size : length (namedAnswer n .geometry .label) ≡ 12
+  label-size : length (namedAnswer roomy n .geometry .label) ≡ 12
   unfolding namedOn namedOptions
-  label-size = rw answer-is (label-kept (namedOptions n) (n .dblocks * n .blocksize) 512 512 l step-number)
+  label-size = rw answer-is (label-kept (namedOptions roomy n) (n .dblocks * n .blocksize) 512 512 l step-number)
 
-module _ (xs : List ℕ) (h : 120 ≤ length xs) (z : namedBy xs .number ≡ 0) where
+  sizing-is : namedAnswer roomy n .geometry .roomy ≡ roomy
+  unfolding namedOn namedOptions
+  sizing-is = rw answer-is (sizing-kept (namedOptions roomy n) (n .dblocks * n .blocksize) 512 512 step-number)
+
+module _ (roomy : Bool) (xs : List ℕ) (h : 120 ≤ length xs) (z : namedBy roomy xs .number ≡ 0) where
   label-room : length (namesAt xs .label) ≡ 12
   unfolding namesAt
   label-room = part-length 108 12 xs (omega arith)
 
   -- WHAT IS NAMED IS AN ANSWER
-  pub named-answered : Answered (namedBy xs .geometry)
+  pub named-answered : Answered (namedBy roomy xs .geometry)
   unfolding namedBy
-  named-answered = answered (namesAt xs) label-room z
+  named-answered = answered roomy (namesAt xs) label-room z
 
-  pub named-label : length (namedBy xs .geometry .label) ≡ 12
+  pub named-label : length (namedBy roomy xs .geometry .label) ≡ 12
   unfolding namedBy
-  named-label = label-size (namesAt xs) label-room z
+  named-label = label-size roomy (namesAt xs) label-room z
+
+  -- UNDER THAT SIZING
+  pub named-sizing : namedBy roomy xs .geometry .roomy ≡ roomy
+  unfolding namedBy
+  named-sizing = sizing-is roomy (namesAt xs) label-room z
 
 -- ---- bytes that pass 64 bits
 

@@ -33,6 +33,7 @@ record Small (g : Geometry) : Type 0 where
   pub sectsize : g .sectsize < 256 ^ 2
   pub inodesize : g .inodesize < 256 ^ 2
   pub imaxpct : g .imaxpct < 256 ^ 1
+  pub logblocks : g .logblocks < 256 ^ 4
   pub sector : 512 ≤ g .sectsize
 
 small : (g : Geometry) → Bounds g → Small g
@@ -50,6 +51,7 @@ small g b =
       sectsize = omega (arith, s .sector-power);
       inodesize = omega (arith, s .inode-power);
       imaxpct = omega (arith, s .imaxpct-most);
+      logblocks = omega (arith, b .places .log-blocks);
       sector = omega (arith, s .sector-power);
     }
 
@@ -96,15 +98,19 @@ module _ (g : Geometry) (s : SbState) (u : length (s .uuid) ≡ 16) (l : length 
         label = label i;
       }
 
-  -- WHICH IS ITS GEOMETRY
-  pub named-back : namedBy xs ≡ record { number = 0; geometry = g }
+  -- WHICH IS ITS GEOMETRY, UNDER ITS SIZING
+  pub named-back : namedBy (g .roomy) xs ≡ record { number = 0; geometry = g }
   unfolding namedBy
-  named-back = ap namedAnswer names-back ∙ answer-again g (sound g l a)
+  named-back = ap (namedAnswer (g .roomy)) names-back ∙ answer-again g (sound g l a)
 
   -- AND ITS UUID
   pub uuid-back : uuidAt xs ≡ s .uuid
   unfolding uuidAt
   uuid-back = bytes-are 32 16 (lit≤ tt) ∙ read.uuid-back g s u l (lent g) room
+
+  -- sb_logblocks, which is not read for naming
+  pub log-back : beAt 4 96 xs ≡ g .logblocks
+  log-back = number-is 4 96 (lit≤ tt) ∙ read.logblocks-back g s u l (lent g) room (fits .logblocks)
 
   -- sb_inprogress, which is not read for naming
   pub progress-back : beAt 1 126 xs ≡ bit (s .inprogress)

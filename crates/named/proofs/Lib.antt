@@ -3,3 +3,4 @@ pub mod Features
 pub mod Back
 pub mod Only
 pub mod Answer
+pub mod Sizings

@@ -1,6 +1,7 @@
 -- No byte outside the named places is read for naming.
 -- Assumes nothing.
 use mathlib.Core.Path.{_≡_, ap}
+use mathlib.Core.Bool.{Bool}
 use mathlib.Core.List.{List}
 use Prim.Native.Nat.{ℕ}
 use Rattle.answers.specs.Named.{namedAnswer}
@@ -32,7 +33,7 @@ module _ (xs ys : List ℕ) (a : Agree namedPlaces xs ys) where
         label = label i;
       }
 
-  -- TWO LISTS WITH THE SAME BYTES IN THE NAMED PLACES NAME THE SAME
-  pub same-named : namedBy xs ≡ namedBy ys
+  -- TWO LISTS WITH THE SAME BYTES IN THE NAMED PLACES NAME THE SAME, UNDER EITHER SIZING
+  pub same-named : (roomy : Bool) → namedBy roomy xs ≡ namedBy roomy ys
   unfolding namedBy
-  same-named = ap namedAnswer same-names
+  same-named roomy = ap (namedAnswer roomy) same-names

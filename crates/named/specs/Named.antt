@@ -43,9 +43,9 @@ namesAt xs =
       label = part 108 12 xs;  -- sb_fname
     }
 
--- what the geometry step answers for these, or 30 where the block count's bytes pass 64 bits
-unfoldable pub namedBy : List ℕ → Computed
-namedBy xs = namedAnswer (namesAt xs)
+-- what the geometry step answers for these under a sizing of the log, or 30 where the block count's bytes pass 64 bits
+unfoldable pub namedBy : Bool → List ℕ → Computed
+namedBy roomy xs = namedAnswer roomy (namesAt xs)
 
 -- sb_uuid
 unfoldable pub uuidAt : List ℕ → List ℕ

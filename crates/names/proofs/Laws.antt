@@ -1,6 +1,7 @@
 -- What is read for the name, by the length.
 -- Assumes nothing.
 use mathlib.Core.Path.{_≡_, refl, sym}
+use mathlib.Core.Bool.{Bool}
 use mathlib.Core.List.{List}
 use Prim.Native.Nat.{ℕ, _≤_, _<_}
 use lib.ListN.{length, replicate}
@@ -13,20 +14,20 @@ use Rattle.named.specs.Named.{namesAt, namedBy, uuidAt}
 use Rattle.names.specs.Read.{namedRead, uuidRead}
 
 module _ (xs : List ℕ) where
-  pub short-name : length xs < 512 → namedRead xs ≡ refused 27
+  pub short-name : (roomy : Bool) → length xs < 512 → namedRead roomy xs ≡ refused 27
   unfolding namedRead
-  short-name h = rw (lt-ltb (length xs) 512 h) refl
+  short-name roomy h = rw (lt-ltb (length xs) 512 h) refl
 
-  pub short-read : length xs < 512 → (g : Geometry) → g ≡ zeroGeometry → _≡_ {A = Computed} (record { number = 27; geometry = g }) (namedRead xs)
-  short-read h g e = rw e (sym (short-name h))
+  pub short-read : (roomy : Bool) → length xs < 512 → (g : Geometry) → g ≡ zeroGeometry → _≡_ {A = Computed} (record { number = 27; geometry = g }) (namedRead roomy xs)
+  short-read roomy h g e = rw e (sym (short-name roomy h))
 
-  pub full-name : 512 ≤ length xs → namedRead xs ≡ namedBy xs
+  pub full-name : (roomy : Bool) → 512 ≤ length xs → namedRead roomy xs ≡ namedBy roomy xs
   unfolding namedRead
-  full-name h = rw (le-ltb (length xs) 512 h) refl
+  full-name roomy h = rw (le-ltb (length xs) 512 h) refl
 
-  pub full-answer : 512 ≤ length xs → namedRead xs ≡ namedAnswer (namesAt xs)
+  pub full-answer : (roomy : Bool) → 512 ≤ length xs → namedRead roomy xs ≡ namedAnswer roomy (namesAt xs)
   unfolding namedRead namedBy
-  full-answer h = rw (le-ltb (length xs) 512 h) refl
+  full-answer roomy h = rw (le-ltb (length xs) 512 h) refl
 
   pub short-uuid : length xs < 512 → uuidRead xs ≡ replicate 16 0
   unfolding uuidRead

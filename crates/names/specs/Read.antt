@@ -1,5 +1,6 @@
 -- What is read for the name of any bytes: 27 under 512, else what the superblock at their start names.
 -- Assumes nothing.
+use mathlib.Core.Bool.{Bool}
 use mathlib.Core.List.{List}
 use Prim.Native.Nat.{ℕ}
 use lib.Dec.{ltb}
@@ -14,9 +15,9 @@ use Rattle.named.specs.Named.{namedBy, uuidAt}
 abbrev pub least : ℕ
 least = 512
 
--- the geometry, or its refusal
-unfoldable pub namedRead : List ℕ → Computed
-namedRead xs = choose (ltb (length xs) least) (refused wrongLength) (namedBy xs)
+-- the geometry under a sizing of the log, or its refusal
+unfoldable pub namedRead : Bool → List ℕ → Computed
+namedRead roomy xs = choose (ltb (length xs) least) (refused wrongLength) (namedBy roomy xs)
 
 -- the UUID, or zeros
 unfoldable pub uuidRead : List ℕ → List ℕ

@@ -115,9 +115,9 @@ fn names_at(head: &[u8]) -> Named
     }
 }
 
-// The geometry that the superblock at the start of the bytes names, or a refusal: 27 under 512 bytes.
-pub fn named_by(head: &[u8]) -> Computed
-    ensures { λ r. ⌜ r ≡ namedRead (now (head .entry)) ⌝ }
+// The geometry that the superblock at the start of the bytes names under a sizing of the log, or a refusal: 27 under 512 bytes.
+pub fn named_by(head: &[u8], roomy: bool) -> Computed
+    ensures { λ r. ⌜ r ≡ namedRead roomy (now (head .entry)) ⌝ }
 {
     if head.len() < LEAST_SECTOR {
         let geometry = Geometry::zero();
@@ -126,7 +126,7 @@ pub fn named_by(head: &[u8]) -> Computed
             geometry,
         };
     }
-    names_at(head).answer()
+    names_at(head).answer(roomy)
 }
 
 // Its UUID, zeros under 512 bytes.

@@ -89,7 +89,7 @@ named-sizes s = record { block = s .block; sector = s .sector; inode = s .inode;
 
 -- the options that the geometry of a choice names
 abbrev named-by : Params → Sizes → Groups → Groups → Params
-named-by p s a g = namedOptions (namesOf (geometryOf p (withGroups p s a g)))
+named-by p s a g = namedOptions (p .roomy) (namesOf (geometryOf p (withGroups p s a g)))
 
 chosen-again : (p : Params) (s : Sizes) (a g : Groups) (other : ℕ) → 0 < s .block → isShort g (minGroup (s .block)) ≡ false → g .agcount ≡ ceilDiv (g .dblocks) (g .agsize) → chosenOf (named-by p s a g) (g .dblocks * s .block) 512 other ≡ withGroups (named-by p s a g) (named-sizes s) g g
 unfolding chosenOf withSizes sizesOf namedOptions namesOf geometryOf withGroups
@@ -152,18 +152,26 @@ module _ (p : Params) (device logical physical : ℕ) where
   unfolding computeDef
   its-geometry e = ap (λ (r : Computed). r .geometry) (accepted number chosen (is-accepted e))
 
-  chosen-named : (other : ℕ) → length (p .label .bytes) ≡ 12 → number ≡ 0 → namedOn (namesOf chosen) other ≡ answer number chosen
+  chosen-named : (other : ℕ) → length (p .label .bytes) ≡ 12 → number ≡ 0 → namedOn (p .roomy) (namesOf chosen) other ≡ answer number chosen
   unfolding chosenOf withSizes geometryOf withGroups namedOn namesOf
   chosen-named other label z =
       let s = sizesOf p logical physical in
       let a = askedGroups p device s in
       again-at p device s a (trim a (minGroup (s .block))) (not-short a (minGroup (s .block))) label z other
 
-  -- an accepted answer comes again from what its geometry names, with any physical sector
-  pub again : (other : ℕ) → length (p .label .bytes) ≡ 12 → computeDef p device logical physical .number ≡ 0 → namedOn (namesOf (computeDef p device logical physical .geometry)) other ≡ computeDef p device logical physical
+  -- an accepted answer comes again from what its geometry names, under its sizing, with any physical sector
+  pub again : (other : ℕ) → length (p .label .bytes) ≡ 12 → computeDef p device logical physical .number ≡ 0 → namedOn (p .roomy) (namesOf (computeDef p device logical physical .geometry)) other ≡ computeDef p device logical physical
   unfolding computeDef
   again other label e =
-      ap (λ (x : Geometry). namedOn (namesOf x) other) (its-geometry e) ∙ chosen-named other label (is-accepted e)
+      ap (λ (x : Geometry). namedOn (p .roomy) (namesOf x) other) (its-geometry e) ∙ chosen-named other label (is-accepted e)
+
+  chosen-sizing : chosen .roomy ≡ p .roomy
+  unfolding geometryOf
+  chosen-sizing = refl
+
+  -- the geometry carries the sizing
+  pub sizing-kept : computeDef p device logical physical .number ≡ 0 → computeDef p device logical physical .geometry .roomy ≡ p .roomy
+  sizing-kept e = rw (its-geometry e) chosen-sizing
 
   chosen-bytes : number ≡ 0 → (chosen .dblocks * chosen .blocksize ≤ device) × (chosen .agsize * chosen .blocksize ≤ device)
   unfolding chosenOf withSizes geometryOf withGroups

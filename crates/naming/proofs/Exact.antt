@@ -15,22 +15,22 @@ use Rattle.geometry.specs.Compute.{computeDef, refused}
 use Rattle.answers.specs.Same.{sameGeometry}
 use Rattle.answers.specs.Named.{namedOptions, namedOn, namedFits, namedAnswer, namesOf, isAnswer}
 use Rattle.naming.specs.Answers.{Answered, TypedOptions, TypedGeometry, TypedAnswer}
-use Rattle.naming.proofs.Again.{again, bytes, label-kept}
+use Rattle.naming.proofs.Again.{again, sizing-kept, bytes, label-kept}
 use Rattle.naming.proofs.Same.{geometry-refl, same-is}
 
 -- where the bytes fit, the answer is the step's
-pub fitting : (n : Named) → namedFits n ≡ true → namedAnswer n ≡ namedOn n 512
+pub fitting : (roomy : Bool) (n : Named) → namedFits n ≡ true → namedAnswer roomy n ≡ namedOn roomy n 512
 unfolding namedAnswer
-fitting n h = rw h
+fitting roomy n h = rw h
 
 -- a named geometry that is accepted has bytes that fit
-fit-case : (n : Named) (t : Bool) → namedFits n ≡ t → namedAnswer n .number ≡ 0 → namedFits n ≡ true
+fit-case : (roomy : Bool) (n : Named) (t : Bool) → namedFits n ≡ t → namedAnswer roomy n .number ≡ 0 → namedFits n ≡ true
 unfolding namedAnswer
-fit-case n true h e = h
-fit-case n false h e = absurd (let z : _≡_ {A = ℕ} 30 0 = sym (ap (λ (t : Bool). cond t (namedOn n 512) (refused 30) .number) h) ∙ e in omega arith)
+fit-case roomy n true h e = h
+fit-case roomy n false h e = absurd (let z : _≡_ {A = ℕ} 30 0 = sym (ap (λ (t : Bool). cond t (namedOn roomy n 512) (refused 30) .number) h) ∙ e in omega arith)
 
-pub accepted-fits : (n : Named) → namedAnswer n .number ≡ 0 → namedFits n ≡ true
-accepted-fits n e = fit-case n (namedFits n) refl e
+pub accepted-fits : (roomy : Bool) (n : Named) → namedAnswer roomy n .number ≡ 0 → namedFits n ≡ true
+accepted-fits roomy n e = fit-case roomy n (namedFits n) refl e
 
 module _ (g : Geometry) (a : Answered g) where
   its-number : computeDef (a .options) (a .device) (a .logical) (a .physical) .number ≡ 0
@@ -49,14 +49,15 @@ module _ (g : Geometry) (a : Answered g) where
       (lt-ltb (g .agsize * g .blocksize) (2 ^ 64) (omega arith))
 
   -- what an answer names gives it again, with any physical sector
-  pub named-again : (other : ℕ) → namedOn (namesOf g) other ≡ record { number = 0; geometry = g }
+  pub named-again : (other : ℕ) → namedOn (g .roomy) (namesOf g) other ≡ record { number = 0; geometry = g }
   named-again other =
-      ap (λ (x : Geometry). namedOn (namesOf x) other) (sym its-geometry)
+      ap (λ (x : Geometry). namedOn (x .roomy) (namesOf x) other) (sym its-geometry)
+      ∙ ap (λ (t : Bool). namedOn t (namesOf (computeDef (a .options) (a .device) (a .logical) (a .physical) .geometry)) other) (sizing-kept (a .options) (a .device) (a .logical) (a .physical) its-number)
       ∙ again (a .options) (a .device) (a .logical) (a .physical) other (a .label) its-number
       ∙ a .accepted
 
-  pub answer-again : namedAnswer (namesOf g) ≡ record { number = 0; geometry = g }
-  answer-again = fitting (namesOf g) answer-fits ∙ named-again 512
+  pub answer-again : namedAnswer (g .roomy) (namesOf g) ≡ record { number = 0; geometry = g }
+  answer-again = fitting (g .roomy) (namesOf g) answer-fits ∙ named-again 512
 
   -- the geometry of an accepted answer is an answer
   pub complete : isAnswer g ≡ true
@@ -64,10 +65,10 @@ module _ (g : Geometry) (a : Answered g) where
   complete = rw (answer-again, geometry-refl g)
 
 -- what is named, and the same as g, is an answer
-unfoldable pub named-answered : (g : Geometry) → length (g .label) ≡ 12 → namedFits (namesOf g) ≡ true → namedOn (namesOf g) 512 .number ≡ 0 → sameGeometry (namedOn (namesOf g) 512 .geometry) g ≡ true → Answered g
+unfoldable pub named-answered : (g : Geometry) → length (g .label) ≡ 12 → namedFits (namesOf g) ≡ true → namedOn (g .roomy) (namesOf g) 512 .number ≡ 0 → sameGeometry (namedOn (g .roomy) (namesOf g) 512 .geometry) g ≡ true → Answered g
 unfolding namedFits namesOf namedOn namedOptions
 named-answered g label f z s =
-    let p = namedOptions (namesOf g) in
+    let p = namedOptions (g .roomy) (namesOf g) in
     let d = g .dblocks * g .blocksize in
     let r = computeDef p d 512 512 in
     let e : r .geometry ≡ g = same-is (r .geometry) g (label-kept p d 512 512 label z) label s in
@@ -86,12 +87,12 @@ unfoldable pub sound : (g : Geometry) → length (g .label) ≡ 12 → isAnswer 
 unfolding isAnswer
 sound g label h =
     let n = namesOf g in
-    let z : namedAnswer n .number ≡ 0 = eqb-true (namedAnswer n .number) 0 (left-true (eqb (namedAnswer n .number) 0) _ h) in
-    let f : namedFits n ≡ true = accepted-fits n z in
-    named-answered g label f (sym (ap (λ (x : Computed). x .number) (fitting n f)) ∙ z)
-    (rw (fitting n f) at (right-true (eqb (namedAnswer n .number) 0) _ h))
+    let z : namedAnswer (g .roomy) n .number ≡ 0 = eqb-true (namedAnswer (g .roomy) n .number) 0 (left-true (eqb (namedAnswer (g .roomy) n .number) 0) _ h) in
+    let f : namedFits n ≡ true = accepted-fits (g .roomy) n z in
+    named-answered g label f (sym (ap (λ (x : Computed). x .number) (fitting (g .roomy) n f)) ∙ z)
+    (rw (fitting (g .roomy) n f) at (right-true (eqb (namedAnswer (g .roomy) n .number) 0) _ h))
 
-named-typed : (g : Geometry) → TypedGeometry g → namedFits (namesOf g) ≡ true → TypedOptions (namedOptions (namesOf g))
+named-typed : (g : Geometry) → TypedGeometry g → namedFits (namesOf g) ≡ true → TypedOptions (namedOptions (g .roomy) (namesOf g))
 unfolding namedOptions namesOf namedFits
 named-typed g t f =
     record {
@@ -111,10 +112,10 @@ named-typed g t f =
 typed : (g : Geometry) → TypedGeometry g → isAnswer g ≡ true → TypedAnswer g
 unfolding isAnswer sound named-answered
 typed g t h =
-    let z : namedAnswer (namesOf g) .number ≡ 0 = eqb-true (namedAnswer (namesOf g) .number) 0 (left-true (eqb (namedAnswer (namesOf g) .number) 0) _ h) in
+    let z : namedAnswer (g .roomy) (namesOf g) .number ≡ 0 = eqb-true (namedAnswer (g .roomy) (namesOf g) .number) 0 (left-true (eqb (namedAnswer (g .roomy) (namesOf g) .number) 0) _ h) in
     record {
       answered = sound g (t .label-size) h;
-      options = named-typed g t (accepted-fits (namesOf g) z);
+      options = named-typed g t (accepted-fits (g .roomy) (namesOf g) z);
       logical = omega arith;
       physical = omega arith;
     }

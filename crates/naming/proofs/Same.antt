@@ -33,7 +33,7 @@ from-refl (suc n) i a = rw (eq-eqb (getD a i 0) (getD a i 0) refl) (from-refl n 
 
 pub geometry-refl : (a : Geometry) → sameGeometry a a ≡ true
 unfolding sameGeometry
-geometry-refl a = rw (features-refl, from-refl 12, from-refl 19)
+geometry-refl a = rw (bool-refl, features-refl, from-refl 12, from-refl 19)
 
 -- ---- geometries of which the test holds are equal
 
@@ -77,9 +77,9 @@ features-same a b h0 =
 abbrev At : Geometry → Geometry → ℕ → Type 0
 At a b k = getD (numbersOf a) (0 + k) 0 ≡ getD (numbersOf b) (0 + k) 0
 
-geometry-same : (a b : Geometry) → a .features ≡ b .features → a .label ≡ b .label → ((k : ℕ) → k < 19 → At a b k) → a ≡ b
+geometry-same : (a b : Geometry) → a .roomy ≡ b .roomy → a .features ≡ b .features → a .label ≡ b .label → ((k : ℕ) → k < 19 → At a b k) → a ≡ b
 unfolding numbersOf
-geometry-same a b f l at =
+geometry-same a b s f l at =
     λ i.
     record {
       blocksize = at 0 (omega arith) i;
@@ -103,12 +103,15 @@ geometry-same a b f l at =
       «log_agbno» = at 18 (omega arith) i;
       features = f i;
       label = l i;
+      roomy = s i;
     }
 
 pub same-is : (a b : Geometry) → length (a .label) ≡ 12 → length (b .label) ≡ 12 → sameGeometry a b ≡ true → a ≡ b
 unfolding sameGeometry
 same-is a b x y h =
-    let r = right-true (sameFeatures (a .features) (b .features)) _ h in
-    geometry-same a b (features-same (a .features) (b .features) (left-true (sameFeatures (a .features) (b .features)) _ h))
+    let q = right-true (sameBool (a .roomy) (b .roomy)) _ h in
+    let r = right-true (sameFeatures (a .features) (b .features)) _ q in
+    geometry-same a b (bool-same (a .roomy) (b .roomy) (left-true (sameBool (a .roomy) (b .roomy)) _ h))
+    (features-same (a .features) (b .features) (left-true (sameFeatures (a .features) (b .features)) _ q))
     (label-same (a .label) (b .label) x y (left-true (sameFrom 12 0 (a .label) (b .label)) _ r))
     (from-same 19 0 (numbersOf a) (numbersOf b) (right-true (sameFrom 12 0 (a .label) (b .label)) _ r))

@@ -114,7 +114,7 @@ module _ (p : Params) (device : ℕ) (s : Sizes) (a g : Groups) (c : clear (refu
       (left (sizes-part s ++ options-part p device s a) (groups-part s g)
       (left (sizes-part s ++ options-part p device s a ++ groups-part s g) (last-part p s a g) (c .1)))
 
-  options-clear : clear (options-part p device s a)
+  pub options-clear : clear (options-part p device s a)
   unfolding refusals withGroups
   options-clear =
       right (sizes-part s) (options-part p device s a)

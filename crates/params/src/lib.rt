@@ -1,6 +1,6 @@
 // The options of a format run, as the caller asks for them, and the features.
 ghost use mathlib.Core.Path.{_≡_};
-ghost use Rattle.params.specs.Params.{allFeatures, noOptions, withSize, withBlockSize, withSectorSize, withInodeSize, withAgcount, withAgsize, withImaxpct, withLabel, withUuid, withTime, withGenSeed, withFeatures};
+ghost use Rattle.params.specs.Params.{allFeatures, noOptions, withSize, withBlockSize, withSectorSize, withInodeSize, withAgcount, withAgsize, withImaxpct, withLabel, withUuid, withTime, withGenSeed, withFeatures, withRoomy};
 
 // An option of 64 bits.
 pub enum OptU64 {
@@ -73,6 +73,7 @@ pub struct Params {
     pub time: OptTime,
     pub gen_seed: OptU64,
     pub features: Features,
+    pub roomy: bool, // roomy log sizing, else plain
 }
 
 impl Features {
@@ -119,6 +120,7 @@ impl Params {
             time: OptTime::Absent,
             gen_seed: OptU64::Absent,
             features,
+            roomy: false,
         }
     }
 
@@ -226,5 +228,11 @@ impl Params {
         ensures { λ r. ⌜ r ≡ withFeatures self features ⌝ }
     {
         Params { features, ..self }
+    }
+
+    pub fn roomy(self, roomy: bool) -> Params
+        ensures { λ r. ⌜ r ≡ withRoomy self roomy ⌝ }
+    {
+        Params { roomy, ..self }
     }
 }

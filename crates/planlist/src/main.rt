@@ -164,9 +164,8 @@ fn answer_first(input: &[u8], n: usize, buf: &mut [u8]) -> bool {
     false
 }
 
-// No well-formed input has more than 415 bytes, so one more is enough to read.
 fn main() {
-    let mut input = [0u8; 416];
+    let mut input = request::input_buffer();
     let mut buf = io::large_buffer();
     let i = read_input(&mut input);
     if i.failed {

@@ -33,7 +33,7 @@ pub(crate) struct Pass {
 
 // Bytes of the head that begins with this sector; a sector that names no geometry is all that is read.
 pub(crate) fn named_bytes(sector: &[u8]) -> usize {
-    let named = named_by(sector);
+    let named = named_by(sector, false); // what plain sizing refuses, roomy sizing refuses too, and the head's length is the same
     let g = named.geometry;
     if named.number != 0 {
         return LEAST_SECTOR;

@@ -74,7 +74,16 @@ fn say_blocks(g: Geometry) {
     say(b"\n");
 }
 
-// An accepted disk: UUID, label and sizes.
+// The sizing of the log: plain also where a roomy run leaves the same log.
+fn say_sizing(roomy: bool) {
+    if roomy {
+        say(b"log sizing: roomy\n");
+        return;
+    }
+    say(b"log sizing: plain\n");
+}
+
+// An accepted disk: UUID, label, sizes and the sizing of its log.
 pub(crate) fn say_disk(g: Geometry, uuid: [u8; 16]) {
     let label = g.label;
     say(b"uuid ");
@@ -82,6 +91,7 @@ pub(crate) fn say_disk(g: Geometry, uuid: [u8; 16]) {
     say_label(&label);
     say_sizes(g);
     say_blocks(g);
+    say_sizing(g.roomy);
 }
 
 // A place: the head of a group, or behind the last group the log.

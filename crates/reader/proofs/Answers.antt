@@ -18,7 +18,7 @@ use Rattle.totals.specs.Totals.{plansNumber}
 use Rattle.sameplan.specs.Same.{eqList}
 use Rattle.named.specs.Named.{namedBy, uuidAt}
 use Rattle.exact.specs.declared.Found.{Found}
-use Rattle.exact.specs.Read.{notFound, found, firstTests, foundAs, readGroup0, placeTests, groupNumber, readGroup}
+use Rattle.exact.specs.Read.{notFound, found, firstTests, foundAs, readAs, placeTests, groupNumber, readGroup}
 
 -- ---- any group
 
@@ -37,25 +37,25 @@ module _ (g : Geometry) (u : List ℕ) (k : ℕ) (xs : List ℕ) where
 pub none-found : (n : ℕ) (g : Geometry) (q : Planned) → g ≡ zeroGeometry → q ≡ refusedPlan n → _≡_ {A = Found} (record { number = n; geometry = g; uuid = replicate 16 0; plan = q .plan }) (notFound n)
 none-found n g q e d = rw (e, d) refl
 
-module _ (xs : List ℕ) where
-  pub short : length xs < 512 → notFound 27 ≡ readGroup0 xs
-  unfolding readGroup0 firstTests foundAs when
+module _ (roomy : Bool) (xs : List ℕ) where
+  pub short : length xs < 512 → notFound 27 ≡ readAs roomy xs
+  unfolding readAs firstTests foundAs when
   short h = rw (lt-ltb (length xs) 512 h) refl
 
   module _ (l : 512 ≤ length xs) where
-    pub not-named : (namedBy xs .number ≡ 0 → ⊥) → notFound 30 ≡ readGroup0 xs
-    unfolding readGroup0 firstTests foundAs when
-    not-named h = rw (le-ltb (length xs) 512 l, ne-eqb (namedBy xs .number) 0 h) refl
+    pub not-named : (namedBy roomy xs .number ≡ 0 → ⊥) → notFound 30 ≡ readAs roomy xs
+    unfolding readAs firstTests foundAs when
+    not-named h = rw (le-ltb (length xs) 512 l, ne-eqb (namedBy roomy xs .number) 0 h) refl
 
-    module _ (z : namedBy xs .number ≡ 0) (a : isAnswer (namedBy xs .geometry) ≡ true) (c : 0 < namedBy xs .geometry .agcount) (n : ℕ) (e : n ≡ groupNumber (namedBy xs .geometry) (uuidAt xs) 0 xs) where
-      number-is : first (firstTests xs (namedBy xs .geometry) (uuidAt xs)) 0 ≡ n
+    module _ (z : namedBy roomy xs .number ≡ 0) (a : isAnswer (namedBy roomy xs .geometry) ≡ true) (c : 0 < namedBy roomy xs .geometry .agcount) (n : ℕ) (e : n ≡ groupNumber (namedBy roomy xs .geometry) (uuidAt xs) 0 xs) where
+      number-is : first (firstTests xs (namedBy roomy xs) (uuidAt xs)) 0 ≡ n
       unfolding firstTests groupNumber placeTests when
-      number-is = rw (e, le-ltb (length xs) 512 l, eq-eqb (namedBy xs .number) 0 z, a, lt-leb (namedBy xs .geometry .agcount) 0 c) refl
+      number-is = rw (e, le-ltb (length xs) 512 l, eq-eqb (namedBy roomy xs .number) 0 z, a, lt-leb (namedBy roomy xs .geometry .agcount) 0 c) refl
 
-      pub refused-first : (n ≡ 0 → ⊥) → notFound n ≡ readGroup0 xs
-      unfolding readGroup0 foundAs
+      pub refused-first : (n ≡ 0 → ⊥) → notFound n ≡ readAs roomy xs
+      unfolding readAs foundAs
       refused-first h = rw (number-is, ne-eqb n 0 h) refl
 
-      pub accepted-first : n ≡ 0 → found (namedBy xs .geometry) (uuidAt xs) (planned (namedBy xs .geometry) 0 .plan) ≡ readGroup0 xs
-      unfolding readGroup0 foundAs
+      pub accepted-first : n ≡ 0 → found (namedBy roomy xs .geometry) (uuidAt xs) (planned (namedBy roomy xs .geometry) 0 .plan) ≡ readAs roomy xs
+      unfolding readAs foundAs
       accepted-first h = rw (number-is, h) refl

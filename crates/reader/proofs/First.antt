@@ -1,11 +1,13 @@
 -- Group 0's answer from what is read for its name.
 -- Assumes nothing.
 use mathlib.Core.Path.{_≡_, sym, ap, ap₂, _∙_}
-use mathlib.Core.Bool.{true}
+use mathlib.Core.Bool.{Bool, true, false}
 use mathlib.Core.List.{List}
 use Prim.Native.Nat.{ℕ, _<_, _≤_}
 use native.Mathlib.Omega.{arith}
+use borrow.Author.Tests.{lt-ltb, le-ltb}
 use lib.ListN.{length}
+use Rattle.seqs.specs.Lists.{choose}
 use Rattle.geometry.specs.declared.Computed.{Computed}
 use Rattle.answers.specs.Named.{isAnswer}
 use Rattle.naming.proofs.Exact.{complete}
@@ -16,43 +18,62 @@ use Rattle.named.specs.Named.{namedBy, uuidAt}
 use Rattle.named.proofs.Answer.{named-answered, named-label}
 use Rattle.names.specs.Read.{namedRead, uuidRead}
 use Rattle.names.proofs.Laws.{full-name, full-uuid}
-use Rattle.exact.specs.Read.{notFound, found, readGroup0, groupNumber}
+use Rattle.exact.specs.Read.{notFound, found, readAs, lesser, readGroup0, groupNumber}
+use Rattle.exact.specs.declared.Found.{Found}
 use Rattle.reader.proofs.Answers.{not-named, refused-first, accepted-first}
 
-module _ (xs : List ℕ) (l : 512 ≤ length xs) (r : Computed) (e : r ≡ namedRead xs) where
-  is-named : r ≡ namedBy xs
-  is-named = e ∙ full-name xs l
+module _ (roomy : Bool) (xs : List ℕ) (l : 512 ≤ length xs) (r : Computed) (e : r ≡ namedRead roomy xs) where
+  is-named : r ≡ namedBy roomy xs
+  is-named = e ∙ full-name xs roomy l
 
-  number-named : r .number ≡ namedBy xs .number
+  number-named : r .number ≡ namedBy roomy xs .number
   number-named = ap (λ (c : Computed). c .number) is-named
 
-  pub unnamed : (r .number ≡ 0 → ⊥) → notFound 30 ≡ readGroup0 xs
-  unnamed h = not-named xs l (λ z. h (number-named ∙ z))
+  pub unnamed : (r .number ≡ 0 → ⊥) → notFound 30 ≡ readAs roomy xs
+  unnamed h = not-named roomy xs l (λ z. h (number-named ∙ z))
 
   module _ (z : r .number ≡ 0) where
-    its-number : namedBy xs .number ≡ 0
+    its-number : namedBy roomy xs .number ≡ 0
     its-number = sym number-named ∙ z
 
     -- what is named is an answer, and has a group 0
-    its-answer : (isAnswer (namedBy xs .geometry) ≡ true) × (0 < namedBy xs .geometry .agcount)
+    its-answer : (isAnswer (namedBy roomy xs .geometry) ≡ true) × (0 < namedBy roomy xs .geometry .agcount)
     its-answer =
         let h : 120 ≤ length xs = omega arith in
-        let a = complete (namedBy xs .geometry) (named-answered xs h its-number) in
-        let b = answer-bounds (namedBy xs .geometry) (named-label xs h its-number) a in
+        let a = complete (namedBy roomy xs .geometry) (named-answered roomy xs h its-number) in
+        let b = answer-bounds (namedBy roomy xs .geometry) (named-label roomy xs h its-number) a in
         (a, let c = b .groups .count-least in omega arith)
 
     module _ (u : List ℕ) (f : u ≡ uuidRead xs) (n : ℕ) (m : n ≡ groupNumber (r .geometry) u 0 xs) where
       its-uuid : u ≡ uuidAt xs
       its-uuid = f ∙ full-uuid xs l
 
-      number-here : n ≡ groupNumber (namedBy xs .geometry) (uuidAt xs) 0 xs
+      number-here : n ≡ groupNumber (namedBy roomy xs .geometry) (uuidAt xs) 0 xs
       number-here = m ∙ ap₂ (λ (c : Computed) (v : List ℕ). groupNumber (c .geometry) v 0 xs) is-named its-uuid
 
-      pub refused-read : (n ≡ 0 → ⊥) → notFound n ≡ readGroup0 xs
-      refused-read h = refused-first xs l its-number (its-answer .0) (its-answer .1) n number-here h
+      pub refused-read : (n ≡ 0 → ⊥) → notFound n ≡ readAs roomy xs
+      refused-read h = refused-first roomy xs l its-number (its-answer .0) (its-answer .1) n number-here h
 
-      pub accepted-read : n ≡ 0 → (q : Planned) → q ≡ planned (r .geometry) 0 → found (r .geometry) u (q .plan) ≡ readGroup0 xs
+      pub accepted-read : n ≡ 0 → (q : Planned) → q ≡ planned (r .geometry) 0 → found (r .geometry) u (q .plan) ≡ readAs roomy xs
       accepted-read h q d =
           ap (λ (x : Planned). found (r .geometry) u (x .plan)) d
           ∙ ap₂ (λ (c : Computed) (v : List ℕ). found (c .geometry) v (planned (c .geometry) 0 .plan)) is-named its-uuid
-          ∙ accepted-first xs l its-number (its-answer .0) (its-answer .1) n number-here h
+          ∙ accepted-first roomy xs l its-number (its-answer .0) (its-answer .1) n number-here h
+
+-- ---- of the two readings
+
+module _ (xs : List ℕ) (old : Found) (e : old ≡ readAs false xs) where
+  pub old-given : old .number ≡ 0 → old ≡ readGroup0 xs
+  unfolding readGroup0
+  old-given z = e ∙ sym (ap (λ (t : Bool). choose t (readAs true xs) (readAs false xs)) (le-ltb (readAs true xs .number) (readAs false xs .number) (let n = ap (λ (f : Found). f .number) e in omega arith)))
+
+  module _ (roomy : Found) (d : roomy ≡ readAs true xs) where
+    both-given : lesser roomy old ≡ readGroup0 xs
+    unfolding readGroup0
+    both-given = ap₂ lesser d e
+
+    pub roomy-given : roomy .number < old .number → roomy ≡ readGroup0 xs
+    roomy-given h = sym (ap (λ (t : Bool). choose t roomy old) (lt-ltb (roomy .number) (old .number) h)) ∙ both-given
+
+    pub old-kept : old .number ≤ roomy .number → old ≡ readGroup0 xs
+    old-kept h = sym (ap (λ (t : Bool). choose t roomy old) (le-ltb (roomy .number) (old .number) h)) ∙ both-given

@@ -2,7 +2,7 @@
 // from it, and the two are compared.
 ghost use mathlib.Core.Path.{_≡_};
 ghost use Rattle.plan.specs.Plan.{refusedPlan};
-ghost use Rattle.exact.specs.Read.{notFound, readGroup0, readGroup, readLog};
+ghost use Rattle.exact.specs.Read.{notFound, readAs, readGroup0, readGroup, readLog};
 
 pub mod heads; // heads.rt: a head, made and compared
 pub mod logs; // logs.rt: the log's first block, made and compared
@@ -55,15 +55,14 @@ fn not_found(n: u32) -> Found
     }
 }
 
-// The head of group 0: its geometry, UUID and plan. 27 under 512 bytes; 30 where the superblock names no geometry that the geometry step
-// accepts; 27 for another length than the head's; 30 unless an accepted run leaves these bytes here.
-pub fn read_group0(head: &[u8]) -> Found
-    ensures { λ r. ⌜ r ≡ readGroup0 (now (head .entry)) ⌝ }
+// The head of group 0 under one sizing of the log.
+fn read_as(head: &[u8], roomy: bool) -> Found
+    ensures { λ r. ⌜ r ≡ readAs roomy (now (head .entry)) ⌝ }
 {
     if head.len() < names::LEAST_SECTOR {
         return not_found(WRONG_LENGTH);
     }
-    let named = named_by(head);
+    let named = named_by(head, roomy);
     if named.number != 0 {
         return not_found(NOT_LEFT);
     }
@@ -81,6 +80,23 @@ pub fn read_group0(head: &[u8]) -> Found
         uuid,
         plan,
     }
+}
+
+// The head of group 0: its geometry, UUID and plan. 27 under 512 bytes; 30 where the superblock names no geometry that the geometry step
+// accepts under either sizing; 27 for another length than the head's; 30 unless an accepted run of either sizing leaves these bytes here.
+// Where both leave them, plain sizing is given.
+pub fn read_group0(head: &[u8]) -> Found
+    ensures { λ r. ⌜ r ≡ readGroup0 (now (head .entry)) ⌝ }
+{
+    let old = read_as(head, false);
+    if old.number == 0 {
+        return old;
+    }
+    let roomy = read_as(head, true);
+    if roomy.number < old.number {
+        return roomy;
+    }
+    old
 }
 
 // The head of any group, with the geometry and the UUID that group 0 gave: its plan. 31 where the geometry is no answer of the geometry

@@ -1,4 +1,4 @@
--- The definition gives the table's numbers, and document 01's example its device; the longest input has 415 bytes.
+-- The definition gives the table's numbers, and document 01's example its device; the longest input is as long as is said.
 -- Assumes nothing.
 use mathlib.Core.Path.{_≡_, refl}
 use lib.Dec.{T}
@@ -8,7 +8,7 @@ use Rattle.endian.specs.Bytes.{beBytes, beAt}
 use Rattle.params.specs.Params.{noOptions}
 use Rattle.input.specs.Records.{optionBits, fits, recordAt, split, records, lookup, sound, startsWithDevice, wellFormed}
 use Rattle.request.specs.Options.{signed, featuresIn, labelAt, paramsOf}
-use Rattle.request.specs.Parse.{request, parseDef}
+use Rattle.request.specs.Parse.{longestInput, request, parseDef}
 use Rattle.request.specs.Defaults.{uuidOf, timeOf, seedOf}
 use Rattle.request.specs.Cases.{dv, op, lb, id, disk, full, all, cases}
 
@@ -20,7 +20,7 @@ pub example : parseDef disk ≡ request 0 noOptions 1_073_741_824 512 512
 unfolding beBytes beAt optionBits fits recordAt split records lookup sound startsWithDevice wellFormed signed featuresIn labelAt paramsOf parseDef dv disk
 example = refl
 
-pub full-length : length full ≡ 415
+pub full-length : length full ≡ longestInput
 unfolding beBytes dv op lb id disk full
 full-length = refl
 

@@ -1,4 +1,4 @@
--- A well-formed input has at most 415 bytes: each key stands once, and its record has a greatest length.
+-- No well-formed input is longer than the longest: each key stands once, and its record has a greatest length.
 -- Assumes nothing.
 use mathlib.Core.Path.{_≡_, refl, sym, ap, _∙_}
 use mathlib.Core.Bool.{Bool, true, false, not, _&&_}
@@ -13,6 +13,7 @@ use Rattle.params.specs.Options.{given64}
 use Rattle.input.specs.declared.Record.{Record}
 use Rattle.input.specs.Records.{option, optionBits, fits, known, more, recordAt, split, records, found, lookup, sound, startsWithDevice, wellFormed}
 use Rattle.input.proofs.Marks.{record-all, record-ends}
+use Rattle.request.specs.Parse.{longestInput}
 use Rattle.request.proofs.Values.{first, other, never}
 
 -- ---- weights of keys, each counted once
@@ -99,7 +100,7 @@ split-length xs bytes (suc n) at h e = go (ltb at (length xs)) refl e (split-len
         omega arith
     go false d e f = let g = ltb-false at (length xs) d in omega arith
 
-pub longest : (xs : List ℕ) → ((i : ℕ) → getD xs i 0 < 256) → wellFormed xs ≡ true → length xs ≤ 415
+pub longest : (xs : List ℕ) → ((i : ℕ) → getD xs i 0 < 256) → wellFormed xs ≡ true → length xs ≤ longestInput
 unfolding wellFormed records optionBits
 longest xs bytes e =
     let s = other (startsWithDevice (split (length xs - 0) 0 xs)) _ e in

@@ -78,6 +78,11 @@ abbrev pub featuresGiven : OptU64 → Features
 featuresGiven Absent = allFeatures
 featuresGiven (Given n) = featuresIn n
 
+-- the log is sized roomily where 1 is given
+abbrev pub roomyGiven : OptU64 → Bool
+roomyGiven Absent = false
+roomyGiven (Given n) = eqb n 1
+
 -- the label whose length stands at `p`: its length, and its first 12 bytes, filled up with zeros
 unfoldable pub labelAt : ℕ → List ℕ → Label
 labelAt p xs = record { length = getD xs p 0; bytes = part (p + 1) (min (getD xs p 0) 12) xs ++ replicate (12 - min (getD xs p 0) 12) 0 }
@@ -107,6 +112,7 @@ optionsIn rs xs =
     (timeGiven (lookup (option 10) rs) (lookup (option 11) rs))
     (lookup (option 8) rs)
     (featuresGiven (lookup (option 9) rs))
+    (roomyGiven (lookup (option 12) rs))
 
 unfoldable pub paramsOf : List ℕ → Params
 paramsOf xs = optionsIn (records 0 xs) xs

@@ -21,6 +21,10 @@ request number params device logical physical = record { number = number; params
 abbrev pub refusal : Request
 refusal = request malformed noOptions 0 0 0
 
+-- bytes of the longest well-formed input: each record at most once, the label of 255 bytes
+abbrev pub longestInput : ℕ
+longestInput = 426
+
 -- `DV` stands first: the device's size in 8 bytes, the logical and the physical sector in 4 each
 abbrev pub accepted : List ℕ → Request
 accepted xs = request 0 (paramsOf xs) (beAt 8 2 xs) (beAt 4 10 xs) (beAt 4 14 xs)

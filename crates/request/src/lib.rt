@@ -3,7 +3,9 @@ pub mod options; // the options that the records give
 pub mod defaults; // what stands for an absent UUID, time and seed
 
 ghost use mathlib.Core.Path.{_≡_};
-ghost use Rattle.request.specs.Parse.{parseDef, refusal};
+ghost use Prim.Native.Nat.{suc};
+ghost use lib.ListN.{length};
+ghost use Rattle.request.specs.Parse.{longestInput, parseDef, refusal};
 use params::Params;
 
 // The refusal of malformed input records.
@@ -29,6 +31,13 @@ fn malformed() -> Request
         logical: 0,
         physical: 0,
     }
+}
+
+// A buffer for an input: one byte more than the longest, so that an input which fills it is malformed whatever follows.
+pub fn input_buffer() -> [u8; 427]
+    ensures { λ r. ⌜ length r ≡ suc longestInput ⌝ }
+{
+    [0; 427]
 }
 
 // Reads the records of any input.

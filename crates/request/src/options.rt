@@ -5,7 +5,7 @@ ghost use Prim.Native.Nat.{_+_, _≤_, _<_};
 ghost use lib.ListN.{length, getD};
 ghost use Rattle.endian.specs.Fields.{part};
 ghost use Rattle.input.specs.Records.{optionBits, records, lookup, wellFormed};
-ghost use Rattle.request.specs.Options.{below, labelInside, uuidInside, short32, short8, signed, givenTime, timeGiven, on, featuresIn, featuresGiven, labelAt, labelGiven, uuidGiven, paramsOf};
+ghost use Rattle.request.specs.Options.{below, labelInside, uuidInside, short32, short8, signed, givenTime, timeGiven, on, featuresIn, featuresGiven, roomyGiven, labelAt, labelGiven, uuidGiven, paramsOf};
 use input::LABEL;
 use input::OPTION;
 use input::UUID;
@@ -43,6 +43,8 @@ const FEATURES: usize = 9;
 const SECONDS: usize = 10;
 
 const NANOSECONDS: usize = 11;
+
+const ROOMY: usize = 12;
 
 // 2^63
 const HALF: u64 = 0x8000_0000_0000_0000;
@@ -133,6 +135,15 @@ fn features_of(option: OptU64) -> Features
     match option {
         OptU64::Given(n) => features_in(n),
         OptU64::Absent => Features::default(),
+    }
+}
+
+fn roomy_of(option: OptU64) -> bool
+    ensures { λ r. ⌜ r ≡ roomyGiven option ⌝ }
+{
+    match option {
+        OptU64::Given(n) => n == 1,
+        OptU64::Absent => false,
     }
 }
 
@@ -271,5 +282,6 @@ pub(crate) fn params_of(input: &[u8]) -> Params
         time: time_in(input),
         gen_seed: option(input, SEED),
         features: features_of(option(input, FEATURES)),
+        roomy: roomy_of(option(input, ROOMY)),
     }
 }

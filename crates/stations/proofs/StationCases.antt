@@ -6,13 +6,13 @@ use Rattle.arith.specs.Choice.{when, bit}
 use Rattle.arith.specs.Numbers.{ceilDiv}
 use Rattle.arith.specs.Powers.{powerIn, powerLog, leastFrom, log2Up}
 use Rattle.sizes.specs.Sizes.{defaultSector, sizesOf, sizesRefusals}
-use Rattle.grouping.specs.Groups.{askedBlocks, defaultSize, initialGroups, isShort, trim, optionsRefusals, groupsRefusals}
-use Rattle.logsize.specs.Log.{headerOf, preallocOf, logBlocks, defaultImaxpct, lastRefusals}
+use Rattle.grouping.specs.Groups.{groupBlocks, askedBlocks, defaultSize, initialGroups, isShort, trim, optionsRefusals, groupsRefusals}
+use Rattle.logsize.specs.Log.{headerOf, preallocOf, freelistOf, logLimit, logBlocks, defaultImaxpct, lastRefusals}
 use Rattle.geometry.specs.Compute.{withGroups, withSizes, chosenOf, refusals, refusalOf, labelOf, geometryOf, zeroGeometry, computeDef}
 use Rattle.geometry.specs.Compute as compute
 use Rattle.answers.specs.Same.{sameFeatures, numbersOf, sameFrom, sameGeometry}
 use Rattle.answers.specs.Named.{namedOptions, namedOn, namedFits, namedAnswer, namesOf, isAnswer}
-use Rattle.layout.specs.Places.{ibtBlock, rmapBlock, refcBlock, freelistOf, chunkOf, clusterOf, alignOf, roundUp, aligned, rootChunkOf, groupBlocks, fsbOf, inoOf}
+use Rattle.layout.specs.Places.{ibtBlock, rmapBlock, refcBlock, chunkOf, clusterOf, alignOf, roundUp, aligned, rootChunkOf, fsbOf, inoOf}
 use Rattle.places.specs.Answers.{groupRefusal, rootChunk, rootIno}
 use Rattle.site.specs.Sites.{siteOf}
 use Rattle.seqs.specs.Lists.{firstIndex, pushed, appended, fold, turns, upFrom}
@@ -26,5 +26,5 @@ use Rattle.states.specs.States.{finishedState}
 use Rattle.stations.specs.Stations.{rootInode, shownGeometry, shown, acceptedPlans, plansBy, plansOf, same, passes, all, stations, rows, exampleRows, example}
 
 pub hold : T (all stations && same exampleRows example)
-unfolding when bit ceilDiv powerIn powerLog leastFrom log2Up defaultSector sizesOf sizesRefusals askedBlocks defaultSize initialGroups isShort trim optionsRefusals groupsRefusals headerOf preallocOf logBlocks defaultImaxpct lastRefusals withGroups withSizes chosenOf refusals refusalOf labelOf geometryOf zeroGeometry compute.answer computeDef sameFeatures numbersOf sameFrom sameGeometry namedOptions namedOn namedFits namedAnswer namesOf isAnswer ibtBlock rmapBlock refcBlock freelistOf chunkOf clusterOf alignOf roundUp aligned rootChunkOf groupBlocks fsbOf inoOf groupRefusal rootChunk rootIno siteOf firstIndex pushed appended fold turns upFrom valid weigh blocks negative cut takenAt takenFrom taken fitter bigger pickedFrom picked joinsLeft joinsRight insertedAt takes inserted freeAtFirst rmapAtFirst atFirst failed noted moved turn listed chunked answer planOf planned freeblksOf longestOf sumTo firstTo plansNumber freeCount rowOf totalOf finishedState rootInode shownGeometry shown acceptedPlans plansBy plansOf same passes all stations rows exampleRows example
+unfolding when bit ceilDiv powerIn powerLog leastFrom log2Up defaultSector sizesOf sizesRefusals askedBlocks defaultSize initialGroups isShort trim optionsRefusals groupsRefusals headerOf preallocOf logLimit logBlocks defaultImaxpct lastRefusals withGroups withSizes chosenOf refusals refusalOf labelOf geometryOf zeroGeometry compute.answer computeDef sameFeatures numbersOf sameFrom sameGeometry namedOptions namedOn namedFits namedAnswer namesOf isAnswer ibtBlock rmapBlock refcBlock freelistOf chunkOf clusterOf alignOf roundUp aligned rootChunkOf groupBlocks fsbOf inoOf groupRefusal rootChunk rootIno siteOf firstIndex pushed appended fold turns upFrom valid weigh blocks negative cut takenAt takenFrom taken fitter bigger pickedFrom picked joinsLeft joinsRight insertedAt takes inserted freeAtFirst rmapAtFirst atFirst failed noted moved turn listed chunked answer planOf planned freeblksOf longestOf sumTo firstTo plansNumber freeCount rowOf totalOf finishedState rootInode shownGeometry shown acceptedPlans plansBy plansOf same passes all stations rows exampleRows example
 hold = tt

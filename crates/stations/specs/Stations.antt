@@ -9,7 +9,7 @@ use Rattle.params.specs.declared.Features.{Features}
 use Rattle.params.specs.declared.OptU64.{OptU64}
 use Rattle.params.specs.declared.OptU64.the-variants.{Absent, Given}
 use Rattle.params.specs.declared.Params.{Params}
-use Rattle.params.specs.Params.{noOptions, withSectorSize, withAgcount, withAgsize, withFeatures}
+use Rattle.params.specs.Params.{noOptions, withSectorSize, withAgcount, withAgsize, withFeatures, withRoomy}
 use Rattle.geometry.specs.declared.Geometry.{Geometry}
 use Rattle.geometry.specs.declared.Computed.{Computed}
 use Rattle.grouping.specs.Limits.{mib}
@@ -124,6 +124,9 @@ stations =
     -- K6, K7
     ∷ case (withAgsize noOptions (76800 * block)) (80896 * block) (0 ∷ 80896 ∷ 76800 ∷ 2 ∷ 16384 ∷ 7 ∷ 128 ∷ []) (short 0)
     ∷ refused (withAgsize noOptions (76800 * block)) (80895 * block) 23
+    -- K4 and K6 in roomy sizing
+    ∷ refused (withRoomy (withAgcount noOptions 5) true) (5 * 16396 * block) 22
+    ∷ refused (withRoomy (withAgsize noOptions (76800 * block)) true) (80896 * block) 22
     -- K8
     ∷ case (withAgsize noOptions (87000 * block)) (1024 * mib) (0 ∷ 261000 ∷ 87000 ∷ 3 ∷ 16384 ∷ 7 ∷ 128 ∷ []) (0 ∷ 128 ∷ 244587 ∷ 16 ∷ 2 ∷ 1 ∷ [])
     ∷ refused (withAgcount (withAgsize noOptions (87000 * block)) 3) (1024 * mib) 14

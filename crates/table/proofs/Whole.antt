@@ -1,7 +1,7 @@
 -- On a disk that is read whole every row and the sums of the rows, taken from the bytes, are planlist's; and so is every row that the rows
 -- kept by kind give.
 -- Assumes nothing.
-use mathlib.Core.Path.{_≡_, refl, ap, sym, subst, _∙_}
+use mathlib.Core.Path.{_≡_, refl, ap, _∙_}
 use mathlib.Core.List.{List}
 use mathlib.Core.Bool.{Bool, true, false}
 use mathlib.Core.Logic.{⊎-elim}
@@ -21,13 +21,12 @@ use Rattle.totals.specs.declared.Row.{Row}
 use Rattle.totals.specs.declared.Total.{Total}
 use Rattle.totals.specs.Totals.{sumTo, plansNumber, rowOf, totalOf, constCount, closedTotal}
 use Rattle.totals.proofs.Whole.{all-planned, total-closed}
-use Rattle.run.specs.Runs.{runOf}
 use Rattle.accepted.specs.Accepted.{Source}
-use Rattle.accepted.proofs.Runs.{source-plans, source-label, source-uuid, source-of}
+use Rattle.accepted.proofs.Runs.{source-plans, source-label, source-uuid}
 use Rattle.exact.specs.declared.Found.{Found}
 use Rattle.exact.specs.Read.{readGroup0}
 use Rattle.exact.specs.Left.{Octets, ReadWhole}
-use Rattle.exact.proofs.Whole.{exact-whole, whole-found}
+use Rattle.exact.proofs.Whole.{whole-source, whole-heads}
 use Rattle.written.specs.Listing.{headLeft}
 use Rattle.byuse.specs.ByUse.{rowIn, LeftHeads}
 use Rattle.byuse.proofs.Table.{row-is}
@@ -151,12 +150,10 @@ LastLine f heads = sumsAt (f .geometry) heads (f .geometry .agcount) ≡ totalOf
 
 pub whole-table : (heads : ℕ → List ℕ) (log : List ℕ) → Octets (heads 0) → ReadWhole heads log → Rows (readGroup0 (heads 0)) heads × LastLine (readGroup0 (heads 0)) heads
 whole-table heads log o w =
-    let one = exact-whole heads log o .0 w in
-    let g = runOf (one .request) .geometry in
-    let u = runOf (one .request) .uuid in
-    let s = source-of (one .request) (one .accepted) in
-    let e = whole-found heads log one in
-    (subst (λ (f : Found). Rows f heads) (sym e) (its-row g u s heads (one .head)), subst (λ (f : Found). LastLine f heads) (sym e) (its-total g u s heads (one .head)))
+    let g = readGroup0 (heads 0) .geometry in
+    let u = readGroup0 (heads 0) .uuid in
+    let s = whole-source heads log o w in
+    (its-row g u s heads (whole-heads heads log o w), its-total g u s heads (whole-heads heads log o w))
 
 -- all rows are the same as the kept ones of their kind, which give every row again
 abbrev KeptRows : Found → (ℕ → List ℕ) → Type 0
@@ -171,11 +168,7 @@ kept-rows f heads l p rows =
 
 pub whole-kept : (heads : ℕ → List ℕ) (log : List ℕ) → Octets (heads 0) → ReadWhole heads log → KeptRows (readGroup0 (heads 0)) heads
 whole-kept heads log o w =
-    let one = exact-whole heads log o .0 w in
-    let g = runOf (one .request) .geometry in
-    let u = runOf (one .request) .uuid in
-    let s = source-of (one .request) (one .accepted) in
-    let e = whole-found heads log one in
-    kept-rows (readGroup0 (heads 0)) heads (subst (λ (f : Found). length (f .geometry .label) ≡ 12) (sym e) (source-label g u s))
-    (subst (λ (f : Found). plansNumber (f .geometry) ≡ 0) (sym e) (source-plans g u s))
-    (whole-table heads log o w .0)
+    let g = readGroup0 (heads 0) .geometry in
+    let u = readGroup0 (heads 0) .uuid in
+    let s = whole-source heads log o w in
+    kept-rows (readGroup0 (heads 0)) heads (source-label g u s) (source-plans g u s) (whole-table heads log o w .0)

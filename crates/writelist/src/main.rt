@@ -162,13 +162,12 @@ fn usage() {
     );
 }
 
-// No well-formed input has more than 415 bytes, so one more is enough to read.
 fn main() {
     if os::arg_count() != 1 {
         usage();
         return;
     }
-    let mut input = [0u8; 416];
+    let mut input = request::input_buffer();
     let i = read_input(&mut input);
     if i.failed {
         os::fail(b"standard input");

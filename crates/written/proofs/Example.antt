@@ -8,7 +8,7 @@ use Rattle.arith.specs.Powers.{powerIn, powerLog, leastFrom, log2Up}
 use Rattle.params.specs.Params.{noOptions}
 use Rattle.sizes.specs.Sizes.{defaultSector, sizesOf, sizesRefusals}
 use Rattle.grouping.specs.Groups.{askedBlocks, defaultSize, initialGroups, isShort, trim, optionsRefusals, groupsRefusals}
-use Rattle.logsize.specs.Log.{headerOf, preallocOf, logBlocks, defaultImaxpct, lastRefusals}
+use Rattle.logsize.specs.Log.{headerOf, preallocOf, logLimit, logBlocks, defaultImaxpct, lastRefusals}
 use Rattle.geometry.specs.declared.Geometry.{Geometry}
 use Rattle.geometry.specs.Compute.{withGroups, withSizes, chosenOf, refusals, refusalOf, labelOf, geometryOf, zeroGeometry, computeDef}
 use Rattle.geometry.specs.Compute as compute
@@ -22,7 +22,7 @@ abbrev gib : Geometry
 gib = computeDef noOptions 1073741824 512 512 .geometry
 
 pub example : (recordCount gib ≡ 43) × (blockCount gib ≡ 38) × (listLength gib ≡ 156390)
-unfolding when bit ceilDiv powerIn powerLog leastFrom log2Up defaultSector sizesOf sizesRefusals askedBlocks defaultSize initialGroups isShort trim optionsRefusals groupsRefusals headerOf preallocOf logBlocks defaultImaxpct lastRefusals withGroups withSizes chosenOf refusals refusalOf labelOf geometryOf zeroGeometry compute.answer computeDef chunkOf recordCount listLength blockCount
+unfolding when bit ceilDiv powerIn powerLog leastFrom log2Up defaultSector sizesOf sizesRefusals askedBlocks defaultSize initialGroups isShort trim optionsRefusals groupsRefusals headerOf preallocOf logLimit logBlocks defaultImaxpct lastRefusals withGroups withSizes chosenOf refusals refusalOf labelOf geometryOf zeroGeometry compute.answer computeDef chunkOf recordCount listLength blockCount
 example = (refl, refl, refl)
 
 -- the list of every run with its geometry

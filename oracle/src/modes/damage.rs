@@ -4,8 +4,9 @@
 
 use std::io;
 
+use super::plans::accepted;
 use super::reader::{disk, run, spread};
-use super::{Mode, Out, Told};
+use super::{roomy, Mode, Out, Told};
 use crate::disk::{head_bytes, named, Disk};
 use crate::frames::Fields;
 use crate::random::Random;
@@ -38,17 +39,20 @@ pub struct Damage {
     sectors: Vec<(Disk, Disk)>,
 }
 
+/// Makes an accepted run of at most GROUPS groups.
+type Run = fn(&mut Random) -> Vec<u8>;
+
 /// A disk with a UUID of its own.
-fn named_disk(r: &mut Random) -> Disk {
-    let mut q = Request::parse(&run(r, GROUPS)).unwrap();
+fn named_disk(r: &mut Random, run: Run) -> Disk {
+    let mut q = Request::parse(&run(r)).unwrap();
     q.id = Some(r.bytes(16).try_into().unwrap());
     disk(&q.encode()).unwrap()
 }
 
 /// Both disks of a request with blocks of 4096 bytes or more.
-fn two_sectors(r: &mut Random) -> (Disk, Disk) {
+fn two_sectors(r: &mut Random, run: Run) -> (Disk, Disk) {
     loop {
-        let mut q = Request::parse(&run(r, GROUPS)).unwrap();
+        let mut q = Request::parse(&run(r)).unwrap();
         spread(r, &mut q);
         let with = |sector| {
             let mut q = q.clone();
@@ -77,9 +81,23 @@ fn own(d: &Disk, place: u64) -> &[u8] {
 
 impl Damage {
     pub fn new() -> Damage {
+        Damage::of(|r| run(r, GROUPS))
+    }
+
+    /// The disks are roomy runs' by the model, most of them crowded.
+    pub fn roomy() -> Damage {
+        Damage::of(|r| loop {
+            let case = roomy::run(r);
+            if accepted(&case).1.is_some_and(|(_, g)| g.agcount <= GROUPS) {
+                return case;
+            }
+        })
+    }
+
+    fn of(run: Run) -> Damage {
         let mut r = Random::new(SEED);
-        let disks = (0..DISKS).map(|_| named_disk(&mut r)).collect();
-        let sectors = (0..PAIRS).map(|_| two_sectors(&mut r)).collect();
+        let disks = (0..DISKS).map(|_| named_disk(&mut r, run)).collect();
+        let sectors = (0..PAIRS).map(|_| two_sectors(&mut r, run)).collect();
         Damage { disks, sectors }
     }
 

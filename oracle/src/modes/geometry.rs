@@ -8,6 +8,7 @@ use mkfs_xfs::geometry::{Features, Geometry};
 use mkfs_xfs::ours::geometry::Input;
 
 use super::{Mode, Out, Told};
+use crate::model::{self, Sizing};
 use crate::numbers::{number_of, UNNUMBERED};
 use crate::random::Random;
 use crate::request::{op, Request, MALFORMED};
@@ -18,8 +19,12 @@ pub struct Geometries;
 /// agcount is not block count divided by agsize, rounded up.
 const GROUPS_MISS: u32 = 24;
 
-/// The geometry that the Rust gives, or the number of a refusal, with what it is counted under.
+/// The geometry that the Rust gives, or the number of a refusal, with what it is counted under. Roomy sizing is the model's.
 pub fn step(q: &Request) -> (Told, Option<Geometry>) {
+    if q.sizing() == Sizing::Roomy {
+        let answer = model::step(q, Sizing::Roomy);
+        return (Told::apart("roomy", answer.as_ref().err().copied().unwrap_or(0)), answer.ok());
+    }
     let params = q.params();
     match catch_unwind(|| Geometry::compute(&params, q.device, q.logical, q.physical)) {
         Ok(Ok(g)) if g.agcount != g.dblocks.div_ceil(g.agsize) => (Told::apart("", GROUPS_MISS), None),
@@ -61,6 +66,17 @@ pub fn fields(g: &Geometry) -> [(&'static str, u64); 20] {
     ]
 }
 
+/// An answer.
+pub fn line(number: u32, answer: Option<&Geometry>) -> String {
+    let mut line = number.to_string();
+    if let Some(g) = answer {
+        fields(g).iter().for_each(|(_, value)| line += &format!(" {value}"));
+        line += " ";
+        line += &super::hex(&g.label);
+    }
+    line + "\n"
+}
+
 /// The request as the port's function takes it.
 pub fn port_input(q: &Request) -> Input {
     let value = |code: usize| q.options[code].unwrap_or(0);
@@ -98,14 +114,7 @@ impl Mode for Geometries {
             return Ok(Told::apart("", MALFORMED));
         };
         let (told, answer) = step(&q);
-        write!(out, "{}", told.number)?;
-        if let Some(g) = answer {
-            for (_, value) in fields(&g) {
-                write!(out, " {value}")?;
-            }
-            write!(out, " {}", super::hex(&g.label))?;
-        }
-        writeln!(out)?;
+        out.write_all(line(told.number, answer.as_ref()).as_bytes())?;
         Ok(told)
     }
 

@@ -1,7 +1,7 @@
 //! The reader on disks by mkfs.xfs. A case is the input records of an accepted run with a UUID; mkfs.xfs gets the same
-//! options. An answer is the number of group 0's head, then those of the other heads and of the log's first block, read
-//! with group 0's head, or, where that is refused, with the one that `format` leaves. Which bytes are to be accepted is
-//! known from what `format` leaves.
+//! options, and the log's size where the sizing is roomy. An answer is the number of group 0's head, then those of the
+//! other heads and of the log's first block, read with group 0's head, or, where that is refused, with the one that `format`
+//! leaves. Which bytes are to be accepted is known from what `format` leaves, or the model for roomy runs.
 
 use std::fs::{self, File};
 use std::io;
@@ -9,12 +9,15 @@ use std::os::unix::fs::FileExt;
 use std::process::Command;
 
 use super::reader::{disk, run};
-use super::{Mode, Out, Told};
+use super::{roomy, Mode, Out, Told};
 use crate::disk::{head_bytes, named, Disk};
+use crate::model::Sizing;
 use crate::random::Random;
 use crate::request::{op, Request};
 
-pub struct Made;
+pub struct Made {
+    run: fn(&mut Random) -> Vec<u8>,
+}
 
 const GROUPS: u64 = 12;
 
@@ -37,8 +40,12 @@ fn made(d: &Disk) -> io::Result<Option<(Vec<Vec<u8>>, Vec<u8>)>> {
     let inodes = format!("size={},sparse={},nrext64={},maxpct={}", g.inodesize, on(f.sparse), on(f.nrext64), g.imaxpct);
     let data = format!("agsize={},size={}", g.agsize * g.bs(), g.dblocks * g.bs());
     let sizes = [format!("size={}", g.blocksize), format!("size={}", g.sectsize)];
+    let log = format!("size={}", g.logblocks * g.bs());
+    let log = if q.sizing() == Sizing::Roomy { vec!["-l", &log] } else { vec![] };
     let done = Command::new("mkfs.xfs")
-        .args(["-q", "-f", "-K", "-m", &features, "-i", &inodes, "-d", &data, "-b", &sizes[0], "-s", &sizes[1], &path])
+        .args(["-q", "-f", "-K", "-m", &features, "-i", &inodes, "-d", &data, "-b", &sizes[0], "-s", &sizes[1]])
+        .args(log)
+        .arg(&path)
         .output()?;
     let file = File::open(&path)?;
     fs::remove_file(&path)?;
@@ -54,11 +61,15 @@ fn made(d: &Disk) -> io::Result<Option<(Vec<Vec<u8>>, Vec<u8>)>> {
     Ok(Some((heads?, read(g.agb_to_byte(g.logagno, g.log_agbno), g.blocksize as usize)?)))
 }
 
-/// What the run leaves that group 0's head names; `None` where it is refused.
+/// What the run leaves that group 0's head names, in either sizing; `None` where it is refused.
 fn left(head: &[u8]) -> Option<Disk> {
     let (q, g) = named(head)?;
-    let d = if head.len() == head_bytes(&g) { disk(&q.encode()).ok()? } else { return None };
-    (d.heads[0] == head).then_some(d)
+    let with = |sizing| {
+        let mut q = q.clone();
+        q.options[op::SIZING] = sizing;
+        disk(&q.encode()).ok().filter(|d| d.heads[0] == head)
+    };
+    (head.len() == head_bytes(&g)).then(|| with(None).or_else(|| with(Some(1))))?
 }
 
 /// Which parts of the heads and of the log block aren't the disk's, in words.
@@ -79,10 +90,21 @@ fn differing(d: &Disk, heads: &[Vec<u8>], log: &[u8]) -> String {
     names.join(" ")
 }
 
+impl Made {
+    pub fn new() -> Made {
+        Made { run: |r| run(r, GROUPS) }
+    }
+
+    /// The runs are roomy ones, most of them crowded.
+    pub fn roomy() -> Made {
+        Made { run: roomy::run }
+    }
+}
+
 impl Mode for Made {
     fn case(&self, r: &mut Random) -> Vec<u8> {
         loop {
-            let mut q = Request::parse(&run(r, GROUPS)).unwrap();
+            let mut q = Request::parse(&(self.run)(r)).unwrap();
             q.id = Some(r.bytes(16).try_into().unwrap());
             q.label = None;
             q.options[op::SIZE] = None;

@@ -5,6 +5,7 @@ use std::io::{self, Write};
 use crate::random::Random;
 
 pub mod chunk;
+pub mod corners;
 pub mod crc;
 pub mod damage;
 pub mod geometry;
@@ -12,6 +13,7 @@ pub mod inodes;
 pub mod lists;
 pub mod log;
 pub mod made;
+pub mod models;
 pub mod places;
 pub mod plans;
 pub mod reader;
@@ -19,6 +21,8 @@ pub mod readings;
 pub mod records;
 pub mod replayed;
 pub mod requests;
+pub mod roomy;
+pub mod sizings;
 pub mod structs;
 pub mod writes;
 
@@ -29,7 +33,7 @@ pub struct Told {
     pub kind: &'static str,
     /// Document 01's number, 0 where the case is accepted.
     pub number: u32,
-    /// Whether the Rust itself was asked. It isn't where a number that document 01 adds refuses the case.
+    /// Whether the Rust itself was asked. It isn't where a number that document 01 adds refuses the case, nor in roomy sizing.
     pub asked: bool,
 }
 
@@ -124,8 +128,13 @@ pub fn named(name: &str) -> Option<Box<dyn Mode + Sync>> {
         "reader" => Box::new(reader::Reader),
         "tables" => Box::new(reader::Tables),
         "damage" => Box::new(damage::Damage::new()),
-        "mkfs" => Box::new(made::Made),
+        "mkfs" => Box::new(made::Made::new()),
         "readings" => Box::new(readings::Readings::new()),
+        "model" => Box::new(models::Step),
+        "model_list" => Box::new(models::List),
+        "corners" => Box::new(corners::Corners::tables()),
+        "corner_lists" => Box::new(corners::Corners::lists()),
+        "sizings" => Box::new(sizings::Sizings),
         _ => return None,
     })
 }

@@ -48,10 +48,10 @@ pub fn accepted(case: &[u8]) -> (Told, Option<(Request, Geometry)>) {
         return (told, None);
     };
     if let Err(number) = plan(&g, g.logagno) {
-        return (Told::asked("", number), None);
+        return (Told { number, ..told }, None);
     }
     if !time_fits(q.time(), g.features.bigtime) {
-        return (Told::apart("", BAD_TIME), None);
+        return (Told { number: BAD_TIME, asked: false, ..told }, None);
     }
     (told, Some((q, g)))
 }

@@ -7,6 +7,7 @@ use super::geometry::feature_bits;
 use super::plans::{accepted, few, plan, Planlist};
 use super::{Mode, Out, Told};
 use crate::disk::Disk;
+use crate::model::{reported, Sizing};
 use crate::random::Random;
 use crate::request::{op, Request};
 use crate::wishes;
@@ -102,7 +103,7 @@ impl Mode for Reader {
     }
 }
 
-/// Program readdisk on disks of the same runs: the answer is planlist's.
+/// Program readdisk on disks of the same runs: the answer is planlist's, and a line with the sizing that readdisk reports.
 pub struct Tables;
 
 impl Mode for Tables {
@@ -117,7 +118,15 @@ impl Mode for Tables {
     }
 
     fn answer(&self, case: &[u8], out: Out) -> io::Result<Told> {
-        Planlist.answer(case, out)
+        let told = Planlist.answer(case, out)?;
+        if let Some((q, g)) = accepted(case).1 {
+            let sizing = match reported(&q, &g) {
+                Sizing::Plain => "plain",
+                Sizing::Roomy => "roomy",
+            };
+            writeln!(out, "log sizing: {sizing}")?;
+        }
+        Ok(told)
     }
 
     fn traits(&self, case: &[u8]) -> Vec<(&'static str, String)> {

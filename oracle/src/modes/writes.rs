@@ -25,7 +25,7 @@ const SUM: u8 = 0;
 const WHOLE: u8 = 1;
 
 /// Writes down what is done to the device, as document 01's written records.
-struct Records<'a>(Out<'a>);
+pub struct Records<'a>(pub Out<'a>);
 
 impl Records<'_> {
     fn put(&mut self, parts: &[&[u8]]) -> io::Result<()> {
@@ -189,14 +189,15 @@ impl Mode for Writelist {
     }
 }
 
-/// Only the cases that are refused: many of them, quickly.
+/// Only the cases that are refused: many of them, quickly. Those with a sizing, which only document 02 knows, are kept too, so that a seed has
+/// the cases that it had.
 pub struct Refusals;
 
 impl Mode for Refusals {
     fn case(&self, r: &mut Random) -> Vec<u8> {
         loop {
             let case = Writelist.case(r);
-            if accepted(&case).1.is_none() {
+            if accepted(&case).1.is_none_or(|(q, _)| q.options[op::SIZING].is_some()) {
                 return case;
             }
         }

@@ -1,6 +1,5 @@
 -- `logsize::log_blocks` meets its contract: each call gives what its definition says.
 -- Assumes nothing.
-use borrow.Author.Needs.{needs}
 use Rattle.logsize.specs.Log.{logBlocks}
 use Rattle.logsize.proofs.log_blocks.Statement.{statement}
 use Rattle.logsize.proofs.log_blocks.Tie as tie
@@ -10,7 +9,6 @@ unfolding logBlocks
 returns c =
     let within = c .before .before in
     let wanted = within .before .before in
-    let room = wanted .before .before in
     rw (
       c .min-u643 .ensures,
       c .before .quotient2 .ensures,
@@ -18,13 +16,10 @@ returns c =
       within .before .min-u64 .ensures,
       wanted .max-u64 .ensures,
       wanted .before .quotient .ensures,
-      room .minus2 .ensures,
-      room .before .minus .ensures,
     )
 
 pub log-blocks-spec : {M : Type 1} → statement M
 log-blocks-spec =
     tie.close
     (tie.spec
-    (λ c κs. tt) (λ c. search needs) (λ c κs. tt) (λ c κs. tt) (λ c κs. tt) (λ c κs. tt) (λ c κs. tt) (λ c κs. tt)
-    (λ c κs. tt) returns)
+    (λ c κs. tt) (λ c κs. tt) (λ c κs. tt) (λ c κs. tt) (λ c κs. tt) (λ c κs. tt) returns)

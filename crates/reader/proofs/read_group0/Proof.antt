@@ -1,27 +1,19 @@
 -- `reader::read_group0` meets its contract.
 -- Assumes nothing.
-use mathlib.Core.Path.{_∙_}
 use native.Mathlib.Omega.{arith}
 use borrow.Author.Needs.{needs}
-use Rattle.reader.proofs.Answers.{short}
-use Rattle.reader.proofs.First.{unnamed, refused-read, accepted-read}
+use Rattle.reader.proofs.First.{old-given, roomy-given, old-kept}
 use Rattle.reader.proofs.read_group0.Statement.{statement}
 use Rattle.reader.proofs.read_group0.Tie as tie
 
 returns : tie.Need-returns
-returns c = c .not-found .ensures ∙ short (c .before .before .before .args .head .now) (c .before .if1 .taken)
+returns c = old-given (c .before .before .before .before .args .head .now) _ (c .before .before .read-as .ensures) (c .if1 .taken)
 
 returns-2 : tie.Need-returns-2
-returns-2 c = c .not-found2 .ensures ∙ unnamed (c .before .before .before .before .before .before .args .head .now) (omega arith) _ (c .before .before .before .named-by .ensures) (c .before .if2 .taken)
+returns-2 c = roomy-given (c .before .before .before .before .before .before .before .before .args .head .now) _ (c .before .before .before .before .before .before .read-as .ensures) _ (c .before .before .before .read-as2 .ensures) (c .if2 .taken)
 
 returns-3 : tie.Need-returns-3
-returns-3 c =
-    c .not-found3 .ensures
-    ∙ refused-read (c .before .before .before .before .before .before .before .before .before .before .args .head .now) (omega arith) _ (c .before .before .before .before .before .before .before .named-by .ensures) (c .before .before .before .before .before .if2 .left) _ (c .before .before .before .uuid-of .ensures) _ (c .before .before .group-number .ensures) (c .before .if3 .taken)
-
-returns-4 : tie.Need-returns-4
-returns-4 c =
-    accepted-read (c .before .before .before .before .before .before .before .before .before .before .before .args .head .now) (omega arith) _ (c .before .before .before .before .before .before .before .before .named-by .ensures) (c .before .before .before .before .before .before .if2 .left) _ (c .before .before .before .before .uuid-of .ensures) _ (c .before .before .before .group-number .ensures) (c .before .before .if3 .left) _ (c .before .plan-ag .ensures)
+returns-3 c = old-kept (c .before .before .before .before .before .before .before .before .args .head .now) _ (c .before .before .before .before .before .before .read-as .ensures) _ (c .before .before .before .read-as2 .ensures) (omega arith)
 
 pub read-group0-spec : {M : Type 1} → statement M
-read-group0-spec = tie.close (tie.spec (λ c κs. search needs) returns (λ c κs. search needs) (λ c κs. search needs) returns-2 (λ c κs. search needs) (λ c κs. search needs) (λ c κs. search needs) returns-3 (λ c κs. search needs) returns-4)
+read-group0-spec = tie.close (tie.spec (λ c κs. search needs) returns (λ c κs. search needs) returns-2 returns-3)

@@ -7,12 +7,15 @@ use Rattle.answers.proofs.same.same_geometry.Tie as tie
 returns : tie.Need-returns
 unfolding sameGeometry
 returns c =
-    let b = c .before .before .before .before in
+    let d = c .before .before in
+    let b = d .before .before .before .before in
     rw (
-      c .both2 .ensures,
-      c .before .both .ensures,
-      c .before .before .same-label .ensures,
-      c .before .before .before .same-features .ensures,
+      c .both3 .ensures,
+      c .before .same-bool .ensures,
+      d .both2 .ensures,
+      d .before .both .ensures,
+      d .before .before .same-label .ensures,
+      d .before .before .before .same-features .ensures,
       b .same-numbers .ensures,
       b .before .numbers2 .ensures,
       b .before .before .numbers .ensures,
@@ -22,4 +25,4 @@ pub same-geometry-spec : {M : Type 1} → statement M
 same-geometry-spec =
     tie.close
     (tie.spec
-    (λ c κs. tt) (λ c κs. tt) (λ c κs. tt) (λ c κs. tt) (λ c κs. tt) (λ c κs. tt) (λ c κs. tt) returns)
+    (λ c κs. tt) (λ c κs. tt) (λ c κs. tt) (λ c κs. tt) (λ c κs. tt) (λ c κs. tt) (λ c κs. tt) (λ c κs. tt) (λ c κs. tt) returns)

@@ -10,13 +10,14 @@ unfolding chosenOf withSizes withGroups
 returns c =
     rw (
       c .log-blocks .ensures,
-      c .before .prealloc-of .ensures,
-      c .before .before .imaxpct-of .ensures,
-      c .before .before .before .trimmed .ensures,
-      c .before .before .before .before .min-group .ensures,
-      c .before .before .before .before .before .initial-groups .ensures,
-      c .before .before .before .before .before .before .asked-blocks .ensures,
-      c .before .before .before .before .before .before .before .before .chosen-sizes .ensures,
+      c .before .log-limit .ensures,
+      c .before .before .prealloc-of .ensures,
+      c .before .before .before .imaxpct-of .ensures,
+      c .before .before .before .before .trimmed .ensures,
+      c .before .before .before .before .before .min-group .ensures,
+      c .before .before .before .before .before .before .initial-groups .ensures,
+      c .before .before .before .before .before .before .before .asked-blocks .ensures,
+      c .before .before .before .before .before .before .before .before .before .chosen-sizes .ensures,
     )
 
 pub choose-spec : {M : Type 1} → statement M
@@ -24,4 +25,4 @@ choose-spec =
     tie.close
     (tie.spec
     (λ c κs. tt) (λ c. search needs) (λ c κs. tt) (λ c κs. tt) (λ c κs. tt) (λ c κs. tt) (λ c κs. tt) (λ c κs. tt)
-    (λ c κs. tt) returns)
+    (λ c κs. tt) (λ c κs. tt) returns)

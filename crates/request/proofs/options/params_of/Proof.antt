@@ -35,10 +35,12 @@ returns c =
     let c10 = c9 .before in
     let c11 = c10 .before in
     let c12 = c11 .before in
-    rw (c .features-of .ensures, c1 .option5 .ensures, c2 .option4 .ensures, c3 .time-in .ensures, c4 .uuid-in .ensures, c5 .label-in .ensures, c6 .imaxpct .ensures, c7 .option3 .ensures, c8 .option2 .ensures, c9 .short-option3 .ensures, c10 .short-option2 .ensures, c11 .short-option .ensures, c12 .option .ensures) refl
+    let c13 = c12 .before in
+    let c14 = c13 .before in
+    rw (c .roomy-of .ensures, c1 .option6 .ensures, c2 .features-of .ensures, c3 .option5 .ensures, c4 .option4 .ensures, c5 .time-in .ensures, c6 .uuid-in .ensures, c7 .label-in .ensures, c8 .imaxpct .ensures, c9 .option3 .ensures, c10 .option2 .ensures, c11 .short-option3 .ensures, c12 .short-option2 .ensures, c13 .short-option .ensures, c14 .option .ensures) refl
 
 pub params-of-spec : {M : Type 1} → statement M
 params-of-spec =
     tie.close
     (tie.spec
-    (λ c κs. search needs) short-option-requires short-option-requires-2 short-option-requires-3 (λ c κs. search needs) (λ c κs. search needs) (λ c κs. search needs) (λ c κs. search needs) (λ c κs. search needs) (λ c κs. search needs) (λ c κs. search needs) (λ c κs. search needs) (λ c κs. search needs) returns)
+    (λ c κs. search needs) short-option-requires short-option-requires-2 short-option-requires-3 (λ c κs. search needs) (λ c κs. search needs) (λ c κs. search needs) (λ c κs. search needs) (λ c κs. search needs) (λ c κs. search needs) (λ c κs. search needs) (λ c κs. search needs) (λ c κs. search needs) (λ c κs. search needs) (λ c κs. search needs) returns)
