@@ -1,0 +1,112 @@
+-- DEMANDS 1 TO 3 ARE MET: each sentence by the theorem that has it.
+-- Assumes nothing.
+use mathlib.Core.Path.{_≡_, refl, sym, _∙_}
+use mathlib.Core.Bool.{Bool, true, false}
+use mathlib.Core.List.{List}
+use mathlib.Core.Logic.{_⊎_, inl, inr}
+use Prim.Native.Nat.{ℕ}
+use lib.Dec.{eqb}
+use borrow.Author.Tests.{eqb-true}
+use Rattle.endian.specs.Answer.{room, answer, chosen, Put}
+use Rattle.structs.specs.Written.{Written}
+use Rattle.castagnoli.specs.Register.{crcBit, crcBits, crcBytes}
+use Rattle.crc.specs.Crc.{crc32cOf}
+use Rattle.crc.proofs.Laws.{length-stamped, stamped-verifies}
+use Rattle.geometry.specs.Compute.{chosenOf, refusalOf, geometryOf, computeDef}
+use Rattle.geometry.proofs.Answer.{number-of}
+use Rattle.naming.proofs.Again.{again}
+use Rattle.naming.proofs.Exact.{exact}
+use Rattle.layout.proofs.Bounding.{answered-bounds}
+use Rattle.layout.proofs.Sizings.{step-old}
+use Rattle.closed.proofs.Planning.{closed-plan, roomy-planned}
+use Rattle.uses.proofs.OneUse.{one-use, rmap-agrees}
+use Rattle.seqs.proofs.Laws.{choose-elim}
+use Rattle.request.specs.declared.Request.{Request}
+use Rattle.request.specs.Parse.{parseDef}
+use Rattle.run.specs.declared.Run.{Run}
+use Rattle.run.specs.Runs.{runNumber, runOf, accepted}
+use Rattle.accepted.proofs.Parsed.{accepted-run}
+use Rattle.stations.specs.Stations.{stations}
+use Rattle.accepted.proofs.Stations.{k1-accepted}
+use Rattle.accepted.proofs.Heads.{run-ordered, run-left}
+use Rattle.writelaws.proofs.Whole.{input-whole}
+use Rattle.exact.specs.Disk.{formatted}
+use Rattle.exact.proofs.Sizings.{reported-plain, reported-old}
+use Rattle.exact.proofs.Numbers.{first-numbers, group-numbers, log-numbers}
+use Rattle.exact.proofs.Disk.{exact-records}
+use Rattle.mission.specs.Mission.{Demand1, Demand2, Demand3}
+use Rattle.mission.proofs.Geometries.{own-sectors, is-answer, label-size, refused-plans}
+use Rattle.mission.proofs.Leaving.{first-head, other-head, log-block}
+use Rattle.mission.proofs.Parts.{in-parts}
+use Rattle.mission.proofs.Stopped.{read-back, its-refused, its-accepted}
+use Rattle.mission.proofs.Totals.{used-once, all-totals}
+
+-- ---- a refused call changes nothing
+
+kept-put : (t : Bool) (r : ℕ) (new old left : List ℕ) → r ≡ answer t → left ≡ chosen t new old → (r ≡ 0 → ⊥) → left ≡ old
+kept-put true r new old left n b q = absurd (q n)
+kept-put false r new old left n b q = b
+
+kept-written : (t : Bool) (n r : ℕ) (new old left : List ℕ) → eqb n 0 ≡ t → r ≡ n → left ≡ chosen t new old → (r ≡ 0 → ⊥) → left ≡ old
+kept-written true n r new old left e a b q = absurd (q (a ∙ eqb-true n 0 e))
+kept-written false n r new old left e a b q = b
+
+kept : (n r : ℕ) (new old left : List ℕ) → Put n new old r left ⊎ Written n new old r left → (r ≡ 0 → ⊥) → left ≡ old
+kept n r new old left (inl w) q = kept-put (room n old) r new old left (w .number) (w .bytes) q
+kept n r new old left (inr w) q = kept-written (eqb n 0) n r new old left refl (w .number) (w .bytes) q
+
+number-is : (r : Request) → runOf r .number ≡ runNumber r
+unfolding runOf
+number-is r = choose-elim (λ (x : Run). x .number ≡ runNumber r) (eqb (runNumber r) 0) _ _ (λ t. sym (eqb-true (runNumber r) 0 t)) (λ t. refl)
+
+pub demand1 : Demand1
+unfolding computeDef refusalOf accepted runNumber
+demand1 =
+    record {
+      any-input = accepted-run;
+      input-number = λ xs. number-is (parseDef xs);
+      by-the-table = λ p d l f. number-of (refusalOf p d (chosenOf p d l f)) (geometryOf p (chosenOf p d l f));
+      own-sectors = own-sectors;
+      no-empty-group = λ g a. let b = answered-bounds g a .groups in (b .group-least, b .last-least);
+      no-stranger = λ g t. (exact g t .0, λ a. exact g t .1 (a .answered));
+      refused-plans = refused-plans;
+      roomy-plans = λ g a. roomy-planned g (label-size g a) (is-answer g a);
+      plain-accepts = step-old;
+      reader-numbers = λ g u k xs. (first-numbers xs, group-numbers g u k xs, log-numbers g u xs);
+      untouched = kept;
+    }
+
+pub demand2 : Demand2
+unfolding crc32cOf crcBytes crcBits crcBit formatted
+demand2 =
+    record {
+      rfc-vectors = (refl, refl, refl, refl, refl);
+      checksums-verify = λ off xs h. (stamped-verifies off xs h, length-stamped off xs);
+      named-again = again;
+      closed-plans = λ g a k i. closed-plan g (label-size g a) (is-answer g a) k i;
+      planned-once =
+          λ g a k i q. (
+            (λ b j. one-use g (label-size g a) (is-answer g a) k i q b j),
+            (λ on b. rmap-agrees g (label-size g a) (is-answer g a) k i q on b),
+          );
+      sent-and-read = λ xs o e. let w = input-whole xs o e in (w .whole, w .back);
+      ordered-list = run-ordered;
+      left-behind = run-left;
+    }
+
+pub demand3 : Demand3
+unfolding stations
+demand3 =
+    record {
+      recovered = read-back;
+      reported-geometry = λ g. (reported-plain g, reported-old g);
+      first-head = first-head;
+      other-head = λ g u k xs h. other-head g u xs k h;
+      log-block = log-block;
+      whole-disk = exact-records;
+      in-parts = in-parts;
+      one-use = used-once;
+      totals = all-totals;
+      interrupted = λ r a old n. (its-refused r a old n, its-accepted r a old n);
+      some-disk = k1-accepted;
+    }
