@@ -11,18 +11,19 @@ use Rattle.ag.specs.Sector.{agVersion}
 abbrev pub agfMagic : ℕ
 agfMagic = 0x5841_4746
 
+-- the roots and levels by block, by size and of reverse mappings are the entries of agf_roots and agf_levels in older headers
 unfoldable pub agfFields : Agf → List ℕ → List Field
 agfFields a uuid =
     field 0 4 agfMagic  -- agf_magicnum
     ∷ field 4 4 agVersion  -- agf_versionnum
     ∷ field 8 4 (a .seqno)  -- agf_seqno
     ∷ field 12 4 (a .length)  -- agf_length
-    ∷ field 16 4 (a .«bno_root»)  -- agf_roots: by block
-    ∷ field 20 4 (a .«cnt_root»)  -- by size
-    ∷ field 24 4 (a .«rmap_root»)  -- reverse mappings
-    ∷ field 28 4 (a .«bno_level»)  -- agf_levels, in the same order
-    ∷ field 32 4 (a .«cnt_level»)
-    ∷ field 36 4 (a .«rmap_level»)
+    ∷ field 16 4 (a .«bno_root»)  -- agf_bno_root
+    ∷ field 20 4 (a .«cnt_root»)  -- agf_cnt_root
+    ∷ field 24 4 (a .«rmap_root»)  -- agf_rmap_root
+    ∷ field 28 4 (a .«bno_level»)  -- agf_bno_level
+    ∷ field 32 4 (a .«cnt_level»)  -- agf_cnt_level
+    ∷ field 36 4 (a .«rmap_level»)  -- agf_rmap_level
     ∷ field 40 4 (a .flfirst)  -- agf_flfirst
     ∷ field 44 4 (a .fllast)  -- agf_fllast
     ∷ field 48 4 (a .flcount)  -- agf_flcount

@@ -49,34 +49,34 @@ impl Agf {
             return endian::WRONG_LENGTH;
         }
         let front: [u32; 16] = [
-            AGF_MAGIC,
-            crate::AG_VERSION,
-            self.seqno,
-            self.length,
-            self.bno_root,
-            self.cnt_root,
-            self.rmap_root,
-            self.bno_level,
-            self.cnt_level,
-            self.rmap_level,
-            self.flfirst,
-            self.fllast,
-            self.flcount,
-            self.freeblks,
-            self.longest,
-            self.btreeblks,
+            AGF_MAGIC, // agf_magicnum
+            crate::AG_VERSION, // agf_versionnum
+            self.seqno, // agf_seqno
+            self.length, // agf_length
+            self.bno_root, // agf_bno_root
+            self.cnt_root, // agf_cnt_root
+            self.rmap_root, // agf_rmap_root
+            self.bno_level, // agf_bno_level
+            self.cnt_level, // agf_cnt_level
+            self.rmap_level, // agf_rmap_level
+            self.flfirst, // agf_flfirst
+            self.fllast, // agf_fllast
+            self.flcount, // agf_flcount
+            self.freeblks, // agf_freeblks
+            self.longest, // agf_longest
+            self.btreeblks, // agf_btreeblks
         ];
         let back: [u32; 4] = [
-            self.rmap_blocks,
-            self.refcount_blocks,
-            self.refcount_root,
-            self.refcount_level,
+            self.rmap_blocks, // agf_rmap_blocks
+            self.refcount_blocks, // agf_refcount_blocks
+            self.refcount_root, // agf_refcount_root
+            self.refcount_level, // agf_refcount_level
         ];
         endian::put32_run(sector, 0, &front);
-        endian::put_bytes(sector, UUID, uuid);
+        endian::put_bytes(sector, UUID, uuid); // agf_uuid
         endian::put32_run(sector, RMAP_BLOCKS, &back);
-        endian::put64(sector, LSN, 0);
-        crc::stamp(sector, CRC);
+        endian::put64(sector, LSN, 0); // agf_lsn
+        crc::stamp(sector, CRC); // agf_crc
         0
     }
 }

@@ -14,7 +14,7 @@ pub const AGFL_MAGIC: u64 = 0x5841_464c;
 // The refusal of a list of more than 64.
 pub const TOO_MANY: u32 = 34;
 
-// Offsets in `struct xfs_agfl`; the slots start at the last.
+// Offsets in `struct xfs_agfl`, each under its field's name without agfl_; the slots start at the last.
 pub mod off {
     pub const MAGICNUM: usize = 0;
 
@@ -49,7 +49,7 @@ fn put_header(sector: &mut [u8], seqno: u32, uuid: &[u8; 16])
     ensures { λ _. ⌜ now (sector .exit) ≡ write (agflHeader seqno (now (uuid .entry))) (now (sector .entry)) ⌝ }
 {
     let at: [usize; 6] = [off::MAGICNUM, 4, off::SEQNO, 4, off::LSN, 8];
-    let v: [u64; 3] = [AGFL_MAGIC, seqno as u64, 0];
+    let v: [u64; 3] = [AGFL_MAGIC, seqno as u64, 0]; // agfl_magicnum, agfl_seqno, agfl_lsn
     endian::put_all(sector, &at, &v);
     endian::put_bytes(sector, off::UUID, uuid);
 }

@@ -46,8 +46,8 @@ fn put_front(sector: &mut [u8], front: [u32; 10], uuid: &[u8; 16])
     ensures { λ _. ⌜ now (sector .exit) ≡ write (agiFront front (now (uuid .entry))) (now (sector .entry)) ⌝ }
 {
     endian::put32_run(sector, 0, &front);
-    endian::put_same(sector, UNLINKED, 4 * UNLINKED_BUCKETS, 255);
-    endian::put_bytes(sector, UUID, uuid);
+    endian::put_same(sector, UNLINKED, 4 * UNLINKED_BUCKETS, 255); // agi_unlinked
+    endian::put_bytes(sector, UUID, uuid); // agi_uuid
 }
 
 impl Agi {
@@ -59,22 +59,23 @@ impl Agi {
             return endian::WRONG_LENGTH;
         }
         let front: [u32; 10] = [
-            AGI_MAGIC,
-            crate::AG_VERSION,
-            self.seqno,
-            self.length,
-            self.count,
-            self.root,
-            self.level,
-            self.freecount,
-            self.newino,
-            structs::NULL32,
+            AGI_MAGIC, // agi_magicnum
+            crate::AG_VERSION, // agi_versionnum
+            self.seqno, // agi_seqno
+            self.length, // agi_length
+            self.count, // agi_count
+            self.root, // agi_root
+            self.level, // agi_level
+            self.freecount, // agi_freecount
+            self.newino, // agi_newino
+            structs::NULL32, // agi_dirino
         ];
+        // agi_free_root, agi_free_level, agi_iblocks, agi_fblocks
         let back: [u32; 4] = [self.free_root, self.free_level, self.iblocks, self.fblocks];
         put_front(sector, front, uuid);
-        endian::put64(sector, LSN, 0);
+        endian::put64(sector, LSN, 0); // agi_lsn
         endian::put32_run(sector, FREE_ROOT, &back);
-        crc::stamp(sector, CRC);
+        crc::stamp(sector, CRC); // agi_crc
         0
     }
 }

@@ -7,7 +7,7 @@ ghost use Rattle.structs.specs.Written.{Written};
 ghost use Rattle.btree.specs.Leaf.{leafNumber, leafHeader, leafBytes};
 use structs::is_block;
 
-// Offsets in the header of a leaf block; the records start at the last.
+// Offsets in the header of a leaf block, each under its field's name without bb_; the records start at the last.
 pub mod off {
     pub const MAGIC: usize = 0;
 
@@ -55,14 +55,14 @@ fn put_header(magic: u32, daddr: u64, agno: u32, uuid: &[u8; 16], numrecs: u16, 
         4,
     ];
     let v: [u64; 8] = [
-        magic as u64,
-        0,
-        numrecs as u64,
-        structs::NULL32 as u64,
-        structs::NULL32 as u64,
-        daddr,
-        0,
-        agno as u64,
+        magic as u64, // bb_magic
+        0, // bb_level: a leaf
+        numrecs as u64, // bb_numrecs
+        structs::NULL32 as u64, // bb_leftsib: none
+        structs::NULL32 as u64, // bb_rightsib: none
+        daddr, // bb_blkno
+        0, // bb_lsn
+        agno as u64, // bb_owner
     ];
     endian::put_all(block, &at, &v);
     endian::put_bytes(block, off::UUID, uuid);

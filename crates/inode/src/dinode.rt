@@ -26,7 +26,7 @@ const NO_INODE: u64 = 0xffff_ffff;
 // The size of the inode core, in bytes; the data fork starts behind it.
 pub const CORE_SIZE: usize = 176;
 
-// Offsets in `struct xfs_dinode`.
+// Offsets in `struct xfs_dinode`, each under its field's name without di_.
 pub mod off {
     pub const MAGIC: usize = 0;
 
@@ -219,24 +219,24 @@ fn put_core(
         8,
     ];
     let v: [u64; 18] = [
-        MAGIC,
-        mode as u64,
-        VERSION,
-        format as u64,
-        nlink as u64,
-        t.atime,
-        t.mtime,
-        t.ctime,
-        size,
-        0,
-        EXTENTS,
-        flags as u64,
-        generation as u64,
-        NO_INODE,
-        changecount,
-        flags2,
-        t.crtime,
-        ino,
+        MAGIC, // di_magic
+        mode as u64, // di_mode
+        VERSION, // di_version
+        format as u64, // di_format
+        nlink as u64, // di_nlink
+        t.atime, // di_atime
+        t.mtime, // di_mtime
+        t.ctime, // di_ctime
+        size, // di_size
+        0, // di_forkoff: no attribute fork
+        EXTENTS, // di_aformat
+        flags as u64, // di_flags
+        generation as u64, // di_gen
+        NO_INODE, // di_next_unlinked
+        changecount, // di_changecount
+        flags2, // di_flags2
+        t.crtime, // di_crtime
+        ino, // di_ino
     ];
     endian::put_all(slot, &at, &v);
 }
@@ -298,6 +298,7 @@ pub fn encode_free(ino: u64, generation: u32, uuid: &[u8; 16], slot: &mut [u8]) 
         off::INO,
         8,
     ];
+    // di_magic, di_version, di_gen, di_next_unlinked, di_ino
     let v: [u64; 5] = [MAGIC, VERSION, generation as u64, NO_INODE, ino];
     endian::put_all(slot, &at, &v);
     endian::put_bytes(slot, off::UUID, uuid);

@@ -14,7 +14,7 @@ fn short(parent: u32) -> SfDir
     ensures { λ r. ⌜ (r .bytes ≡ 0 ∷ 0 ∷ (beBytes 4 parent ++ (0 ∷ 0 ∷ 0 ∷ 0 ∷ []))) × (r .len ≡ 6) ⌝ }
 {
     let mut bytes = [0u8; 10];
-    endian::put32(&mut bytes, 2, parent);
+    endian::put32(&mut bytes, 2, parent); // parent; count and i8count, the bytes before it, are 0
     SfDir { bytes, len: 6 }
 }
 
@@ -22,8 +22,8 @@ fn long(parent: u64) -> SfDir
     ensures { λ r. ⌜ (r .bytes ≡ 0 ∷ 1 ∷ beBytes 8 parent) × (r .len ≡ 10) ⌝ }
 {
     let mut bytes = [0u8; 10];
-    bytes[1] = 1;
-    endian::put64(&mut bytes, 2, parent);
+    bytes[1] = 1; // i8count
+    endian::put64(&mut bytes, 2, parent); // parent
     SfDir { bytes, len: 10 }
 }
 

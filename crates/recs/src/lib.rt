@@ -35,8 +35,8 @@ fn put_alloc(out: &mut [u8], o: usize, r: AllocRec)
     requires { ⌜ o + 8 ≤ length (now out) ⌝ }
     ensures { λ _. ⌜ now (out .exit) ≡ patch o (allocBytes r) (now (out .entry)) ⌝ }
 {
-    endian::put32(out, o + 4, r.count);
-    endian::put32(out, o, r.start);
+    endian::put32(out, o + 4, r.count); // ar_blockcount
+    endian::put32(out, o, r.start); // ar_startblock
 }
 
 // The Rust's alloc_recs over an array of 64 (crate slices has it over a lent slice): the first `count` free extents. 27 unless `out` is as long as they need, 34 above 64.
@@ -59,20 +59,20 @@ fn put_sparse(out: &mut [u8], o: usize, r: InobtRec)
     requires { ⌜ o + 16 ≤ length (now out) ⌝ }
     ensures { λ _. ⌜ now (out .exit) ≡ patch o (inobtBytes true r) (now (out .entry)) ⌝ }
 {
-    endian::put64(out, o + 8, r.free);
-    endian::put8(out, o + 7, r.freecount);
-    endian::put8(out, o + 6, r.count);
-    endian::put16(out, o + 4, r.holemask);
-    endian::put32(out, o, r.startino);
+    endian::put64(out, o + 8, r.free); // ir_free
+    endian::put8(out, o + 7, r.freecount); // ir_u.sp.ir_freecount
+    endian::put8(out, o + 6, r.count); // ir_u.sp.ir_count
+    endian::put16(out, o + 4, r.holemask); // ir_u.sp.ir_holemask
+    endian::put32(out, o, r.startino); // ir_startino
 }
 
 fn put_full(out: &mut [u8], o: usize, r: InobtRec)
     requires { ⌜ o + 16 ≤ length (now out) ⌝ }
     ensures { λ _. ⌜ now (out .exit) ≡ patch o (inobtBytes false r) (now (out .entry)) ⌝ }
 {
-    endian::put64(out, o + 8, r.free);
-    endian::put32(out, o + 4, r.freecount as u32);
-    endian::put32(out, o, r.startino);
+    endian::put64(out, o + 8, r.free); // ir_free
+    endian::put32(out, o + 4, r.freecount as u32); // ir_u.f.ir_freecount
+    endian::put32(out, o, r.startino); // ir_startino
 }
 
 fn put_inobt(out: &mut [u8], o: usize, sparse: bool, r: InobtRec)
@@ -106,10 +106,10 @@ fn put_rmap(out: &mut [u8], o: usize, r: RmapRec)
     requires { ⌜ o + 24 ≤ length (now out) ⌝ }
     ensures { λ _. ⌜ now (out .exit) ≡ patch o (rmapBytes r) (now (out .entry)) ⌝ }
 {
-    endian::put64(out, o + 16, 0);
-    endian::put64(out, o + 8, r.owner);
-    endian::put32(out, o + 4, r.count);
-    endian::put32(out, o, r.start);
+    endian::put64(out, o + 16, 0); // rm_offset
+    endian::put64(out, o + 8, r.owner); // rm_owner
+    endian::put32(out, o + 4, r.count); // rm_blockcount
+    endian::put32(out, o, r.start); // rm_startblock
 }
 
 // The Rust's rmap_recs over an array of 64: the first `count` reverse mappings.

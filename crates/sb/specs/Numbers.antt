@@ -21,17 +21,32 @@ pub record Run : Type 0 where
 abbrev pub runOf : ℕ → ℕ → ℕ → Run
 runOf at width many = record { at = at; width = width; many = many }
 
--- sb_magicnum, sb_blocksize; sb_dblocks to sb_rextents; sb_logstart to sb_rsumino; sb_rextsize to sb_logblocks
+-- the runs before sb_versionnum
 abbrev pub sizesRuns : List Run
-sizesRuns = runOf 0 4 2 ∷ runOf 8 8 3 ∷ runOf 48 8 4 ∷ runOf 80 4 5 ∷ []
+sizesRuns =
+    runOf 0 4 2  -- sb_magicnum, sb_blocksize
+    ∷ runOf 8 8 3  -- sb_dblocks, sb_rblocks, sb_rextents
+    ∷ runOf 48 8 4  -- sb_logstart, sb_rootino, sb_rbmino, sb_rsumino
+    ∷ runOf 80 4 5  -- sb_rextsize, sb_agblocks, sb_agcount, sb_rbmblocks, sb_logblocks
+    ∷ []
 
--- sb_versionnum to sb_inopblock; sb_blocklog to sb_imax_pct; sb_icount to sb_gquotino; sb_inoalignmt to sb_width
+-- the runs from sb_versionnum to sb_width
 abbrev pub countsRuns : List Run
-countsRuns = runOf 100 2 4 ∷ runOf 120 1 8 ∷ runOf 128 8 6 ∷ runOf 180 4 3 ∷ []
+countsRuns =
+    runOf 100 2 4  -- sb_versionnum, sb_sectsize, sb_inodesize, sb_inopblock
+    ∷ runOf 120 1 8  -- sb_blocklog to sb_imax_pct
+    ∷ runOf 128 8 6  -- sb_icount to sb_gquotino
+    ∷ runOf 180 4 3  -- sb_inoalignmt, sb_unit, sb_width
+    ∷ []
 
--- sb_dirblklog; sb_logsunit to sb_features_log_incompat; sb_spino_align; sb_pquotino, sb_lsn
+-- the runs from sb_dirblklog on
 abbrev pub flagsRuns : List Run
-flagsRuns = runOf 192 1 1 ∷ runOf 196 4 7 ∷ runOf 228 4 1 ∷ runOf 232 8 2 ∷ []
+flagsRuns =
+    runOf 192 1 1  -- sb_dirblklog
+    ∷ runOf 196 4 7  -- sb_logsunit to sb_features_log_incompat
+    ∷ runOf 228 4 1  -- sb_spino_align
+    ∷ runOf 232 8 2  -- sb_pquotino, sb_lsn
+    ∷ []
 
 -- offset and width of each number of a run
 abbrev pub evenly : ℕ → ℕ → ℕ → List ℕ
@@ -63,52 +78,53 @@ inRuns (r ∷ rs) from v xs = inRuns rs (from + r .many) v (inRun r from v xs)
 abbrev pub isWidth : ℕ → Bool
 isWidth n = eqb n 1 || (eqb n 2 || (eqb n 4 || eqb n 8))
 
+-- the numbers, one beside each place
 abbrev pub numbers : Geometry → SbState → List ℕ
 numbers g s =
-    magic
-    ∷ (g .blocksize)
-    ∷ (g .dblocks)
-    ∷ 0
-    ∷ 0
-    ∷ (logstartOf g)
-    ∷ (s .rootino)
-    ∷ (s .rbmino)
-    ∷ (s .rsumino)
-    ∷ (rextSize (g .blocksize))
-    ∷ (g .agsize)
-    ∷ (g .agcount)
-    ∷ 0
-    ∷ (g .logblocks)
-    ∷ (versionOf g)
-    ∷ (g .sectsize)
-    ∷ (g .inodesize)
-    ∷ (g .inopblock)
-    ∷ (g .blocklog)
-    ∷ (g .sectlog)
-    ∷ (g .inodelog)
-    ∷ (g .inopblog)
-    ∷ (g .agblklog)
-    ∷ 0
-    ∷ (bit (s .inprogress))
-    ∷ (g .imaxpct)
-    ∷ (s .icount)
-    ∷ (s .ifree)
-    ∷ (s .fdblocks)
-    ∷ 0
-    ∷ 0
-    ∷ 0
-    ∷ (alignOf (g .features .sparse) (g .inodesize) (g .blocksize))
-    ∷ 0
-    ∷ 0
-    ∷ (g .dirblocklog - g .blocklog)
-    ∷ (logsunitOf (lsunitBytes (g .lsectsize) (g .blocksize)))
-    ∷ features2Bits
-    ∷ features2Bits
-    ∷ 0
-    ∷ (roCompat (g .features))
-    ∷ (inCompat (g .features))
-    ∷ 0
-    ∷ (sparseAlign (g .features .sparse) (g .inodesize) (g .blocksize))
-    ∷ 0
-    ∷ 0
+    magic  -- sb_magicnum
+    ∷ (g .blocksize)  -- sb_blocksize
+    ∷ (g .dblocks)  -- sb_dblocks
+    ∷ 0  -- sb_rblocks
+    ∷ 0  -- sb_rextents
+    ∷ (logstartOf g)  -- sb_logstart
+    ∷ (s .rootino)  -- sb_rootino
+    ∷ (s .rbmino)  -- sb_rbmino
+    ∷ (s .rsumino)  -- sb_rsumino
+    ∷ (rextSize (g .blocksize))  -- sb_rextsize
+    ∷ (g .agsize)  -- sb_agblocks
+    ∷ (g .agcount)  -- sb_agcount
+    ∷ 0  -- sb_rbmblocks
+    ∷ (g .logblocks)  -- sb_logblocks
+    ∷ (versionOf g)  -- sb_versionnum
+    ∷ (g .sectsize)  -- sb_sectsize
+    ∷ (g .inodesize)  -- sb_inodesize
+    ∷ (g .inopblock)  -- sb_inopblock
+    ∷ (g .blocklog)  -- sb_blocklog
+    ∷ (g .sectlog)  -- sb_sectlog
+    ∷ (g .inodelog)  -- sb_inodelog
+    ∷ (g .inopblog)  -- sb_inopblog
+    ∷ (g .agblklog)  -- sb_agblklog
+    ∷ 0  -- sb_rextslog
+    ∷ (bit (s .inprogress))  -- sb_inprogress
+    ∷ (g .imaxpct)  -- sb_imax_pct
+    ∷ (s .icount)  -- sb_icount
+    ∷ (s .ifree)  -- sb_ifree
+    ∷ (s .fdblocks)  -- sb_fdblocks
+    ∷ 0  -- sb_frextents
+    ∷ 0  -- sb_uquotino
+    ∷ 0  -- sb_gquotino
+    ∷ (alignOf (g .features .sparse) (g .inodesize) (g .blocksize))  -- sb_inoalignmt
+    ∷ 0  -- sb_unit
+    ∷ 0  -- sb_width
+    ∷ (g .dirblocklog - g .blocklog)  -- sb_dirblklog
+    ∷ (logsunitOf (lsunitBytes (g .lsectsize) (g .blocksize)))  -- sb_logsunit
+    ∷ features2Bits  -- sb_features2
+    ∷ features2Bits  -- sb_bad_features2
+    ∷ 0  -- sb_features_compat
+    ∷ (roCompat (g .features))  -- sb_features_ro_compat
+    ∷ (inCompat (g .features))  -- sb_features_incompat
+    ∷ 0  -- sb_features_log_incompat
+    ∷ (sparseAlign (g .features .sparse) (g .inodesize) (g .blocksize))  -- sb_spino_align
+    ∷ 0  -- sb_pquotino
+    ∷ 0  -- sb_lsn
     ∷ []

@@ -43,7 +43,7 @@ roCompat f = 1 * bit (f .finobt) + 2 * bit (f .rmapbt) + 4 * bit (f .reflink) + 
 unfoldable pub inCompat : Features → ℕ
 inCompat f = 1 + 2 * bit (f .sparse) + 8 * bit (f .bigtime) + 0x20 * bit (f .nrext64)
 
--- the log's first block as a file system block
+-- sb_logstart: the log's first block as a file system block
 unfoldable pub logstartOf : Geometry → ℕ
 logstartOf g = fsbOf (g .agblklog) (g .logagno) (g .«log_agbno»)
 
@@ -109,7 +109,7 @@ fieldsWith large g s =
 unfoldable pub sbFields : Geometry → SbState → List Field
 sbFields g s = fieldsWith (largeSector g) g s
 
--- the checksum's offset
+-- the offset of sb_crc
 abbrev pub crcAt : ℕ
 crcAt = 224
 

@@ -97,7 +97,7 @@ fn in_of(f: Features) -> u64
     1 + flag(f.sparse, 2) + flag(f.bigtime, 8) + flag(f.nrext64, 0x20)
 }
 
-// The log's first block as a file system block.
+// sb_logstart: the log's first block as a file system block.
 fn log_start(log: u8, k: u64, b: u64) -> u64
     requires { ⌜ (log < 64) × (k * 2 ^ log + b < 2 ^ 64) ⌝ }
     ensures { λ r. ⌜ r ≡ fsbOf log k b ⌝ }
@@ -134,52 +134,52 @@ fn all_numbers(g: Geometry, s: SbState, start: u64) -> [u64; 46]
     let spino = spino_of(f.sparse, g.inodesize, bs);
     let progress = bit_of(s.inprogress);
     [
-        MAGIC,
-        wide32(g.blocksize),
-        g.dblocks,
-        0,
-        0,
-        start,
-        s.rootino,
-        s.rbmino,
-        s.rsumino,
-        rext,
-        g.agsize,
-        g.agcount,
-        0,
-        g.logblocks,
-        version,
-        wide32(g.sectsize),
-        wide32(g.inodesize),
-        wide32(g.inopblock),
-        wide8(g.blocklog),
-        wide8(g.sectlog),
-        wide8(g.inodelog),
-        wide8(g.inopblog),
-        wide8(g.agblklog),
-        0,
-        progress,
-        wide8(g.imaxpct),
-        s.icount,
-        s.ifree,
-        s.fdblocks,
-        0,
-        0,
-        0,
-        align,
-        0,
-        0,
-        dirlog,
-        sunit,
-        FEATURES2,
-        FEATURES2,
-        0,
-        ro,
-        incompat,
-        0,
-        spino,
-        0,
-        0,
+        MAGIC, // sb_magicnum
+        wide32(g.blocksize), // sb_blocksize
+        g.dblocks, // sb_dblocks
+        0, // sb_rblocks
+        0, // sb_rextents
+        start, // sb_logstart
+        s.rootino, // sb_rootino
+        s.rbmino, // sb_rbmino
+        s.rsumino, // sb_rsumino
+        rext, // sb_rextsize
+        g.agsize, // sb_agblocks
+        g.agcount, // sb_agcount
+        0, // sb_rbmblocks
+        g.logblocks, // sb_logblocks
+        version, // sb_versionnum
+        wide32(g.sectsize), // sb_sectsize
+        wide32(g.inodesize), // sb_inodesize
+        wide32(g.inopblock), // sb_inopblock
+        wide8(g.blocklog), // sb_blocklog
+        wide8(g.sectlog), // sb_sectlog
+        wide8(g.inodelog), // sb_inodelog
+        wide8(g.inopblog), // sb_inopblog
+        wide8(g.agblklog), // sb_agblklog
+        0, // sb_rextslog
+        progress, // sb_inprogress
+        wide8(g.imaxpct), // sb_imax_pct
+        s.icount, // sb_icount
+        s.ifree, // sb_ifree
+        s.fdblocks, // sb_fdblocks
+        0, // sb_frextents
+        0, // sb_uquotino
+        0, // sb_gquotino
+        align, // sb_inoalignmt
+        0, // sb_unit
+        0, // sb_width
+        dirlog, // sb_dirblklog
+        sunit, // sb_logsunit
+        FEATURES2, // sb_features2
+        FEATURES2, // sb_bad_features2
+        0, // sb_features_compat
+        ro, // sb_features_ro_compat
+        incompat, // sb_features_incompat
+        0, // sb_features_log_incompat
+        spino, // sb_spino_align
+        0, // sb_pquotino
+        0, // sb_lsn
     ]
 }
 

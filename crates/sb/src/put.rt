@@ -62,37 +62,37 @@ fn put_run(sector: &mut [u8], off: usize, width: usize, v: &[u64], from: usize, 
     }
 }
 
-// sb_magicnum, sb_blocksize; sb_dblocks to sb_rextents; sb_logstart to sb_rsumino; sb_rextsize to sb_logblocks.
+// The runs before sb_versionnum.
 fn put_sizes(sector: &mut [u8], v: &[u64])
     requires { ⌜ (264 ≤ length (now sector)) × (length (now v) ≡ 46) ⌝ }
     ensures { λ _. ⌜ now (sector .exit) ≡ inRuns sizesRuns 0 (now (v .entry)) (now (sector .entry)) ⌝ }
 {
-    put_run(sector, 0, 4, v, 0, 2);
-    put_run(sector, 8, 8, v, 2, 3);
-    put_run(sector, 48, 8, v, 5, 4);
-    put_run(sector, 80, 4, v, 9, 5);
+    put_run(sector, 0, 4, v, 0, 2); // sb_magicnum, sb_blocksize
+    put_run(sector, 8, 8, v, 2, 3); // sb_dblocks, sb_rblocks, sb_rextents
+    put_run(sector, 48, 8, v, 5, 4); // sb_logstart, sb_rootino, sb_rbmino, sb_rsumino
+    put_run(sector, 80, 4, v, 9, 5); // sb_rextsize, sb_agblocks, sb_agcount, sb_rbmblocks, sb_logblocks
 }
 
-// sb_versionnum to sb_inopblock; sb_blocklog to sb_imax_pct; sb_icount to sb_gquotino; sb_inoalignmt to sb_width.
+// The runs from sb_versionnum to sb_width.
 fn put_counts(sector: &mut [u8], v: &[u64])
     requires { ⌜ (264 ≤ length (now sector)) × (length (now v) ≡ 46) ⌝ }
     ensures { λ _. ⌜ now (sector .exit) ≡ inRuns countsRuns 14 (now (v .entry)) (now (sector .entry)) ⌝ }
 {
-    put_run(sector, 100, 2, v, 14, 4);
-    put_run(sector, 120, 1, v, 18, 8);
-    put_run(sector, 128, 8, v, 26, 6);
-    put_run(sector, 180, 4, v, 32, 3);
+    put_run(sector, 100, 2, v, 14, 4); // sb_versionnum, sb_sectsize, sb_inodesize, sb_inopblock
+    put_run(sector, 120, 1, v, 18, 8); // sb_blocklog to sb_imax_pct
+    put_run(sector, 128, 8, v, 26, 6); // sb_icount to sb_gquotino
+    put_run(sector, 180, 4, v, 32, 3); // sb_inoalignmt, sb_unit, sb_width
 }
 
-// sb_dirblklog; sb_logsunit to sb_features_log_incompat; sb_spino_align; sb_pquotino and sb_lsn.
+// The runs from sb_dirblklog on.
 fn put_flags(sector: &mut [u8], v: &[u64])
     requires { ⌜ (264 ≤ length (now sector)) × (length (now v) ≡ 46) ⌝ }
     ensures { λ _. ⌜ now (sector .exit) ≡ inRuns flagsRuns 35 (now (v .entry)) (now (sector .entry)) ⌝ }
 {
-    put_run(sector, 192, 1, v, 35, 1);
-    put_run(sector, 196, 4, v, 36, 7);
-    put_run(sector, 228, 4, v, 43, 1);
-    put_run(sector, 232, 8, v, 44, 2);
+    put_run(sector, 192, 1, v, 35, 1); // sb_dirblklog
+    put_run(sector, 196, 4, v, 36, 7); // sb_logsunit to sb_features_log_incompat
+    put_run(sector, 228, 4, v, 43, 1); // sb_spino_align
+    put_run(sector, 232, 8, v, 44, 2); // sb_pquotino, sb_lsn
 }
 
 // The numbers at their places.
@@ -110,8 +110,8 @@ pub(crate) fn put_names(sector: &mut [u8], uuid: &[u8; 16], label: &[u8; 12])
     requires { ⌜ 264 ≤ length (now sector) ⌝ }
     ensures { λ r. ⌜ now (sector .exit) ≡ write (run 32 (now (uuid .entry)) ∷ run 108 (now (label .entry)) ∷ []) (now (sector .entry)) ⌝ }
 {
-    endian::put_bytes(sector, 32, uuid);
-    endian::put_bytes(sector, 108, label);
+    endian::put_bytes(sector, 32, uuid); // sb_uuid
+    endian::put_bytes(sector, 108, label); // sb_fname
 }
 
 // The log's sector, where it is named.
@@ -120,7 +120,7 @@ pub(crate) fn put_log_sector(sector: &mut [u8], large: bool, log: u8, size: u16)
     ensures { λ r. ⌜ now (sector .exit) ≡ write (logSector large log size) (now (sector .entry)) ⌝ }
 {
     if large {
-        endian::put8(sector, 193, log);
-        endian::put16(sector, 194, size);
+        endian::put8(sector, 193, log); // sb_logsectlog
+        endian::put16(sector, 194, size); // sb_logsectsize
     }
 }

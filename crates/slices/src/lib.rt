@@ -51,8 +51,8 @@ fn put_alloc(out: &mut [u8], i: usize, r: AllocRec)
     requires { ⌜ 8 * i + 8 ≤ length (now out) ⌝ }
     ensures { λ _. ⌜ now (out .exit) ≡ patch (8 * i) (allocBytes r) (now (out .entry)) ⌝ }
 {
-    endian::put32(out, 8 * i + 4, r.count);
-    endian::put32(out, 8 * i, r.start);
+    endian::put32(out, 8 * i + 4, r.count); // ar_blockcount
+    endian::put32(out, 8 * i, r.start); // ar_startblock
 }
 
 // The free extents of the list. 27 unless `out` is as long as they need, 34 above 64.
@@ -81,10 +81,10 @@ fn put_rmap(out: &mut [u8], i: usize, r: RmapRec)
     requires { ⌜ 24 * i + 24 ≤ length (now out) ⌝ }
     ensures { λ _. ⌜ now (out .exit) ≡ patch (24 * i) (rmapBytes r) (now (out .entry)) ⌝ }
 {
-    endian::put64(out, 24 * i + 16, 0);
-    endian::put64(out, 24 * i + 8, r.owner);
-    endian::put32(out, 24 * i + 4, r.count);
-    endian::put32(out, 24 * i, r.start);
+    endian::put64(out, 24 * i + 16, 0); // rm_offset
+    endian::put64(out, 24 * i + 8, r.owner); // rm_owner
+    endian::put32(out, 24 * i + 4, r.count); // rm_blockcount
+    endian::put32(out, 24 * i, r.start); // rm_startblock
 }
 
 // The reverse mappings of the list.
