@@ -48,10 +48,11 @@ chosenOf p device logical physical = withSizes p device (sizesOf p logical physi
 
 -- ---- the refusals
 
--- every refusal, in the order of the numbers
+-- every refusal, in the order of the numbers: features, then sizes (2 to 8), options and device (9 to 14), groups (15 to 18), and
+-- imaxpct, label, file system and log (19 to 24)
 unfoldable pub refusals : Params → ℕ → Chosen → List Refusal
 refusals p device c =
-    1 if (p .features .inobtcount && not (p .features .finobt))
+    1 if (p .features .inobtcount && not (p .features .finobt))  -- 1: inobtcount without finobt
     ∷ (sizesRefusals (c .sizes .block) (c .sizes .sector) (c .sizes .inode) (c .sizes .logical)
     ++ optionsRefusals (p .agsize) (p .agcount) (c .sizes .block) (device / c .sizes .block) (c .asked .dblocks) (isShort (c .asked) (minGroup (c .sizes .block)))
     ++ groupsRefusals (c .sizes .block) (c .groups .dblocks) (c .groups .agsize) (c .groups .agcount)

@@ -78,7 +78,7 @@ fn choose(params: Params, device: u64, logical: u32, physical: u32) -> Chosen
     }
 }
 
-// The number of the refusal, 0 for none.
+// The number of the refusal, 0 for none: the last test first, so that the smallest number is left.
 fn refusal(params: Params, device: u64, c: Chosen) -> u8
     ensures { λ r. ⌜ r ≡ refusalOf params device c ⌝ }
 {
@@ -90,6 +90,7 @@ fn refusal(params: Params, device: u64, c: Chosen) -> u8
     let a = c.asked;
     let g = c.groups;
     let bs = s.block as u64;
+    // 19 to 24
     let n = last_refusal(
         c.imaxpct,
         label.length,
@@ -99,12 +100,12 @@ fn refusal(params: Params, device: u64, c: Chosen) -> u8
         g.agcount,
         c.log,
     );
-    let n = groups_refusal(bs, g.dblocks, g.agsize, g.agcount, n);
+    let n = groups_refusal(bs, g.dblocks, g.agsize, g.agcount, n); // 15 to 18
     let short = is_short(a, min_group(bs));
     let blocks = quotient(device, bs);
-    let n = options_refusal(agsize, agcount, bs, blocks, a.dblocks, short, n);
-    let n = sizes_refusal(s.block, s.sector, s.inode, s.logical, n);
-    first(both(f.inobtcount, !f.finobt), 1, n)
+    let n = options_refusal(agsize, agcount, bs, blocks, a.dblocks, short, n); // 9 to 14
+    let n = sizes_refusal(s.block, s.sector, s.inode, s.logical, n); // 2 to 8
+    first(both(f.inobtcount, !f.finobt), 1, n) // 1: inobtcount without finobt
 }
 
 // The geometry of what was chosen.

@@ -53,21 +53,22 @@ trim g least =
       agcount = when (isShort g least) (g .dblocks / g .agsize) (g .agcount);
     }
 
--- d blocks are asked for, and the device has `device`; 13 and 18 speak of the resulting count
+-- refusals 9 to 14: d blocks are asked for, and the device has `device`; `short`: the last group is partial and under 16 MiB
 unfoldable pub optionsRefusals : OptU64 → OptU64 → ℕ → ℕ → ℕ → Bool → List Refusal
 optionsRefusals agsize agcount bs device d short =
-    9 if ltb device d
-    ∷ 10 if ltb d (minGroup bs)
-    ∷ 11 if partial64 agsize bs
-    ∷ 12 if zero64 agsize
-    ∷ 13 if (not (given64 agsize) && zero64 agcount)
-    ∷ 14 if (given64 agcount && short)
+    9 if ltb device d  -- 9: the size option is above the device
+    ∷ 10 if ltb d (minGroup bs)  -- 10: fewer blocks than 16 MiB
+    ∷ 11 if partial64 agsize bs  -- 11: agsize is no multiple of the block size
+    ∷ 12 if zero64 agsize  -- 12: agsize is 0
+    ∷ 13 if (not (given64 agsize) && zero64 agcount)  -- 13: agcount is 0, and no agsize given
+    ∷ 14 if (given64 agcount && short)  -- 14: agcount is given, and the last group short
     ∷ []
 
+-- refusals 15 to 18, of the groups without a short last one
 unfoldable pub groupsRefusals : ℕ → ℕ → ℕ → ℕ → List Refusal
 groupsRefusals bs dblocks agsize agcount =
-    15 if ltb agsize (minGroup bs)
-    ∷ 16 if ltb (maxGroup bs) agsize
-    ∷ 17 if ltb dblocks agsize
-    ∷ 18 if ltb maxGroups agcount
+    15 if ltb agsize (minGroup bs)  -- 15: groups under 16 MiB
+    ∷ 16 if ltb (maxGroup bs) agsize  -- 16: groups of 1 TiB or more
+    ∷ 17 if ltb dblocks agsize  -- 17: a group is above the block count
+    ∷ 18 if ltb maxGroups agcount  -- 18: more than 4,294,967,294 groups
     ∷ []

@@ -174,7 +174,7 @@ fn is_partial(option: OptU64, m: u64) -> bool
     }
 }
 
-// Refusals 9 to 14, for d blocks asked for of a device's.
+// Refusals 9 to 14, the last test first: d blocks are asked for, and the device has `device`.
 pub fn options_refusal(
     agsize: OptU64,
     agcount: OptU64,
@@ -186,20 +186,20 @@ pub fn options_refusal(
 ) -> u8
     ensures { λ r. ⌜ r ≡ first (optionsRefusals agsize agcount bs device d short) rest ⌝ }
 {
-    let n = first(both(is_given(agcount), short), 14, rest);
-    let n = first(both(!is_given(agsize), is_zero(agcount)), 13, n);
-    let n = first(is_zero(agsize), 12, n);
-    let n = first(is_partial(agsize, bs), 11, n);
-    let n = first(d < min_group(bs), 10, n);
-    first(device < d, 9, n)
+    let n = first(both(is_given(agcount), short), 14, rest); // 14: agcount is given, and the last group short
+    let n = first(both(!is_given(agsize), is_zero(agcount)), 13, n); // 13: agcount is 0, and no agsize given
+    let n = first(is_zero(agsize), 12, n); // 12: agsize is 0
+    let n = first(is_partial(agsize, bs), 11, n); // 11: agsize is no multiple of the block size
+    let n = first(d < min_group(bs), 10, n); // 10: fewer blocks than 16 MiB
+    first(device < d, 9, n) // 9: the size option is above the device
 }
 
-// Refusals 15 to 18.
+// Refusals 15 to 18, the last test first, of the groups without a short last one.
 pub fn groups_refusal(bs: u64, dblocks: u64, agsize: u64, agcount: u64, rest: u8) -> u8
     ensures { λ r. ⌜ r ≡ first (groupsRefusals bs dblocks agsize agcount) rest ⌝ }
 {
-    let n = first(MAX_AGNUMBER < agcount, 18, rest);
-    let n = first(dblocks < agsize, 17, n);
-    let n = first(ag_max_blocks(bs) < agsize, 16, n);
-    first(agsize < min_group(bs), 15, n)
+    let n = first(MAX_AGNUMBER < agcount, 18, rest); // 18: more than 4,294,967,294 groups
+    let n = first(dblocks < agsize, 17, n); // 17: a group is above the block count
+    let n = first(ag_max_blocks(bs) < agsize, 16, n); // 16: groups of 1 TiB or more
+    first(agsize < min_group(bs), 15, n) // 15: groups under 16 MiB
 }

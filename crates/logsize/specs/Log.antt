@@ -43,12 +43,13 @@ defaultImaxpct bs d = when (ltb d (tib / bs)) 25 (when (ltb d (50 * tib / bs)) 5
 abbrev pub imaxpctOf : OptU8 → ℕ → ℕ → ℕ
 imaxpctOf option bs d = or8 option (defaultImaxpct bs d)
 
+-- refusals 19 to 24; `label` is the label's length
 unfoldable pub lastRefusals : ℕ → ℕ → ℕ → ℕ → ℕ → ℕ → ℕ → List Refusal
 lastRefusals imaxpct label bs dblocks agsize agcount log =
-    19 if ltb maxImaxpct imaxpct
-    ∷ 20 if ltb labelRoom label
-    ∷ 21 if ltb dblocks (minBytes / bs)
-    ∷ 22 if ltb log (minLogBytes / bs)
-    ∷ 23 if ltb agcount minGroups
-    ∷ 24 if not (eqb agcount (ceilDiv dblocks agsize))
+    19 if ltb maxImaxpct imaxpct  -- 19: imaxpct above 100
+    ∷ 20 if ltb labelRoom label  -- 20: a label above 12 bytes
+    ∷ 21 if ltb dblocks (minBytes / bs)  -- 21: a file system under 300 MiB
+    ∷ 22 if ltb log (minLogBytes / bs)  -- 22: a log under 64 MiB
+    ∷ 23 if ltb agcount minGroups  -- 23: fewer than 2 groups
+    ∷ 24 if not (eqb agcount (ceilDiv dblocks agsize))  -- 24: agcount is not the block count by agsize, rounded up
     ∷ []

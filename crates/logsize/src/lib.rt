@@ -123,7 +123,7 @@ pub fn imaxpct_of(option: OptU8, bs: u64, d: u64) -> u8
     }
 }
 
-// Refusals 19 to 24.
+// Refusals 19 to 24, the last test first; `label` is the label's length.
 pub fn last_refusal(
     imaxpct: u8,
     label: usize,
@@ -135,10 +135,10 @@ pub fn last_refusal(
 ) -> u8
     ensures { λ r. ⌜ r ≡ first (lastRefusals imaxpct label bs dblocks agsize agcount log) 0 ⌝ }
 {
-    let n = first(agcount != div_ceil(dblocks, agsize), 24, 0);
-    let n = first(agcount < MIN_AGCOUNT, 23, n);
-    let n = first(log < quotient(REALISTIC_LOG_BYTES, bs), 22, n);
-    let n = first(dblocks < quotient(MIN_SUPPORTED_BYTES, bs), 21, n);
-    let n = first(MAX_LABEL < label, 20, n);
-    first(MAX_IMAXPCT < imaxpct, 19, n)
+    let n = first(agcount != div_ceil(dblocks, agsize), 24, 0); // 24: agcount is not the block count by agsize, rounded up
+    let n = first(agcount < MIN_AGCOUNT, 23, n); // 23: fewer than 2 groups
+    let n = first(log < quotient(REALISTIC_LOG_BYTES, bs), 22, n); // 22: a log under 64 MiB
+    let n = first(dblocks < quotient(MIN_SUPPORTED_BYTES, bs), 21, n); // 21: a file system under 300 MiB
+    let n = first(MAX_LABEL < label, 20, n); // 20: a label above 12 bytes
+    first(MAX_IMAXPCT < imaxpct, 19, n) // 19: imaxpct above 100
 }
