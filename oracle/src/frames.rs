@@ -19,7 +19,7 @@ pub fn write(to: &mut impl Write, body: &[u8]) -> io::Result<()> {
     to.write_all(body)
 }
 
-/// Takes numbers and bytes off the front of a case, zeros where it is too short.
+/// Takes numbers and bytes off the start of a case, zeros where it is too short.
 pub struct Fields<'a>(pub &'a [u8]);
 
 impl<'a> Fields<'a> {

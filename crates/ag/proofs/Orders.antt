@@ -27,7 +27,7 @@ pub agf-written : (a : Agf) (uuid xs : List ℕ)
 unfolding agfFields
 agf-written a uuid xs = rw (run-fields 4 0, run-fields 4 80) refl
 
--- the front of an AGI, and the whole
+-- the prefix of an AGI's fields, before the checksum, and all of them
 pub front-written : (front uuid xs : List ℕ) → patch 296 uuid (patch 40 (replicate 256 255) (patch 0 (runBytes 4 front) xs)) ≡ write (agiFront front uuid) xs
 front-written front uuid xs =
     ap (λ (l : List ℕ). patch 296 uuid (patch 40 l (patch 0 (runBytes 4 front) xs))) (sym (nulls 64))

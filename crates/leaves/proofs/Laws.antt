@@ -1,4 +1,4 @@
--- A leaf whose records were written into a lent room before.
+-- A leaf whose records were written into a lent buffer before.
 -- Assumes nothing.
 use mathlib.Core.Path.{_≡_, refl, ap, sym, _∙_}
 use mathlib.Core.List.{List, _++_}
@@ -22,7 +22,7 @@ pub list-fits : (size count len : ℕ) → len ≡ size * count → count ≤ 64
 unfolding recsNumber
 list-fits size count len e h = rw (eq-eqb len (size * count) e, le-leb count 64 h) refl
 
--- what is lent out of the room again is what was written into it
+-- what is lent out of the buffer again is what was written into it
 pub lent-again : (k : ℕ) (xs : List ℕ) {got ys : List ℕ} → got ≡ ys → length ys ≡ k → take (k - 0) (got ++ postOf 0 (k - 0) xs) ≡ ys
 lent-again k xs {got} {ys} g e = let z : k - 0 ≡ k = omega arith in rw (z, g) (take-at ys (postOf 0 k xs) k e)
 

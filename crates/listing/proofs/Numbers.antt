@@ -54,7 +54,7 @@ module _ (run : Run) where
   unfolding placeNumber chunkCount when
   place-none k f h = or-second (formatNumber run) _ 29 f (rw (le-leb (run .geometry .agcount + 3) k (omega arith)) refl)
 
-  -- the buffer is the chunk's and the work room is enough, or not
+  -- the buffer has the chunk's length and the work buffer is long enough, or not
   pub write-fits : (k len room : ℕ) → placeNumber run k ≡ 0 → len ≡ listedLength (run .geometry) k → partLength (run .geometry) k ≤ room → 0 ≡ writeNumber run k len room
   unfolding writeNumber
   write-fits k len room z e h = or-second (placeNumber run k) _ 0 z (rw (eq-eqb len (listedLength (run .geometry) k) e, le-leb (partLength (run .geometry) k) room h) refl)
@@ -67,7 +67,7 @@ module _ (run : Run) where
   unfolding writeNumber
   write-narrow k len room z e h = or-second (placeNumber run k) _ 27 z (rw (eq-eqb len (listedLength (run .geometry) k) e, lt-leb (partLength (run .geometry) k) room h) refl)
 
--- what a chunk's buffer and its work room say
+-- what the lengths of a chunk's buffer and of the work buffer say
 pub record Filling (run : Run) (k len room : ℕ) : Type 0 where
   pub format : formatNumber run ≡ 0
   pub there : k < run .geometry .agcount + 3

@@ -44,8 +44,8 @@ noChunk = 29
 unfoldable pub placeNumber : Run → ℕ → ℕ
 placeNumber run k = orNext (formatNumber run) (when (leb (chunkCount run) k) noChunk 0)
 
--- the number of a chunk, then 27 for a buffer of another length than the chunk's or less work room than its part; a chunk that isn't there
--- has none
+-- the number of a chunk, then 27 for a buffer of another length than the chunk's or a work buffer shorter than its part; a chunk that
+-- isn't there has none
 unfoldable pub writeNumber : Run → ℕ → ℕ → ℕ → ℕ
 writeNumber run k len room =
     orNext (placeNumber run k) (require wrongLength (eqb len (listedLength (run .geometry) k)) (require wrongLength (leb (partLength (run .geometry) k) room) 0))

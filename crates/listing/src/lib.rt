@@ -76,7 +76,7 @@ fn place_number(run: Run, k: u64) -> u32
     NO_CHUNK
 }
 
-// Whether chunk k can be made in a buffer and work room of so many bytes: 31, 25, 26, 29, 27, or 0.
+// Whether chunk k can be made in a buffer of `len` bytes with a work buffer of `room`: 31, 25, 26, 29, 27, or 0.
 pub fn write_number(run: Run, k: u64, len: usize, room: usize) -> u32
     ensures { λ r. ⌜ r ≡ writeNumber run k len room ⌝ }
 {
@@ -125,7 +125,7 @@ pub fn chunk_length(run: Run, k: u64) -> Counted
     Counted { number: 0, value }
 }
 
-// How many bytes of work room chunk k needs: 31, 25, 26, 29. No chunk needs more than shared::LARGEST_HEAD.
+// How long a work buffer chunk k needs: 31, 25, 26, 29. No chunk needs more than shared::LARGEST_HEAD.
 pub fn part_length(run: Run, k: u64) -> Counted
     ensures { λ r. ⌜ r ≡ partAnswer run k ⌝ }
 {

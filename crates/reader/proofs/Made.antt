@@ -25,7 +25,7 @@ use Rattle.shared.proofs.Logging.{block-fits}
 use Rattle.exact.specs.Read.{placeTests, groupNumber, readLog}
 use Rattle.compare.specs.Places.{comparedNumber}
 
--- as much of a room as there are bytes to compare
+-- as much of a buffer as there are bytes to compare
 pub room-for : {m : ℕ} (xs work : List ℕ) → length xs ≤ m → m ≡ length work → length (take (length xs) work) ≡ length xs
 room-for xs work h e = length-take-le (length xs) work (omega arith)
 

@@ -1,4 +1,4 @@
-// The head that an accepted run leaves in a group, made in the reader's own room, and compared.
+// The head that an accepted run leaves in a group, made in the reader's own buffer, and compared.
 ghost use mathlib.Core.Path.{_≡_};
 ghost use Prim.Native.Nat.{_≤_};
 ghost use lib.ListN.{length};
@@ -23,7 +23,7 @@ fn large_room() -> [u8; 163840]
     [0; 163840]
 }
 
-// The number of a head, for which there is as much room. Where none is made, the bytes are refused whatever stands in the room.
+// The number of a head, with a work buffer of its length. Where none is made, the bytes are refused whatever stands in that buffer.
 fn with_room(g: Geometry, uuid: [u8; 16], k: u64, head: &[u8], work: &mut [u8]) -> u32
     requires { ⌜ length (now work) ≡ length (now head) ⌝ }
     ensures { λ r. ⌜ r ≡ groupNumber g uuid k (now (head .entry)) ⌝ }
@@ -50,7 +50,7 @@ fn in_large_room(g: Geometry, uuid: [u8; 16], k: u64, head: &[u8]) -> u32
     with_room(g, uuid, k, head, &mut work[..n])
 }
 
-// The number of any group's head: 31, 29, 27, 30, or 0. To zero the large room costs more than to make a small head; bytes that are
+// The number of any group's head: 31, 29, 27, 30, or 0. To zero the large buffer costs more than to make a small head; bytes that are
 // longer than any head are refused, so that they may be compared with any.
 pub(crate) fn group_number(g: Geometry, uuid: [u8; 16], k: u64, head: &[u8]) -> u32
     ensures { λ r. ⌜ r ≡ groupNumber g uuid k (now (head .entry)) ⌝ }

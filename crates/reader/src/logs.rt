@@ -1,4 +1,4 @@
-// The log's first block as an accepted run leaves it, made in the reader's own room, and compared.
+// The log's first block as an accepted run leaves it, made in the reader's own buffer, and compared.
 ghost use mathlib.Core.Path.{_≡_};
 ghost use Prim.Native.Nat.{_≤_};
 ghost use lib.ListN.{length};
@@ -16,7 +16,7 @@ fn blank() -> [u8; 16384]
     [0; 16384]
 }
 
-// The number of a block, for which there is as much room. Where none is made, the bytes are refused whatever stands in the room.
+// The number of a block, with a work buffer of its length. Where none is made, the bytes are refused whatever stands in that buffer.
 fn with_room(g: Geometry, uuid: [u8; 16], block: &[u8], work: &mut [u8]) -> u32
     requires { ⌜ length (now work) ≡ length (now block) ⌝ }
     ensures { λ r. ⌜ r ≡ readLog g uuid (now (block .entry)) ⌝ }

@@ -81,7 +81,7 @@ run-done o w n i us b z h e =
     let k : n - i ≡ 0 = omega arith in
     rw k at e
 
--- its room
+-- the next number fits the sector, and so does the rest of the run
 pub room-next : (o w n i len : ℕ) → i < n → o + w * (n - i) ≤ len → (o + w ≤ len) × (o + w + w * (n - (i + 1)) ≤ len)
 room-next o w n i len lt h =
     let k : n - i ≡ suc (n - (i + 1)) = omega arith in

@@ -1,4 +1,4 @@
--- The room that `writelist` lends is enough for every chunk of an accepted run and its part.
+-- The buffers that `writelist` lends are long enough for every chunk of an accepted run and its part.
 -- Assumes nothing.
 use mathlib.Core.Path.{_≡_, refl, _∙_}
 use Prim.Native.Nat.{ℕ, _-_, _<_, _≤_}

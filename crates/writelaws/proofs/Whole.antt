@@ -57,7 +57,7 @@ sent-is run device (suc n) = ap (λ (l : List ℕ). l ++ sent run device n) (sen
 sent-whole : (run : Run) (device : ℕ) → sentAll run device ≡ listBytes (listOf run device)
 sent-whole run device = sent-is run device (chunkCount run) ∙ ap listBytes (by-chunks run device)
 
--- ---- where it ends: its second flush is its last record, and a front of it has fewer
+-- ---- where it ends: its second flush is its last record, and a prefix of it has fewer
 
 list-ends : (run : Run) (device : ℕ) → ruled 0 (listOf run device) ≡ 0
 list-ends run device = whole-list (listOf run device) .1 (record { two = told run device .whole-flushes; front = butLast run device; last = list-last run device })

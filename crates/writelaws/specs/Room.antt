@@ -1,4 +1,4 @@
--- That the room that `writelist` lends is enough for every chunk and its part.
+-- That the buffers that `writelist` lends are long enough for every chunk and its part.
 -- Assumes nothing.
 use Prim.Native.Nat.{ℕ, _-_, _<_, _≤_}
 use Rattle.run.specs.declared.Run.{Run}

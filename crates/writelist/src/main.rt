@@ -1,5 +1,5 @@
 // Reads input records from standard input and writes the list of written records of the run that they ask for to standard output, or
-// prints `refused N`. The records come from `writes`, chunk by chunk; here they are only lent room and written.
+// prints `refused N`. The records come from `writes`, chunk by chunk; here they are only lent buffers and written.
 // Give each disk its UUID in an `ID` record: without one it is zeros, and Linux doesn't mount such a disk.
 ghost use mathlib.Core.Path.{_≡_};
 ghost use lib.ListN.{length};
@@ -117,8 +117,8 @@ fn write_most(run: Run, device: u64) -> bool {
     write_list(run, device, &mut work, &mut buf)
 }
 
-// Whether little room is enough: the first head and the root chunk, which is the chunk before the last, are the longest (`room-enough` of
-// writelaws).
+// Whether the small buffers are enough: the first head and the root chunk, which is the chunk before the last, are the longest
+// (`room-enough` of writelaws).
 fn needs_few(run: Run) -> bool {
     let count = listing::chunk_count(run);
     let head = listing::chunk_length(run, 1);

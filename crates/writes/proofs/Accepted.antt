@@ -1,4 +1,4 @@
--- What an accepted run gives: the room that its parts need, and that every part is accepted.
+-- What an accepted run gives: every part is accepted, and its place fits 64 bits.
 -- Assumes nothing.
 use mathlib.Core.Path.{_≡_, refl, sym, ap, _∙_}
 use mathlib.Core.Bool.{true}
@@ -63,7 +63,7 @@ module _ (g : Geometry) (l : length (g .label) ≡ 12) (p : plansNumber g ≡ 0)
       chunk-in w (ap (λ (x : ℕ). chunkNumber g x time (length xs)) a ∙ root-accepted time (length xs) z e) .0
       ∙ ap (λ (x : ℕ). chunkBytes g x uuid time seed) a
 
--- ---- room
+-- ---- places fit 64 bits
 
 module _ (g : Geometry) (z : Bounds g) where
   -- a few blocks of a group lie on the disk

@@ -150,7 +150,7 @@ closing-whole bs n end src xs ys zs ws f l lx p q u =
     ∙ patch-whole (F ++ (B ++ F)) xs (omega arith)
     ∙ rw flush-bytes refl
 
--- ---- room
+-- ---- places and lengths fit 64 bits
 
 module _ (g : Geometry) (z : Bounds g) where
   pub log-place : (bs : ℕ) → bs ≡ g .blocksize → (g .logagno * g .agsize + g .«log_agbno» < 2 ^ 64) × ((g .logagno * g .agsize + g .«log_agbno») * bs < 2 ^ 64)

@@ -1,4 +1,4 @@
--- The part that a chunk is split from, in the first bytes of the work room.
+-- The part that a chunk is split from, in the first bytes of the work buffer.
 -- Assumes nothing.
 use mathlib.Core.Path.{_≡_, ap, _∙_}
 use mathlib.Core.List.{List}
@@ -11,7 +11,7 @@ use Rattle.endian.specs.Bytes.{patch}
 use Rattle.endian.proofs.Laws.{part-back}
 use Rattle.head.proofs.Lending.{part-length}
 
--- a part that is lent from the start of the work room
+-- a part that is lent from the start of the work buffer
 pub lent-part : (n : ℕ) (new xs ys : List ℕ) → n ≤ length xs → length ys ≡ length (take (0 + n - 0) (drop 0 xs)) → ys ≡ new → putMid 0 (0 + n - 0) xs ys ≡ patch 0 new xs
 lent-part n new xs ys h l e =
     let q : 0 + n ≤ length xs = omega arith in

@@ -11,7 +11,7 @@ use Rattle.records.proofs.Blocks.{all-append}
 use Rattle.written.specs.Listing.{opening, headRecords, headsTo, chunkRecords, headerRecords, closing, listOf}
 use Rattle.written.specs.Left.{unfinished}
 
--- a list cut behind a front of it
+-- a list cut behind a prefix of it
 pub cut-behind : {A : Type 0} (front behind cut rest : List A) → cut ++ rest ≡ front ++ behind → length front ≤ length cut
     → (cut ≡ front ++ drop (length front) cut) × (drop (length front) cut ++ rest ≡ behind)
 cut-behind [] behind cut rest e h = (refl, e)
