@@ -34,7 +34,7 @@ ruled n (w ∷ ws) =
 
 -- ---- of a whole list
 
--- By document 01's order of a list: it has two flushes, and its last record is one.
+-- A whole list has two flushes, and its last record is one.
 pub record WholeList (ws : List Record) : Type 0 where
   pub two : flushes ws ≡ 2
   pub front : List Record

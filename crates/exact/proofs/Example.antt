@@ -45,7 +45,7 @@ use Rattle.exact.proofs.Heads.{head-least, source-bounds, some-group}
 use Rattle.exact.proofs.Recovery.{Recovered, recovered}
 use Rattle.exact.proofs.Refused.{short-refused, unfinished-refused, past-refused, length-refused, stranger-refused, unplanned-refused}
 
--- document 01's example: a device of 1 GiB with sectors of 512 bytes
+-- planlist's example: a device of 1 GiB with sectors of 512 bytes
 pub disk : Request
 disk = record { number = 0; params = noOptions; device = 1_073_741_824; logical = 512; physical = 512 }
 

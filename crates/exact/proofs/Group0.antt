@@ -26,7 +26,7 @@ use Rattle.exact.specs.Read.{firstTests, readAs, readGroup0}
 use Rattle.exact.specs.Left.{Octets, LeftFirst}
 use Rattle.exact.proofs.First.{number-as, one-of, sound}
 
--- what is accepted under one sizing is accepted under document 01's
+-- what is accepted under either sizing is accepted under plain sizing
 pub either-named : (roomy : Bool) (xs : List ℕ) → namedBy roomy xs .number ≡ 0 → namedBy false xs .number ≡ 0
 unfolding namedBy
 either-named true xs z = old-accepts (namesAt xs) z .0

@@ -8,7 +8,7 @@ use Rattle.params.specs.declared.Features.{Features}
 use Rattle.geometry.specs.declared.Geometry.{Geometry}
 use Rattle.geometry.specs.declared.Computed.{Computed}
 
--- the features as document 01's bits
+-- the features as the bits of option 9
 unfoldable pub featureBits : Features → ℕ
 featureBits f =
     when (f .finobt) 1 0 + when (f .rmapbt) 2 0 + when (f .reflink) 4 0 + when (f .inobtcount) 8 0 + when (f .bigtime) 16 0 + when (f .nrext64) 32 0 + when (f .sparse) 64 0

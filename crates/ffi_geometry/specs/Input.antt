@@ -32,7 +32,7 @@ abbrev pub opt8 : Bool → ℕ → OptU8
 opt8 true n = Given8 n
 opt8 false n = Absent8
 
--- the features that document 01's bits turn on
+-- the features that the bits of option 9 turn on
 unfoldable pub featuresOf : ℕ → Features
 featuresOf bits =
     record {
@@ -45,7 +45,7 @@ featuresOf bits =
       sparse = isOn bits 6;
     }
 
--- ---- document 01's codes of the options
+-- ---- the codes of the options in the input records
 
 abbrev pub sizeCode : ℕ
 sizeCode = 1

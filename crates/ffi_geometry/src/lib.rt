@@ -19,7 +19,7 @@ use params::OptUuid;
 use params::Params;
 use params::Presence;
 
-// The codes of the options in document 01: `given` has the bit of each option that is given.
+// The codes of the options in the input records: `given` has the bit of each option that is given.
 const SIZE: u64 = 1;
 
 const BLOCK: u64 = 2;
@@ -76,7 +76,7 @@ fn option8(given: u64, code: u64, v: u8) -> OptU8
     OptU8::Absent
 }
 
-// The features of document 01's bits.
+// The features that the bits of option 9 turn on.
 fn features_of(bits: u64) -> Features
     ensures { λ r. ⌜ r ≡ featuresOf bits ⌝ }
 {

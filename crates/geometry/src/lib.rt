@@ -48,7 +48,7 @@ pub struct Computed {
     pub geometry: Geometry,
 }
 
-// The limits of groups, log and what they hold, under the names that xfsprogs gives them.
+// The limits of groups, log and what they hold, under the Rust's names where it has them.
 impl Geometry {
     pub const DINODE_MIN_SIZE: u32 = 256; // bytes
 

@@ -15,7 +15,7 @@ use arith::numbers::round_down;
 use params::OptU64;
 use refusals::first;
 
-// The limits of groups, under the names that xfsprogs gives them.
+// The limits of groups, under the Rust's names where it has them.
 pub const TIB: u64 = 1 << 40; // bytes
 
 pub const AG_MIN_BYTES: u64 = 1 << 24;

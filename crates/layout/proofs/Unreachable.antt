@@ -46,7 +46,7 @@ log-fits : (d agsize prealloc bs : ℕ) → logBlocks d (agsize - prealloc - 5) 
 unfolding logBlocks
 log-fits d agsize prealloc bs = omega arith
 
--- the log is never larger than its group
+-- the log is never larger than what a whole group has behind its head; its own group may be shorter (K6)
 pub never-too-large : (d agsize prealloc b : ℕ) → logTooLarge d agsize prealloc b ≡ false
 unfolding logTooLarge
 never-too-large d agsize prealloc b =

@@ -11,7 +11,7 @@ use Rattle.layout.specs.Places.{usableOf}
 unfoldable pub under300 : ℕ → ℕ → Bool
 under300 d b = ltb d (minBytes / 2 ^ b)
 
--- a 2048th of the bytes, in blocks; at least 64 MiB; at most one less than the group can hand out, and the largest log in blocks
+-- a 2048th of the bytes, in blocks; at least 64 MiB; at most one less than a whole group can hand out, and the largest log in blocks
 unfoldable pub sourceWanted : ℕ → ℕ → ℕ → ℕ → ℕ
 sourceWanted d agsize prealloc b =
     min (min (max (d * 2 ^ b / logRatio / 2 ^ b) (minLogBytes / 2 ^ b)) (usableOf agsize prealloc - 1)) maxLogBlocks
@@ -21,6 +21,6 @@ unfoldable pub sourceLog : ℕ → ℕ → ℕ → ℕ → ℕ
 sourceLog d agsize prealloc b =
     when (ltb maxLogBytes (sourceWanted d agsize prealloc b * 2 ^ b)) (maxLogBytes / 2 ^ b) (sourceWanted d agsize prealloc b)
 
--- the log is larger than its group
+-- the log is larger than what a whole group has behind its head
 unfoldable pub logTooLarge : ℕ → ℕ → ℕ → ℕ → Bool
 logTooLarge d agsize prealloc b = ltb (agsize - prealloc) (sourceLog d agsize prealloc b)

@@ -1,4 +1,4 @@
--- Lines of document 01's example, byte for byte.
+-- Lines of planlist's example, a device of 1 GiB, byte for byte.
 -- Assumes nothing.
 use mathlib.Core.Path.{_≡_, refl}
 use mathlib.Core.List.{[], _∷_}

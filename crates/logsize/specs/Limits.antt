@@ -27,7 +27,7 @@ maxLogBlocks = 1048576
 abbrev pub logRatio : ℕ
 logRatio = 2048
 
--- blocks that the log's upper limit leaves of a group
+-- blocks that the log's upper limit leaves of a whole group; roomy sizing leaves at least as many of the log's own
 abbrev pub logReserve : ℕ
 logReserve = 5
 

@@ -16,7 +16,7 @@ use params::Features;
 use params::OptU8;
 use refusals::first;
 
-// The limits of file system, log and imaxpct, under the names that xfsprogs gives them.
+// The limits of file system, log and imaxpct, under the Rust's names where it has them.
 pub const MIN_SUPPORTED_BYTES: u64 = 300 * 1024 * 1024; // the least file system
 
 pub const MIN_AGCOUNT: u64 = 2;

@@ -32,6 +32,6 @@ sized g log roomy =
       roomy = roomy;
     }
 
--- the geometry but for its sizing: with document 01's
+-- the geometry with the same log, in plain sizing
 abbrev pub plain : Geometry → Geometry
 plain g = sized g (g .logblocks) false

@@ -37,7 +37,7 @@ toAgfl s = record { blocks = s .recs; len = s .len }
 abbrev pub packAgfl : List ℕ → Agfl
 packAgfl xs = toAgfl (packed 0 xs)
 
--- ---- owners: document 01 has them as −3 to −8
+-- ---- owners: −3 to −8 in 64 bits
 
 abbrev pub ownFs : ℕ
 ownFs = negative 3

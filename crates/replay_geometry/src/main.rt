@@ -1,6 +1,6 @@
 // Replays cases of the geometry step from standard input and prints each answer: the number, and after 0 the geometry's fields in
 // its own order, features as bits and the label in hexadecimal digits. `stdin` and `stdout` hold cases from a seed and what the Rust
-// answers to them (24, which the Rust doesn't know, is document 01's), every number from 0 to 24 among them; they were written by
+// answers to them (24, which the Rust doesn't know, is added), every number from 0 to 24 among them; they were written by
 //
 //     oracle/target/release/oracle replay geometry --cases 600 --seed 5 crates/replay_geometry
 //

@@ -1,6 +1,6 @@
 // Replays cases of record lists, leaf blocks, log records and decoded times from standard input and prints each answer: the number, and
 // the checksum of the lent bytes as they are left. `stdin` and `stdout` hold cases from a seed and what the Rust answers to them (27, 34
-// and 35, which the Rust doesn't know, are document 01's, the limit of 35 document 02's); they were written by
+// and 35, which the Rust doesn't know, are the scope's); they were written by
 //
 //     oracle/target/release/oracle replay records --cases 200 --seed 5 crates/replay_records
 //

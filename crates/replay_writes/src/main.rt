@@ -1,6 +1,6 @@
 // Replays inputs of writelist from standard input and prints what each list is: the number of a refusal; or 0, the bytes of the whole
 // list, and their CRC32C; or, where a case asks for it, the list itself. `stdin` and `stdout` hold cases from a seed and what the Rust
-// writes for them (24, 26 and 28, which the Rust doesn't know, are document 01's), every number from 1 to 26 and 28 among them; they were
+// writes for them (24, 26 and 28, which the Rust doesn't know, are added), every number from 1 to 26 and 28 among them; they were
 // written by
 //
 //     oracle/target/release/oracle replay writelist --cases 56 --seed 7 crates/replay_writes

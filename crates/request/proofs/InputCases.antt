@@ -1,4 +1,4 @@
--- The definition gives the table's numbers, and document 01's example its device; the longest input is as long as is said.
+-- The definition gives the table's numbers, and planlist's example its device; the longest input is as long as is said.
 -- Assumes nothing.
 use mathlib.Core.Path.{_≡_, refl}
 use lib.Dec.{T}

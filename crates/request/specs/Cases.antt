@@ -25,7 +25,7 @@ lb bytes = beBytes 2 0x4c42 ++ (length bytes ∷ bytes)
 unfoldable pub id : List ℕ → List ℕ
 id bytes = beBytes 2 0x4944 ++ bytes
 
--- document 01's example: a device of 1 GiB with sectors of 512 bytes
+-- planlist's example: a device of 1 GiB with sectors of 512 bytes
 unfoldable pub disk : List ℕ
 disk = dv 1_073_741_824 512 512
 

@@ -85,7 +85,7 @@ pub record Sound (s : Site) : Type 0 where
   pub head-most : s .head ≤ 10
   pub need-least : 4 ≤ s .need
   pub need-most : s .need ≤ 6
-  -- the log lies after the head, and never in group 0
+  -- the log begins after the head, and never in group 0
   pub log-after : s .«log_at» ≡ s .head
   pub log-least : 0 < s .«log_blocks»
   pub log-most : s .«log_blocks» < 2 ^ 30

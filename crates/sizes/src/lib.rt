@@ -9,7 +9,7 @@ use params::OptU32;
 use params::Params;
 use refusals::first;
 
-// The limits of sizes, under the names that xfsprogs gives them.
+// The limits of sizes, under the Rust's names where it has them.
 pub const MIN_CRC_BLOCKSIZE: u32 = 1024; // bytes
 
 pub const MAX_SUPPORTED_BLOCKSIZE: u32 = 16384; // bytes

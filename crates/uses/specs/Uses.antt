@@ -92,7 +92,7 @@ mappedOf g k b = weighOwned (anyOwner (has b)) (rmapOf (planned g k .plan .rmap)
 unfoldable pub ownedOf : ℕ → Geometry → ℕ → ℕ → ℕ
 ownedOf o g k b = weighOwned (onlyOwner o (has b)) (rmapOf (planned g k .plan .rmap))
 
--- what each owner has, by document 01: header blocks; free-space roots, rmap root and free list; inode roots; root of the reference
+-- what each owner has: header blocks; free-space roots, rmap root and free list; inode roots; root of the reference
 -- counts; log; inodes
 pub record Owners (f : ℕ → ℕ → ℕ) (s : Site) (p : AgPlan) (of : ℕ → ℕ) : Type 0 where
   pub fs : of ownFs ≡ f 0 (s .bno)

@@ -1,4 +1,4 @@
--- `places::fixed::logstart` meets its contract: the log of an answer lies on the disk.
+-- `places::fixed::logstart` meets its contract: the log of an answer begins on the disk.
 -- Assumes nothing.
 use borrow.Author.Needs.{needs}
 use mathlib.Core.Path.{_≡_, sym, _∙_}
