@@ -1,10 +1,14 @@
 -- Uses and totals by the bytes, of every disk that an accepted run leaves, and so of every disk that the reader accepts whole.
 -- Assumes nothing.
-use mathlib.Core.Path.{_≡_, refl}
+use mathlib.Core.Path.{_≡_, refl, sym, ap, _∙_}
 use mathlib.Core.List.{List}
 use Prim.Native.Nat.{ℕ, _<_}
 use Rattle.geometry.specs.declared.Geometry.{Geometry}
 use Rattle.request.specs.declared.Request.{Request}
+use Rattle.summary.specs.declared.Summary.{Summary}
+use Rattle.summary.specs.Summaries.{rowIn as rowOfSummary}
+use Rattle.summary.proofs.Laws.{its-summary}
+use Rattle.summary.proofs.Rows.{rows-agree, totals-agree}
 use Rattle.run.specs.Runs.{runOf}
 use Rattle.device.specs.Device.{Device, applied, read}
 use Rattle.written.specs.Listing.{listOf, headLeft}
@@ -17,7 +21,7 @@ use Rattle.exact.specs.Read.{readGroup0}
 use Rattle.exact.specs.Left.{Octets, ReadWhole}
 use Rattle.exact.proofs.Example.{disk, disk-accepted}
 use Rattle.exact.proofs.Whole.{whole-source, whole-heads}
-use Rattle.byuse.specs.ByUse.{LeftHeads, Used}
+use Rattle.byuse.specs.ByUse.{LeftHeads, Used, Printed}
 use Rattle.byuse.proofs.OneUse.{one-use, no-use}
 use Rattle.byuse.proofs.Totals.{free-total, count-total}
 use Rattle.byuse.proofs.Table.{row-is, total-is}
@@ -59,6 +63,19 @@ whole-used heads log o r =
     let g = readGroup0 (heads 0) .geometry in
     let u = readGroup0 (heads 0) .uuid in
     used g u heads (left g u heads (whole-source heads log o r) (whole-heads heads log o r))
+
+-- A TABLE THAT IS PRINTED FROM THE GEOMETRY SAYS WHAT THE BYTES SAY, on every disk that the reader accepts whole
+pub whole-printed : (heads : ℕ → List ℕ) (log : List ℕ) → Octets (heads 0) → ReadWhole heads log → Printed (readGroup0 (heads 0) .geometry) heads
+whole-printed heads log o r =
+    let g = readGroup0 (heads 0) .geometry in
+    let u = readGroup0 (heads 0) .uuid in
+    let s = whole-source heads log o r in
+    let w = whole-used heads log o r in
+    let e = its-summary g (source-plans g u s) in
+    record {
+      rows = λ k i. ap (λ (t : Summary). rowOfSummary t k) e ∙ rows-agree g (source-label g u s) (source-plans g u s) k ∙ sym (w .rows k i);
+      last-line = ap (λ (t : Summary). t .total) e ∙ totals-agree g (source-label g u s) (source-plans g u s) ∙ sym (w .last-line);
+    }
 
 -- an accepted run, so that nothing here is said of nothing
 pub example-used : Used (runOf disk .geometry) (headLeft (runOf disk .geometry) (runOf disk .uuid))

@@ -15,6 +15,7 @@ use Rattle.free.specs.Free.{startOf, countOf}
 use Rattle.totals.specs.declared.Row.{Row}
 use Rattle.totals.specs.declared.Total.{Total}
 use Rattle.totals.specs.Totals.{maxCount, plansNumber, sumTo, rowOf, totalOf}
+use Rattle.summary.specs.Summaries.{summarised, rowIn as rowOfSummary}
 use Rattle.uses.specs.Uses.{self, one}
 use Rattle.written.specs.Listing.{headLeft}
 use Rattle.decoded.specs.Decoded.{agfIn, LogRun, logIn, listIn, chunksIn, freeIn, countIn}
@@ -147,3 +148,8 @@ pub record Used (g : Geometry) (heads : ℕ → List ℕ) : Type 0 where
   -- the table is planlist's
   pub rows : (k : ℕ) → k < g .agcount → rowIn g (heads 0) (heads k) k ≡ rowOf g k
   pub last-line : totalIn g heads ≡ totalOf g
+
+-- ---- what `summary_of` and `row_at` give of that geometry, which is printed, is what the bytes say
+pub record Printed (g : Geometry) (heads : ℕ → List ℕ) : Type 0 where
+  pub rows : (k : ℕ) → k < g .agcount → rowOfSummary (summarised g .summary) k ≡ rowIn g (heads 0) (heads k) k
+  pub last-line : summarised g .summary .total ≡ totalIn g heads

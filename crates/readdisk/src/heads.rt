@@ -1,34 +1,24 @@
-// One pass over a disk: every head and the log's first block, taken in order, and the rows of the heads.
+// One pass over a disk: every head and the log's first block, taken in order.
 ghost use mathlib.Core.Path.{_≡_};
 ghost use Rattle.disk.specs.Parts.{headTaken};
 use crate::WHOLE;
 use crate::input::fill;
 use disk::Disk;
 use geometry::Geometry;
-use kept::Kept;
-use kept::keep;
 use names::LEAST_SECTOR;
 use names::named_by;
 use places::GroupBlock;
 use places::ToByteOffset;
 use places::units::agb_to_byte;
-use rows::LogAt;
-use rows::add_row;
-use rows::log_of;
-use rows::row_of;
 use shared::head_left;
 use shared::head_length;
-use totals::Total;
 
-// How it stands with the reading, the last place that was read (a group, or the number of groups for the log's block), the disk as far as
-// it is read, the log that group 0's superblock names, and the rows with their sums.
+// How it stands with the reading, the last place that was read (a group, or the number of groups for the log's block), and the disk as far
+// as it is read.
 pub(crate) struct Pass {
     pub(crate) stop: u8,
     pub(crate) place: u64,
     pub(crate) disk: Disk,
-    pub(crate) log: LogAt,
-    pub(crate) rows: Kept,
-    pub(crate) total: Total,
 }
 
 // Bytes of the head that begins with this sector; a sector that names no geometry is all that is read.
@@ -62,64 +52,29 @@ fn take_next(d: Disk, work: &mut [u8], head: &[u8]) -> Disk
     disk::take_compared(d, work, head)
 }
 
-// What group 0's head gives.
-fn first_taken(stop: u8, head: &[u8]) -> Pass {
-    let disk = disk::start(head);
-    let g = disk.geometry;
-    let log = log_of(g, head);
-    let row = row_of(g, log, 0, head);
-    let none = Total {
-        length: 0,
-        log: 0,
-        list: 0,
-        chunk: 0,
-        free: 0,
-    };
-    let total = add_row(none, row);
-    let rows = keep(kept::none(), g, 0, row);
+// Group 0's head.
+pub(crate) fn begin(fd: i32, buf: &mut [u8]) -> Pass {
+    let stop = fill(fd, 0, buf);
+    let disk = disk::start(buf);
     Pass {
         stop,
         place: 0,
         disk,
-        log,
-        rows,
-        total,
     }
 }
 
-// Group 0's head.
-pub(crate) fn begin(fd: i32, buf: &mut [u8]) -> Pass {
-    let stop = fill(fd, 0, buf);
-    first_taken(stop, buf)
-}
-
-// What the next group's head gives.
-fn head_taken(p: Pass, stop: u8, work: &mut [u8], head: &[u8]) -> Pass {
-    let d = p.disk;
-    let g = d.geometry;
-    let log = p.log;
-    let rows = p.rows;
-    let total = p.total;
-    let disk = take_next(d, work, head);
-    let row = row_of(g, log, d.next, head);
-    let rows = keep(rows, g, d.next, row);
-    let total = add_row(total, row);
-    Pass {
-        stop,
-        place: d.next,
-        disk,
-        log,
-        rows,
-        total,
-    }
-}
-
+// The next group's head.
 fn next_head(fd: i32, p: Pass, work: &mut [u8], buf: &mut [u8]) -> Pass {
     let d = p.disk;
     let g = d.geometry;
     let place = agb_to_byte(g, GroupBlock(d.next, 0));
     let stop = fill(fd, byte_of(place), buf);
-    head_taken(p, stop, work, buf)
+    let disk = take_next(d, work, buf);
+    Pass {
+        stop,
+        place: d.next,
+        disk,
+    }
 }
 
 // Whether a head is still to be read. A refusal ends it: every later one would be the same, 30, or more.
@@ -144,9 +99,6 @@ pub(crate) fn take_heads(fd: i32, first: Pass, work: &mut [u8], buf: &mut [u8]) 
 fn take_block(fd: i32, p: Pass, block: &mut [u8]) -> Pass {
     let d = p.disk;
     let g = d.geometry;
-    let log = p.log;
-    let rows = p.rows;
-    let total = p.total;
     let place = agb_to_byte(g, GroupBlock(g.logagno, g.log_agbno));
     let stop = fill(fd, byte_of(place), block);
     let disk = disk::take_log(d, block);
@@ -154,9 +106,6 @@ fn take_block(fd: i32, p: Pass, block: &mut [u8]) -> Pass {
         stop,
         place: g.agcount,
         disk,
-        log,
-        rows,
-        total,
     }
 }
 

@@ -1,6 +1,7 @@
-// Reads the disk or image that PATH names and prints planlist's table from its bytes, or `refused N`. It is opened for reading alone.
-// `disk` says whether an accepted run leaves it, `rows` and `kept` give the rows; here their bytes are only read, and the lines written.
-// Each byte is read once: no line is printed before every head and the log's block are accepted, and `kept` holds the rows till then.
+// Reads the disk or image that PATH names and prints planlist's table of it, or `refused N`. It is opened for reading alone.
+// `disk` says whether an accepted run leaves it, and `summary` gives the rows of the geometry that its superblock names; here bytes
+// are only read, and lines written. No line is printed before every head and the log's block are accepted; what the bytes of such
+// a disk say of a group is its row (`whole-printed`, crate byuse).
 mod heads; // the heads and the log's block
 mod input; // reading
 mod printed; // the table
@@ -20,9 +21,7 @@ pub(crate) const ENDED: u8 = 1;
 
 pub(crate) const READ_FAILED: u8 = 2;
 
-pub(crate) const UNLIKE: u8 = 3;
-
-pub(crate) const WRITE_FAILED: u8 = 4;
+pub(crate) const WRITE_FAILED: u8 = 3;
 
 // Bytes of ten blocks of 4096 bytes: room for the heads of most disks.
 const FEW: usize = 40960;
@@ -62,9 +61,9 @@ fn answer(p: Pass) -> u8 {
         return printed::print_refused(v.number);
     }
     words::say_disk(g, uuid);
-    let rows = p.rows;
-    let total = p.total;
-    printed::print_table(g, rows, total)
+    let s = summary::summary_of(g);
+    let table = s.summary;
+    printed::print_table(table)
 }
 
 // What is said of a disk that was read.

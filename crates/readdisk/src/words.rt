@@ -3,7 +3,6 @@ ghost use Prim.Native.Nat.{_≤_};
 ghost use lib.ListN.{length};
 use crate::ENDED;
 use crate::READ_FAILED;
-use crate::UNLIKE;
 use endian::be16;
 use endian::be32;
 use geometry::Geometry;
@@ -107,7 +106,6 @@ pub(crate) fn say_place(k: u64, agcount: u64) {
 pub(crate) fn say_stop(stop: u8) {
     match stop {
         ENDED => say(b": the file ends before it\n"),
-        UNLIKE => say(b": rows of one kind differ\n"),
         READ_FAILED => os::fail(b": read"),
         _ => os::fail(b": standard output"),
     }

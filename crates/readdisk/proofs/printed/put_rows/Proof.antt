@@ -7,10 +7,10 @@ use Rattle.readdisk.proofs.printed.put_rows.Statement.{statement}
 use Rattle.readdisk.proofs.printed.put_rows.Tie as tie
 
 abbrev Inv-loop : tie.InvT-loop
-Inv-loop g rows begin out₀ at₀ turns₀ out at turns = length out ≡ length out₀
+Inv-loop s begin out₀ at₀ turns₀ out at turns = length out ≡ length out₀
 
 abbrev μ-loop : tie.MeasureT-loop
-μ-loop g rows begin out₀ at₀ turns₀ out at turns = turns
+μ-loop s begin out₀ at₀ turns₀ out at turns = turns
 
 pub put-rows-spec : {M : Type 1} → statement M
 put-rows-spec =
