@@ -20,8 +20,8 @@ use Rattle.sb.specs.Superblock.{crcAt, largeSector, fieldsWith, sbFields, sbByt
 use Rattle.plan.specs.declared.AgPlan.{AgPlan}
 use Rattle.plan.specs.Plan.{planned}
 use Rattle.frame.specs.Frames.{frameOf}
-use Rattle.head.specs.Head.{zeros, behindBytes, headBytes}
-use Rattle.head.proofs.Lending.{sb-length}
+use Rattle.headbytes.specs.Head.{zeros, behindBytes, headBytes}
+use Rattle.headbytes.proofs.Lending.{sb-length}
 use Rattle.states.specs.States.{unfinishedState, finishedState, stateOf}
 use Rattle.written.specs.Listing.{headWritten, headFinished}
 use Rattle.accepted.specs.Superblocks.{marked, markAt, crcEnd, changedByte}

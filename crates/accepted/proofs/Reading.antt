@@ -23,9 +23,9 @@ use Rattle.sb.specs.Superblock.{sbBytes}
 use Rattle.sb.proofs.Read.{dblocks-back, uuid-back, rootino-back, agcount-back, inprogress-back, fdblocks-back}
 use Rattle.plan.specs.declared.AgPlan.{AgPlan}
 use Rattle.frame.specs.Frames.{frameOf}
-use Rattle.head.specs.Head.{zeros, agfOf, agiOf, sectorsBytes, rootsBytes, behindBytes, headBytes}
-use Rattle.head.proofs.Bytes.{head-first, head-behind}
-use Rattle.head.proofs.Lending.{agf-length}
+use Rattle.headbytes.specs.Head.{zeros, agfOf, agiOf, sectorsBytes, rootsBytes, behindBytes, headBytes}
+use Rattle.headbytes.proofs.Bytes.{head-first, head-behind}
+use Rattle.headbytes.proofs.Lending.{agf-length}
 use Rattle.accepted.specs.Superblocks.{markAt, rootField, freeField}
 
 module _ (g : Geometry) (label : length (g .label) ≡ 12) (sector : 512 ≤ g .sectsize) (p : AgPlan) (uuid : List ℕ) (s : SbState) (id : length (s .uuid) ≡ 16) where

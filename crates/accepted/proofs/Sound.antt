@@ -28,8 +28,8 @@ use Rattle.log.specs.Record.{clearSunit, roundedUp, blocksOf, recordFields, rec
 use Rattle.sb.specs.declared.SbState.{SbState}
 use Rattle.plan.specs.Plan.{planned}
 use Rattle.sameplan.proofs.Planners.{planned-is-plan}
-use Rattle.head.specs.Head.{zeros, headBytes, headLength}
-use Rattle.head.proofs.Bytes.{head-length}
+use Rattle.headbytes.specs.Head.{zeros, headBytes, headLength}
+use Rattle.headbytes.proofs.Bytes.{head-length}
 use Rattle.rootchunk.specs.Chunk.{chunkLength}
 use Rattle.rootchunk.proofs.Chunks.{chunk-length}
 use Rattle.states.specs.States.{stateOf, finishedState}

@@ -24,7 +24,7 @@ use Rattle.sb.specs.declared.SbState.{SbState}
 use Rattle.plan.specs.declared.AgPlan.{AgPlan}
 use Rattle.plan.specs.Plan.{planned}
 use Rattle.sameplan.proofs.Planners.{planned-group}
-use Rattle.head.specs.Head.{headBytes}
+use Rattle.headbytes.specs.Head.{headBytes}
 use Rattle.states.specs.States.{namesRoot, secondaryState, unfinishedState, finishedState, stateOf}
 use Rattle.states.proofs.Known.{root-room}
 use Rattle.states.proofs.Naming.{only-these, secondary-free}

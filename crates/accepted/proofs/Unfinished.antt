@@ -12,7 +12,7 @@ use Rattle.arith.specs.Choice.{bit}
 use Rattle.endian.specs.Bytes.{beAt}
 use Rattle.geometry.specs.declared.Geometry.{Geometry}
 use Rattle.layout.proofs.Bounding.{answer-bounds}
-use Rattle.head.specs.Head.{zeros}
+use Rattle.headbytes.specs.Head.{zeros}
 use Rattle.records.specs.Records.{Record, FL}
 use Rattle.device.specs.Device.{Device, applied, read}
 use Rattle.device.proofs.Reading.{getD-read}

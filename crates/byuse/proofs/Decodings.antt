@@ -26,7 +26,7 @@ use Rattle.sameplan.specs.Same.{isPlan}
 use Rattle.sameplan.proofs.Planners.{planned-is-plan}
 use Rattle.sb.specs.declared.SbState.{SbState}
 use Rattle.states.specs.States.{stateOf, finishedState}
-use Rattle.head.specs.Head.{headBytes}
+use Rattle.headbytes.specs.Head.{headBytes}
 use Rattle.uses.specs.Uses.{listOf}
 use Rattle.written.specs.Listing.{headWritten, headFinished, headLeft}
 use Rattle.written.proofs.Whole.{group-planned}

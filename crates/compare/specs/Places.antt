@@ -5,7 +5,7 @@ use Prim.Native.Nat.{ℕ}
 use lib.Dec.{leb}
 use Rattle.refusals.specs.Table.{first}
 use Rattle.geometry.specs.declared.Geometry.{Geometry}
-use Rattle.head.specs.Head.{headLength}
+use Rattle.headbytes.specs.Head.{headLength}
 use Rattle.exact.specs.Read.{placeTests}
 
 -- 31, then 29 where group k is not there, then 27 unless the bytes have a head's length, then 30 unless they are the ones that are left

@@ -32,7 +32,7 @@ use Rattle.totals.specs.Totals.{freeblksOf, longestOf}
 use Rattle.sameplan.specs.Same.{isPlan}
 use Rattle.frame.specs.declared.Frame.{Frame}
 use Rattle.frame.proofs.Fitting.{plan-answer, plan-closed}
-use Rattle.head.specs.Head.{agfOf, agiOf}
+use Rattle.headbytes.specs.Head.{agfOf, agiOf}
 
 -- ---- the headers
 

@@ -29,10 +29,10 @@ use Rattle.sameplan.specs.Same.{isPlan}
 use Rattle.frame.specs.declared.Frame.{Frame}
 use Rattle.frame.specs.Frames.{frameOf, Fine}
 use Rattle.frame.proofs.Fitting.{plan-narrow, plan-few, plan-fine}
-use Rattle.head.specs.Head.{zeros, agfOf, agiOf, inoMagic, finoMagic, bnoRoot, cntRoot, inodeRoot, rmapRoot, refcRoot, sectorsBytes, rootsBytes, behindBytes, headBytes}
-use Rattle.head.proofs.Lending.{sb-length, agf-length, agi-length, agfl-length}
-use Rattle.head.proofs.Whole.{root-length}
-use Rattle.head.proofs.Ready.{head-from}
+use Rattle.headbytes.specs.Head.{zeros, agfOf, agiOf, inoMagic, finoMagic, bnoRoot, cntRoot, inodeRoot, rmapRoot, refcRoot, sectorsBytes, rootsBytes, behindBytes, headBytes}
+use Rattle.headbytes.proofs.Lending.{sb-length, agf-length, agi-length, agfl-length}
+use Rattle.headbytes.proofs.Whole.{root-length}
+use Rattle.headbytes.proofs.Ready.{head-from}
 use Rattle.decoded.specs.Decoded.{sectorAt, blockAt, agfIn, agiIn, entries, slotsIn, listIn}
 use Rattle.decoded.proofs.Parts.{joined, part-at}
 use Rattle.decoded.proofs.Slots.{entries-back}

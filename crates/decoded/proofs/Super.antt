@@ -20,8 +20,8 @@ use Rattle.sb.specs.Superblock.{logstartOf, sbBytes}
 use Rattle.sb.proofs.Read.{logstart-back, logblocks-back, fdblocks-back}
 use Rattle.plan.specs.declared.AgPlan.{AgPlan}
 use Rattle.frame.specs.Frames.{frameOf}
-use Rattle.head.specs.Head.{zeros, behindBytes, headBytes}
-use Rattle.head.proofs.Lending.{sb-length}
+use Rattle.headbytes.specs.Head.{zeros, behindBytes, headBytes}
+use Rattle.headbytes.proofs.Lending.{sb-length}
 use Rattle.decoded.specs.Decoded.{LogRun, logIn, countIn}
 use Rattle.decoded.proofs.Parts.{at-before}
 

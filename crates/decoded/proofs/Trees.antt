@@ -36,7 +36,7 @@ use Rattle.sameplan.specs.Same.{isPlan}
 use Rattle.frame.specs.declared.Frame.{Frame}
 use Rattle.frame.specs.Frames.{frameOf, hasChunk, chunkIno, Fine}
 use Rattle.frame.proofs.Fitting.{plan-answer, plan-narrow, plan-few}
-use Rattle.head.specs.Head.{agfOf, agiOf, bnoMagic, inoMagic, rootBytes, bnoRoot, inodeRoot, headBytes}
+use Rattle.headbytes.specs.Head.{agfOf, agiOf, bnoMagic, inoMagic, rootBytes, bnoRoot, inodeRoot, headBytes}
 use Rattle.decoded.specs.Decoded.{blockAt, agfIn, agiIn, numrecsIn, recordsIn, freeIn, chunkOfRecord, chunksIn, chunkList}
 use Rattle.decoded.proofs.Numbers.{free-length, free-narrow}
 use Rattle.decoded.proofs.Sectors.{bno-there, ino-there, fine, block-back, agf-in, agi-in}

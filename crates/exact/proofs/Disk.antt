@@ -10,7 +10,7 @@ use lib.Seq.{take-take}
 use Rattle.layout.specs.Places.{before, byteOf}
 use Rattle.request.specs.declared.Request.{Request}
 use Rattle.run.specs.Runs.{runOf}
-use Rattle.head.specs.Head.{headLength}
+use Rattle.headbytes.specs.Head.{headLength}
 use Rattle.records.specs.Records.{Record, FL}
 use Rattle.device.specs.Device.{Device, applied, read}
 use Rattle.device.proofs.Reading.{length-read, read-first}

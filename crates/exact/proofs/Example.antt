@@ -38,7 +38,7 @@ use Rattle.headlaws.proofs.Below.{below-zeros}
 use Rattle.accepted.specs.Accepted.{AcceptedRun}
 use Rattle.accepted.proofs.Bytes.{below-at}
 use Rattle.accepted.proofs.Runs.{run-answer, source-of}
-use Rattle.head.specs.Head.{headLength}
+use Rattle.headbytes.specs.Head.{headLength}
 use Rattle.written.specs.Listing.{headWritten}
 use Rattle.exact.specs.Read.{readGroup0, readGroup}
 use Rattle.exact.proofs.Heads.{head-least, source-bounds, some-group}

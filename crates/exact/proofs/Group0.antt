@@ -17,7 +17,7 @@ use Rattle.geometry.specs.declared.Geometry.{Geometry}
 use Rattle.layout.proofs.Sizings.{old-accepts}
 use Rattle.totals.specs.Totals.{plansNumber}
 use Rattle.sameplan.specs.Same.{eqList}
-use Rattle.head.specs.Head.{headLength}
+use Rattle.headbytes.specs.Head.{headLength}
 use Rattle.written.specs.Listing.{headLeft}
 use Rattle.named.specs.Named.{namesAt, namedBy, uuidAt}
 use Rattle.named.proofs.Sizings.{same-sizes}

@@ -21,8 +21,8 @@ use Rattle.counts.proofs.Room.{prealloc-pos}
 use Rattle.plan.specs.Plan.{planned}
 use Rattle.sameplan.specs.Same.{isPlan}
 use Rattle.sameplan.proofs.Planners.{planned-is-plan}
-use Rattle.head.specs.Head.{headLength}
-use Rattle.head.proofs.Bytes.{head-first, head-length}
+use Rattle.headbytes.specs.Head.{headLength}
+use Rattle.headbytes.proofs.Bytes.{head-first, head-length}
 use Rattle.states.specs.States.{finishedState, stateOf}
 use Rattle.written.specs.Listing.{logBlock, headWritten, headFinished, headLeft}
 use Rattle.written.proofs.Whole.{group-planned}

@@ -8,7 +8,7 @@ use Rattle.arith.specs.Choice.{when}
 use Rattle.endian.proofs.Fields.{and-left, and-right}
 use Rattle.refusals.specs.Table.{Refusal, _if_, first}
 use Rattle.geometry.specs.declared.Geometry.{Geometry}
-use Rattle.head.specs.Head.{headLength}
+use Rattle.headbytes.specs.Head.{headLength}
 use Rattle.written.specs.Listing.{logBlock, headLeft}
 use Rattle.named.specs.Named.{namedBy, uuidAt}
 use Rattle.exact.specs.declared.Found.{Found}

@@ -20,8 +20,8 @@ use Rattle.plan.specs.Plan.{planned}
 use Rattle.totals.specs.Totals.{plansNumber}
 use Rattle.sameplan.specs.Same.{eqList}
 use Rattle.sb.specs.Superblock.{sbBytes}
-use Rattle.head.specs.Head.{zeros, headLength}
-use Rattle.head.proofs.Bytes.{head-first}
+use Rattle.headbytes.specs.Head.{zeros, headLength}
+use Rattle.headbytes.proofs.Bytes.{head-first}
 use Rattle.states.specs.States.{unfinishedState, stateOf}
 use Rattle.written.specs.Listing.{headWritten, headLeft}
 use Rattle.accepted.specs.Accepted.{Source}

@@ -41,7 +41,7 @@ use Rattle.headlaws.proofs.Below.{below-zeros}
 use Rattle.accepted.specs.Accepted.{TypedRequest, AcceptedRun}
 use Rattle.accepted.proofs.Bytes.{below-at}
 use Rattle.accepted.proofs.Runs.{source-plans, source-answer, source-label, source-uuid, source-of}
-use Rattle.head.specs.Head.{headLength}
+use Rattle.headbytes.specs.Head.{headLength}
 use Rattle.written.specs.Listing.{headLeft}
 use Rattle.named.specs.Sizings.{plain}
 use Rattle.exact.specs.declared.Found.{Found}

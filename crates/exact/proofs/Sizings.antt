@@ -20,7 +20,7 @@ use Rattle.plan.specs.declared.Planned.{Planned}
 use Rattle.plan.specs.Plan.{refusedPlan, planOf, planned}
 use Rattle.totals.specs.Totals.{firstTo, sumTo, freeOfPlan, plansNumber, freeCount}
 use Rattle.frame.specs.Frames.{frameOf}
-use Rattle.head.specs.Head.{zeros, behindBytes, headBytes}
+use Rattle.headbytes.specs.Head.{zeros, behindBytes, headBytes}
 use Rattle.states.specs.States.{primaryWith, secondaryWith, namesRoot, secondaryState, unfinishedState, finishedState, stateOf}
 use Rattle.written.specs.Listing.{logUnit, firstRecord, logBlock, headWritten, headFinished, headLeft}
 use Rattle.accepted.specs.Accepted.{Source}

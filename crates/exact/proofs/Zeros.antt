@@ -18,7 +18,7 @@ use Rattle.geometry.specs.declared.Computed.{Computed}
 use Rattle.geometry.specs.Compute.{withGroups, withSizes, chosenOf, refusals, refusalOf, computeDef}
 use Rattle.geometry.specs.Compute as compute
 use Rattle.answers.specs.Named.{namedOptions, namedOn, namedFits, namedAnswer}
-use Rattle.head.specs.Head.{zeros}
+use Rattle.headbytes.specs.Head.{zeros}
 use Rattle.named.specs.Named.{hasBit, featuresAt, namesAt, namedBy}
 use Rattle.named.proofs.Inside.{part-first}
 use Rattle.named.proofs.Only.{same-named}

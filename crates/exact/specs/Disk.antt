@@ -7,7 +7,7 @@ use Rattle.geometry.specs.declared.Geometry.{Geometry}
 use Rattle.layout.specs.Places.{byteOf}
 use Rattle.request.specs.declared.Request.{Request}
 use Rattle.run.specs.Runs.{runOf}
-use Rattle.head.specs.Head.{headLength}
+use Rattle.headbytes.specs.Head.{headLength}
 use Rattle.device.specs.Device.{Device, applied, read}
 use Rattle.written.specs.Listing.{logOffset, listOf}
 use Rattle.accepted.specs.Accepted.{AcceptedRun}

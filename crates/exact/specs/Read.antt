@@ -17,7 +17,7 @@ use Rattle.plan.specs.declared.Planned.{Planned}
 use Rattle.plan.specs.Plan.{noPlan, refusedPlan, planned}
 use Rattle.totals.specs.Totals.{plansNumber}
 use Rattle.sameplan.specs.Same.{eqList}
-use Rattle.head.specs.Head.{headLength}
+use Rattle.headbytes.specs.Head.{headLength}
 use Rattle.written.specs.Listing.{logBlock, headLeft}
 use Rattle.named.specs.Named.{namedBy, uuidAt}
 use Rattle.exact.specs.declared.Found.{Found}

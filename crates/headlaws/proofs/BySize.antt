@@ -10,7 +10,7 @@ use lib.Dec.{eqb, ltb}
 use Rattle.seqs.specs.Lists.{choose, total}
 use Rattle.btree.specs.declared.records.AllocRec.{AllocRec}
 use Rattle.free.specs.Free.{smaller}
-use Rattle.head.specs.Sorting.{insertedBySize, bySize}
+use Rattle.headbytes.specs.Sorting.{insertedBySize, bySize}
 use Rattle.headlaws.specs.Sorted.{inOrder, Sorted}
 
 -- ---- the same records: any weight of them sums to the same

@@ -19,7 +19,7 @@ use Rattle.arith.specs.Choice.{bit}
 use Rattle.leaves.specs.Leaves.{chunkRec, few}
 use Rattle.free.specs.Free.{freeOf}
 use Rattle.rmap.specs.Rmap.{rmapOf}
-use Rattle.head.specs.Sorting.{bySize}
+use Rattle.headbytes.specs.Sorting.{bySize}
 use Rattle.ag.specs.declared.agf.Agf.{Agf}
 use Rattle.ag.specs.declared.agi.Agi.{Agi}
 use Rattle.ag.specs.Agf.{agfFields, agfBytes}
@@ -33,7 +33,7 @@ use Rattle.sameplan.specs.Same.{isPlan}
 use Rattle.sameplan.proofs.Planners.{is-plan-same}
 use Rattle.frame.specs.declared.Frame.{Frame}
 use Rattle.frame.specs.Frames.{frameOf}
-use Rattle.head.specs.Head.{zeros, agfOf, agiOf, inoMagic, finoMagic, rootBytes, bnoRoot, cntRoot, inodeRoot, rmapRoot, refcRoot, sectorsBytes, rootsBytes, behindBytes, headBytes}
+use Rattle.headbytes.specs.Head.{zeros, agfOf, agiOf, inoMagic, finoMagic, rootBytes, bnoRoot, cntRoot, inodeRoot, rmapRoot, refcRoot, sectorsBytes, rootsBytes, behindBytes, headBytes}
 use Rattle.headlaws.proofs.Below.{below-append, below-be, below-run, below-zeros, below-choose, allBelow, all-append, below-write, below-stamped, below-listed}
 
 -- ---- records

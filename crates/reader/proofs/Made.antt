@@ -16,7 +16,7 @@ use Rattle.structs.proofs.Written.{written-in}
 use Rattle.geometry.specs.declared.Geometry.{Geometry}
 use Rattle.answers.specs.Named.{isAnswer}
 use Rattle.totals.specs.Totals.{plansNumber}
-use Rattle.head.specs.Head.{headLength}
+use Rattle.headbytes.specs.Head.{headLength}
 use Rattle.written.specs.Listing.{headLeft, logBlock}
 use Rattle.shared.specs.Answers.{headRefusal, logRefusal}
 use Rattle.shared.proofs.Accepted.{bounded, size-most, head-most}

@@ -24,8 +24,8 @@ use Rattle.layout.specs.Bounds.{Bounds}
 use Rattle.layout.specs.Places.{lsunitBytes, logsunitOf}
 use Rattle.totals.specs.Totals.{plansNumber}
 use Rattle.log.specs.Record.{clearSunit, roundedUp, blocksOf, recordNumber, recordFields, recordBytes}
-use Rattle.head.specs.Head.{zeros}
-use Rattle.head.proofs.Lending.{part-length}
+use Rattle.headbytes.specs.Head.{zeros}
+use Rattle.headbytes.proofs.Lending.{part-length}
 use Rattle.written.specs.Listing.{logUnit, firstRecord, logBlock}
 use Rattle.shared.specs.Answers.{logRefusal}
 use Rattle.shared.proofs.Accepted.{or-second, or-zero, size-least, size-most}

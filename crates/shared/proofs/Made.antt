@@ -17,8 +17,8 @@ use Rattle.plan.specs.declared.Planned.{Planned}
 use Rattle.plan.specs.Plan.{planned}
 use Rattle.sameplan.proofs.Planners.{planned-is-plan}
 use Rattle.totals.specs.Totals.{plansNumber}
-use Rattle.head.specs.Head.{headBytes, headLength, headNumber}
-use Rattle.head.proofs.Ready.{head-accepted}
+use Rattle.headbytes.specs.Head.{headBytes, headLength, headNumber}
+use Rattle.headbytes.proofs.Ready.{head-accepted}
 use Rattle.sb.specs.declared.SbState.{SbState}
 use Rattle.states.specs.declared.Stated.{Stated}
 use Rattle.states.specs.States.{stateOf, finishedState, stateNumber, stated, finished}

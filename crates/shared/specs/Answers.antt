@@ -8,7 +8,7 @@ use Rattle.structs.specs.Written.{require}
 use Rattle.seqs.specs.Lists.{choose}
 use Rattle.geometry.specs.declared.Geometry.{Geometry}
 use Rattle.totals.specs.Totals.{plansNumber}
-use Rattle.head.specs.Head.{headLength}
+use Rattle.headbytes.specs.Head.{headLength}
 use Rattle.states.specs.declared.Stated.{Stated}
 use Rattle.states.specs.States.{stated, finished}
 use Rattle.run.specs.Runs.{orNext}

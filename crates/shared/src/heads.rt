@@ -2,7 +2,7 @@
 ghost use mathlib.Core.Path.{_≡_};
 ghost use lib.ListN.{length};
 ghost use Rattle.plan.specs.Plan.{planned as planned·of};
-ghost use Rattle.head.specs.Head.{headBytes};
+ghost use Rattle.headbytes.specs.Head.{headBytes};
 ghost use Rattle.shared.specs.Answers.{headRefusal, leftState};
 use crate::head_length;
 use geometry::Geometry;

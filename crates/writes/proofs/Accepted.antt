@@ -20,7 +20,7 @@ use Rattle.totals.specs.Totals.{plansNumber}
 use Rattle.rootchunk.specs.Chunk.{chunkNumber, chunkBytes, ChunkMade}
 use Rattle.rootchunk.proofs.Chunks.{a-place, first-group, chunk-in}
 use Rattle.run.specs.Runs.{timeRefusal}
-use Rattle.head.specs.Head.{headLength}
+use Rattle.headbytes.specs.Head.{headLength}
 use Rattle.written.specs.Listing.{headBlocks, chunkBlocks, logBlock, headWritten, headFinished, headLeft}
 use Rattle.shared.specs.Answers.{headRefusal, logRefusal}
 use Rattle.shared.proofs.Accepted.{answered, bounded, size-least}

@@ -9,7 +9,7 @@ use lib.Seq.{take-append-seam}
 use borrow.Rule.Slice.PartMut.{putMid}
 use Rattle.endian.specs.Bytes.{patch}
 use Rattle.endian.proofs.Laws.{part-back}
-use Rattle.head.proofs.Lending.{part-length}
+use Rattle.headbytes.proofs.Lending.{part-length}
 
 -- a part that is lent from the start of the work buffer
 pub lent-part : (n : ℕ) (new xs ys : List ℕ) → n ≤ length xs → length ys ≡ length (take (0 + n - 0) (drop 0 xs)) → ys ≡ new → putMid 0 (0 + n - 0) xs ys ≡ patch 0 new xs

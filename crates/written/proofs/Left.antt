@@ -9,7 +9,7 @@ use borrow.Author.Tests.{ne-eqb}
 use lib.ListN.{length, take, drop, take-append-drop}
 use lib.Seq.{take-all, take-at, drop-at}
 use Rattle.places.specs.Answers.{rootChunk}
-use Rattle.head.specs.Head.{zeros}
+use Rattle.headbytes.specs.Head.{zeros}
 use Rattle.rootchunk.specs.Chunk.{chunkBytes}
 use Rattle.seqs.proofs.Laws.{lt-or-le}
 use Rattle.run.specs.declared.Run.{Run}

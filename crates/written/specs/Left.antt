@@ -7,7 +7,7 @@ use Prim.Native.Nat.{ℕ, _+_, _*_, _-_, _<_, _≤_}
 use lib.ListN.{take, drop}
 use Rattle.layout.specs.Places.{byteOf}
 use Rattle.places.specs.Answers.{rootChunk}
-use Rattle.head.specs.Head.{zeros}
+use Rattle.headbytes.specs.Head.{zeros}
 use Rattle.rootchunk.specs.Chunk.{chunkBytes}
 use Rattle.run.specs.declared.Run.{Run}
 use Rattle.records.specs.Records.{Record, All}

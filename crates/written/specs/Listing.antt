@@ -14,7 +14,7 @@ use Rattle.places.specs.Answers.{rootChunk}
 use Rattle.log.specs.Record.{clearSunit}
 use Rattle.log.specs.Record.{recordBytes as logRecord}
 use Rattle.plan.specs.Plan.{planned}
-use Rattle.head.specs.Head.{zeros, headBytes}
+use Rattle.headbytes.specs.Head.{zeros, headBytes}
 use Rattle.rootchunk.specs.Chunk.{chunkBytes}
 use Rattle.states.specs.States.{stateOf, finishedState}
 use Rattle.run.specs.declared.Run.{Run}

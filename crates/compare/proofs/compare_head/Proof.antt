@@ -2,7 +2,7 @@
 -- Assumes nothing.
 use mathlib.Core.Path.{refl, _∙_}
 use borrow.Author.Needs.{needs}
-use Rattle.head.specs.Head.{headLength}
+use Rattle.headbytes.specs.Head.{headLength}
 use Rattle.compare.specs.Places.{comparedNumber}
 use Rattle.compare.proofs.compare_head.Statement.{statement}
 use Rattle.compare.proofs.compare_head.Tie as tie

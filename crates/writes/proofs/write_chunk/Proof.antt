@@ -8,7 +8,7 @@ use native.Mathlib.Omega.{arith}
 use borrow.Author.Tests.{ne-eqb}
 use borrow.Author.Needs.{needs}
 use Rattle.structs.proofs.Written.{refused, done}
-use Rattle.head.proofs.Lending.{part-length}
+use Rattle.headbytes.proofs.Lending.{part-length}
 use Rattle.listing.proofs.Numbers.{Filling, filling}
 use Rattle.writes.proofs.Lent.{lent-part, lent-again}
 use Rattle.writes.proofs.write_chunk.Statement.{statement}

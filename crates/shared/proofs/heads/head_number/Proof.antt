@@ -3,7 +3,7 @@
 use mathlib.Core.Path.{sym, _∙_}
 use native.Mathlib.Omega.{arith}
 use borrow.Author.Needs.{needs}
-use Rattle.head.specs.Head.{headLength}
+use Rattle.headbytes.specs.Head.{headLength}
 use Rattle.shared.specs.Answers.{headRefusal}
 use Rattle.shared.proofs.Accepted.{or-first}
 use Rattle.shared.proofs.Made.{other-length, no-group, head-fits}

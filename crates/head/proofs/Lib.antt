@@ -1,4 +1,0 @@
-pub mod Lending
-pub mod Whole
-pub mod Ready
-pub mod Bytes
