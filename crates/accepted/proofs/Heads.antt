@@ -1,4 +1,4 @@
--- What every accepted run leaves on a device, whatever stood there, and that heads and log block depend on geometry, UUID and group alone.
+-- What every accepted run leaves on a device, whatever stood there, and that heads of two groups or of two disks differ.
 -- Assumes nothing.
 use mathlib.Core.Path.{_≡_, sym, ap, _∙_}
 use mathlib.Core.List.{List, [], _∷_, _++_}
@@ -8,11 +8,11 @@ use Rattle.endian.specs.Bytes.{beAt}
 use Rattle.endian.specs.Fields.{part}
 use Rattle.geometry.specs.declared.Geometry.{Geometry}
 use Rattle.records.specs.Records.{Record, FL}
-use Rattle.device.specs.Device.{Device, applied, read}
+use Rattle.device.specs.Device.{Device, applied}
 use Rattle.request.specs.declared.Request.{Request}
 use Rattle.run.specs.Runs.{runOf}
-use Rattle.written.specs.Listing.{logOffset, logBlock, headLeft, listOf}
-use Rattle.written.specs.Left.{headAt, headSize, unfinished, Left, Alone, Early}
+use Rattle.written.specs.Listing.{headLeft, listOf}
+use Rattle.written.specs.Left.{unfinished, Left, Alone, Early}
 use Rattle.written.specs.Order.{Ordered}
 use Rattle.written.proofs.Left.{left}
 use Rattle.written.proofs.Alone.{alone}
@@ -54,32 +54,7 @@ module _ (r : Request) (a : AcceptedRun r) where
   unfolding leftIn
   run-says k h = says (runOf r .geometry) (runOf r .uuid) (source-of r a) k h
 
--- ---- two runs with one geometry and one UUID, whatever their time, seed, device and sectors
-
-module _ (r q : Request) (a : AcceptedRun r) (b : AcceptedRun q) (g : runOf r .geometry ≡ runOf q .geometry) (u : runOf r .uuid ≡ runOf q .uuid) where
-  -- THEY LEAVE THE SAME HEADS
-  pub same-heads : (k : ℕ) → leftIn (runOf r) k ≡ leftIn (runOf q) k
-  unfolding leftIn
-  same-heads k = rw (g, u)
-
-  -- AND THE SAME LOG BLOCK
-  pub same-log : logBlock (runOf r .geometry) (runOf r .uuid) ≡ logBlock (runOf q .geometry) (runOf q .uuid)
-  same-log = rw (g, u)
-
-  count-same : (k : ℕ) → k < runOf r .geometry .agcount → k < runOf q .geometry .agcount
-  count-same k h = rw g at h
-
-  -- on devices of any old contents
-  pub same-on-disk : (d e : Device) (k : ℕ) → k < runOf r .geometry .agcount
-      → read (after r d) (headAt (runOf r) k) (headSize (runOf r)) ≡ read (after q e) (headAt (runOf q) k) (headSize (runOf q))
-  unfolding leftIn
-  same-on-disk d e k h = run-left r a d .head k h ∙ same-heads k ∙ sym (run-left q b e .head k (count-same k h))
-
-  pub same-log-on-disk : (d e : Device)
-      → read (after r d) (logOffset (runOf r .geometry)) (runOf r .geometry .blocksize) ≡ read (after q e) (logOffset (runOf q .geometry)) (runOf q .geometry .blocksize)
-  same-log-on-disk d e = run-left r a d .log ∙ same-log ∙ sym (run-left q b e .log)
-
--- ---- and one head is not another's
+-- ---- one head is not another's
 
 -- two groups of a disk have different heads
 pub groups-apart : (g : Geometry) (uuid : List ℕ) → Source g uuid → (j k : ℕ) → j < g .agcount → k < g .agcount → headLeft g uuid j ≡ headLeft g uuid k → j ≡ k

@@ -10,4 +10,3 @@ pub mod Heads
 pub mod Stations
 pub mod Parsed
 pub mod Rewritten
-pub mod Unfinished
