@@ -7,7 +7,7 @@ use lib.ListN.{length, getD, take, replicate, length-replicate}
 use Rattle.endian.specs.Bytes.{below}
 use Rattle.logsize.specs.Limits.{labelRoom}
 use Rattle.geometry.specs.Compute.{labelOf}
-use Rattle.headlaws.proofs.Below.{below-append, below-zeros}
+use Rattle.headbytes.proofs.Below.{below-append, below-zeros}
 use Rattle.params.specs.declared.Presence.{Presence}
 use Rattle.params.specs.declared.Presence.the-variants.{Absent, Given}
 use Rattle.request.specs.Defaults.{orZeros}

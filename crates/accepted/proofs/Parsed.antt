@@ -12,11 +12,11 @@ use Rattle.endian.specs.Bytes.{below}
 use Rattle.endian.specs.Fields.{part}
 use Rattle.endian.proofs.Laws.{at-bound}
 use Rattle.seqs.specs.Lists.{choose}
-use Rattle.headlaws.proofs.Below.{below-append, below-zeros}
+use Rattle.headbytes.proofs.Below.{below-append, below-zeros}
 use Rattle.params.specs.Options.{or64, or32, or8}
 use Rattle.params.specs.declared.OptU64.{OptU64}
 use Rattle.params.specs.declared.OptU64.the-variants.{Absent, Given}
-use Rattle.naming.specs.Answers.{TypedOptions}
+use Rattle.answers.specs.Answers.{TypedOptions}
 use Rattle.request.specs.declared.Request.{Request}
 use Rattle.input.specs.Records.{option, optionBits, lookup, records, wellFormed}
 use Rattle.input.specs.Records as keys

@@ -12,9 +12,9 @@ use Rattle.seqs.specs.Lists.{choose}
 use Rattle.geometry.specs.declared.Geometry.{Geometry}
 use Rattle.geometry.specs.Compute.{geometryOf}
 use Rattle.answers.specs.Named.{isAnswer}
-use Rattle.naming.specs.Answers.{Answered, TypedAnswer}
-use Rattle.naming.proofs.Again.{chosen, its-geometry, bytes, label-kept}
-use Rattle.naming.proofs.Exact.{complete}
+use Rattle.answers.specs.Answers.{Answered, TypedAnswer}
+use Rattle.answers.proofs.Again.{chosen, its-geometry, bytes, label-kept}
+use Rattle.answers.proofs.Exact.{complete}
 use Rattle.layout.specs.Bounds.{Bounds}
 use Rattle.layout.proofs.Bounding.{answered-bounds}
 use Rattle.request.specs.declared.Request.{Request}

@@ -22,7 +22,7 @@ use Rattle.timestamp.specs.Time.{notEarly, shifted, timeInside, timeNumber}
 use Rattle.places.specs.Answers.{rootIno}
 use Rattle.totals.specs.Totals.{plansNumber, freeCount}
 use Rattle.states.specs.States.{finishedState}
-use Rattle.headlaws.proofs.Below.{below-zeros}
+use Rattle.headbytes.proofs.Below.{below-zeros}
 use Rattle.request.specs.Parse.{request}
 use Rattle.request.specs.Defaults.{orEpoch, timeOf, seedOf}
 use Rattle.run.specs.Runs.{stepOf, timeRefusal, runOf}

@@ -6,7 +6,7 @@ use Prim.Native.Nat.{ℕ, _^_, _<_}
 use lib.IntN.{ℤ, pos, negsuc}
 use lib.ListN.{length, getD}
 use Rattle.geometry.specs.declared.Geometry.{Geometry}
-use Rattle.naming.specs.Answers.{TypedOptions}
+use Rattle.answers.specs.Answers.{TypedOptions}
 use Rattle.request.specs.declared.Request.{Request}
 use Rattle.request.specs.Defaults.{timeOf, seedOf}
 use Rattle.run.specs.Runs.{runNumber, runOf}

@@ -3,9 +3,12 @@ ghost use mathlib.Core.Path.{_≡_};
 ghost use Rattle.refusals.specs.Table.{first};
 ghost use Rattle.exact.specs.Read.{placeTests};
 ghost use Rattle.compare.specs.Places.{comparedNumber};
+
+pub mod bytes; // bytes.rt: whether two slices hold the same bytes
+
 use answers::is_answer;
+use bytes::same_bytes;
 use geometry::Geometry;
-use sameas::same_bytes;
 use shared::head_length;
 use summary::plans_number;
 

@@ -34,7 +34,7 @@ use Rattle.timestamp.specs.Time.{timeInside, notEarly, shifted}
 use Rattle.request.specs.declared.Request.{Request}
 use Rattle.request.specs.Defaults.{timeOf, seedOf}
 use Rattle.run.specs.Runs.{stepOf, timeRefusal, runNumber, runOf}
-use Rattle.headlaws.proofs.Below.{below-zeros}
+use Rattle.headbytes.proofs.Below.{below-zeros}
 use Rattle.accepted.specs.Accepted.{AcceptedRun}
 use Rattle.accepted.proofs.Bytes.{below-at}
 use Rattle.accepted.proofs.Runs.{run-answer, source-of}

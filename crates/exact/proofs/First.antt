@@ -18,7 +18,7 @@ use Rattle.geometry.specs.declared.Geometry.{Geometry}
 use Rattle.geometry.specs.declared.Computed.{Computed}
 use Rattle.answers.specs.declared.Named.{Named}
 use Rattle.answers.specs.Named.{namesOf, isAnswer}
-use Rattle.naming.proofs.Exact.{complete}
+use Rattle.answers.proofs.Exact.{complete}
 use Rattle.layout.proofs.Bounding.{answer-bounds}
 use Rattle.plan.specs.declared.AgPlan.{AgPlan}
 use Rattle.plan.specs.declared.Planned.{Planned}

@@ -13,7 +13,7 @@ use Rattle.arith.specs.Choice.{bit}
 use Rattle.endian.specs.Bytes.{beAt}
 use Rattle.seqs.proofs.Laws.{choose-elim}
 use Rattle.geometry.specs.declared.Geometry.{Geometry}
-use Rattle.naming.specs.Answers.{TypedGeometry}
+use Rattle.answers.specs.Answers.{TypedGeometry}
 use Rattle.answers.specs.Named.{namesOf, isAnswer}
 use Rattle.layout.specs.Bounds.{Bounds}
 use Rattle.layout.proofs.Bounding.{answer-bounds}

@@ -37,7 +37,7 @@ use Rattle.totals.specs.Totals.{firstTo, plansNumber}
 use Rattle.timestamp.specs.Time.{timeInside, notEarly, shifted}
 use Rattle.request.specs.Defaults.{timeOf, seedOf}
 use Rattle.run.specs.Runs.{stepOf, timeRefusal, runNumber, runOf}
-use Rattle.headlaws.proofs.Below.{below-zeros}
+use Rattle.headbytes.proofs.Below.{below-zeros}
 use Rattle.accepted.specs.Accepted.{TypedRequest, AcceptedRun}
 use Rattle.accepted.proofs.Bytes.{below-at}
 use Rattle.accepted.proofs.Runs.{source-plans, source-answer, source-label, source-uuid, source-of}

@@ -10,7 +10,7 @@ use Rattle.seqs.specs.Lists.{choose}
 use Rattle.seqs.proofs.Laws.{choose-elim}
 use Rattle.geometry.specs.declared.Geometry.{Geometry}
 use Rattle.answers.specs.Named.{isAnswer}
-use Rattle.naming.specs.Answers.{TypedGeometry}
+use Rattle.answers.specs.Answers.{TypedGeometry}
 use Rattle.sb.specs.declared.SbState.{SbState}
 use Rattle.sb.specs.Superblock.{largeSector, versionOf, logstartOf, fieldsWith, sbFields, sbBytes}
 use Rattle.places.specs.Answers.{groupRefusal, rootChunk, rootIno, initialFdblocks}

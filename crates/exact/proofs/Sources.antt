@@ -17,8 +17,8 @@ use Rattle.geometry.specs.declared.Geometry.{Geometry}
 use Rattle.geometry.specs.declared.Computed.{Computed}
 use Rattle.geometry.specs.Compute.{withGroups, withSizes, chosenOf, refusals, refusalOf, geometryOf, computeDef}
 use Rattle.answers.specs.Named.{isAnswer}
-use Rattle.naming.specs.Answers.{TypedOptions, TypedAnswer}
-use Rattle.naming.proofs.Exact.{exact}
+use Rattle.answers.specs.Answers.{TypedOptions, TypedAnswer}
+use Rattle.answers.proofs.Exact.{exact}
 use Rattle.timestamp.specs.Time.{timeInside, notEarly, shifted, timeNumber}
 use Rattle.request.specs.declared.Request.{Request}
 use Rattle.request.specs.Defaults.{uuidOf, timeOf, seedOf}

@@ -7,7 +7,7 @@ use lib.ListN.{length, getD}
 use Rattle.geometry.specs.declared.Geometry.{Geometry}
 use Rattle.seqs.specs.Lists.{choose}
 use Rattle.answers.specs.Named.{isAnswer}
-use Rattle.naming.specs.Answers.{TypedGeometry}
+use Rattle.answers.specs.Answers.{TypedGeometry}
 use Rattle.request.specs.declared.Request.{Request}
 use Rattle.run.specs.Runs.{runOf}
 use Rattle.written.specs.Listing.{logBlock, headLeft}

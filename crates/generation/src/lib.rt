@@ -2,6 +2,9 @@
 ghost use mathlib.Core.Path.{_≡_};
 ghost use Prim.Native.Nat.{_%_, _^_, _<_};
 ghost use Rattle.generation.specs.Draw.{folded, mixed, drawn};
+
+pub mod wrapping; // wrapping.rt: products of 64 bits
+
 use wrapping::wrapping_mul;
 
 // What each draw adds to the state, and the factors of its two products.

@@ -4,3 +4,6 @@ pub mod Sorting
 pub mod Whole
 pub mod Ready
 pub mod Bytes
+pub mod Below
+pub mod Heads
+pub mod BySize

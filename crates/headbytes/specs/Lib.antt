@@ -1,3 +1,4 @@
 pub mod Sorting
 pub mod Head
 pub mod Parts
+pub mod Sorted

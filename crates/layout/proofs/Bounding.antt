@@ -26,11 +26,11 @@ use lib.Dec.{eqb}
 use Rattle.geometry.specs.Compute.{withGroups, askedGroups, withSizes, chosenOf, refusalOf, geometryOf, computeDef}
 use Rattle.geometry.specs.declared.Computed.{Computed}
 use Rattle.answers.specs.Named.{isAnswer}
-use Rattle.naming.specs.Answers.{Answered}
-use Rattle.naming.proofs.AfterTrim.{not-short}
-use Rattle.naming.proofs.Tests.{Sized, Grouped, Ended, all-clear, sizes-of, groups-of, rest-of, block-pos, group-pos}
-use Rattle.naming.proofs.Again.{chosen, number, is-accepted, its-geometry, bytes}
-use Rattle.naming.proofs.Exact.{sound}
+use Rattle.answers.specs.Answers.{Answered}
+use Rattle.answers.proofs.AfterTrim.{not-short}
+use Rattle.answers.proofs.Tests.{Sized, Grouped, Ended, all-clear, sizes-of, groups-of, rest-of, block-pos, group-pos}
+use Rattle.answers.proofs.Again.{chosen, number, is-accepted, its-geometry, bytes}
+use Rattle.answers.proofs.Exact.{sound}
 use Rattle.layout.specs.Bounds.{SizeBounds, GroupBounds, PlaceBounds, Bounds}
 use Rattle.layout.proofs.Ceil.{Counted, lastOf, counted, last-least, group-within}
 use Rattle.layout.proofs.Wide.{pow-order, block-bytes}

@@ -25,9 +25,9 @@ use Rattle.geometry.specs.Compute.{withGroups, askedGroups, withSizes, chosenOf
 use Rattle.geometry.proofs.Answer.{number-of}
 use Rattle.answers.specs.declared.Named.{Named}
 use Rattle.answers.specs.Named.{namedOptions, namedOn, namedFits, namedAnswer}
-use Rattle.naming.proofs.Tests.{all-clear, none-again, sizes-part, options-part, groups-part, last-part, sizes-clear, options-clear, groups-clear, last-clear, groups-of, rest-of, group-pos}
-use Rattle.naming.proofs.Again.{is-accepted, its-geometry}
-use Rattle.naming.proofs.Exact.{fitting, accepted-fits}
+use Rattle.answers.proofs.Tests.{all-clear, none-again, sizes-part, options-part, groups-part, last-part, sizes-clear, options-clear, groups-clear, last-clear, groups-of, rest-of, group-pos}
+use Rattle.answers.proofs.Again.{is-accepted, its-geometry}
+use Rattle.answers.proofs.Exact.{fitting, accepted-fits}
 use Rattle.layout.proofs.Ceil.{counted, group-within}
 
 -- the roomy limit is no higher

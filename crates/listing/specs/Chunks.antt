@@ -12,8 +12,8 @@ use Rattle.totals.specs.Totals.{plansNumber}
 use Rattle.run.specs.declared.Run.{Run}
 use Rattle.run.specs.Runs.{orNext, timeRefusal}
 use Rattle.written.specs.Listing.{chunkCount}
-use Rattle.lengths.specs.declared.Sizes.{Sizes}
-use Rattle.lengths.specs.Lengths.{sizesOf, lengthOf, partOf}
+use Rattle.listing.specs.declared.parts.Sizes.{Sizes}
+use Rattle.listing.specs.Lengths.{sizesOf, lengthOf, partOf}
 use Rattle.listing.specs.declared.Counted.{Counted}
 
 -- ---- lengths

@@ -1,10 +1,13 @@
 // How many chunks the list of a run has, how long each is, and which number refuses one.
 ghost use mathlib.Core.Path.{_≡_};
 ghost use Rattle.listing.specs.Chunks.{listedLength, partLength, formatNumber, placeNumber, writeNumber, countAnswer, lengthAnswer, partAnswer};
+
+pub mod parts; // parts.rt: how long the chunks and their parts are
+
 use arith::numbers::minus;
 use geometry::Geometry;
-use lengths::length_of;
-use lengths::part_of;
+use parts::length_of;
+use parts::part_of;
 use run::Run;
 use summary::plans_number;
 use timestamp::encode_time;

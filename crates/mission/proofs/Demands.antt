@@ -14,8 +14,8 @@ use Rattle.crc.specs.Crc.{crc32cOf}
 use Rattle.crc.proofs.Laws.{length-stamped, stamped-verifies}
 use Rattle.geometry.specs.Compute.{chosenOf, refusalOf, geometryOf, computeDef}
 use Rattle.geometry.proofs.Answer.{number-of}
-use Rattle.naming.proofs.Again.{again}
-use Rattle.naming.proofs.Exact.{exact}
+use Rattle.answers.proofs.Again.{again}
+use Rattle.answers.proofs.Exact.{exact}
 use Rattle.layout.proofs.Bounding.{answered-bounds}
 use Rattle.layout.proofs.Sizings.{step-old}
 use Rattle.closed.proofs.Planning.{closed-plan, roomy-planned}

@@ -15,9 +15,9 @@ use Rattle.endian.proofs.Laws.{at-bound}
 use Rattle.geometry.specs.declared.Computed.{Computed}
 use Rattle.answers.specs.declared.Named.{Named}
 use Rattle.answers.specs.Named.{namedOptions, namedOn, namedFits, namedAnswer}
-use Rattle.naming.specs.Answers.{Answered}
-use Rattle.naming.proofs.Again.{label-kept, sizing-kept}
-use Rattle.naming.proofs.Exact.{fitting, accepted-fits}
+use Rattle.answers.specs.Answers.{Answered}
+use Rattle.answers.proofs.Again.{label-kept, sizing-kept}
+use Rattle.answers.proofs.Exact.{fitting, accepted-fits}
 use Rattle.named.specs.Named.{namesAt, namedBy}
 use Rattle.named.proofs.Inside.{part-length}
 

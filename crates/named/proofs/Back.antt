@@ -14,7 +14,7 @@ use Rattle.endian.specs.Bytes.{beAt}
 use Rattle.endian.specs.Fields.{part}
 use Rattle.geometry.specs.declared.Geometry.{Geometry}
 use Rattle.answers.specs.Named.{namedAnswer, namesOf, isAnswer}
-use Rattle.naming.proofs.Exact.{sound, answer-again}
+use Rattle.answers.proofs.Exact.{sound, answer-again}
 use Rattle.layout.specs.Bounds.{Bounds}
 use Rattle.layout.proofs.Bounding.{answer-bounds}
 use Rattle.layout.proofs.Inside.{few-blocks}

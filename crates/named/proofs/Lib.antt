@@ -4,3 +4,4 @@ pub mod Back
 pub mod Only
 pub mod Answer
 pub mod Sizings
+pub mod Laws

@@ -10,8 +10,8 @@ use Rattle.geometry.specs.declared.Computed.{Computed}
 use Rattle.geometry.specs.Compute.{withGroups, withSizes, chosenOf, geometryOf}
 use Rattle.answers.specs.declared.Named.{Named}
 use Rattle.answers.specs.Named.{namedOptions, namedOn, namedAnswer, namesOf, isAnswer}
-use Rattle.naming.proofs.Again.{its-geometry}
-use Rattle.naming.proofs.Exact.{fitting, accepted-fits, answer-again, complete, sound}
+use Rattle.answers.proofs.Again.{its-geometry}
+use Rattle.answers.proofs.Exact.{fitting, accepted-fits, answer-again, complete, sound}
 use Rattle.layout.proofs.Sizings.{old-accepts}
 use Rattle.named.specs.Sizings.{sized, plain}
 use Rattle.named.proofs.Answer.{answered}

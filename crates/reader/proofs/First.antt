@@ -10,14 +10,14 @@ use lib.ListN.{length}
 use Rattle.seqs.specs.Lists.{choose}
 use Rattle.geometry.specs.declared.Computed.{Computed}
 use Rattle.answers.specs.Named.{isAnswer}
-use Rattle.naming.proofs.Exact.{complete}
+use Rattle.answers.proofs.Exact.{complete}
 use Rattle.layout.proofs.Bounding.{answer-bounds}
 use Rattle.plan.specs.declared.Planned.{Planned}
 use Rattle.plan.specs.Plan.{planned}
 use Rattle.named.specs.Named.{namedBy, uuidAt}
 use Rattle.named.proofs.Answer.{named-answered, named-label}
-use Rattle.names.specs.Read.{namedRead, uuidRead}
-use Rattle.names.proofs.Laws.{full-name, full-uuid}
+use Rattle.named.specs.Read.{namedRead, uuidRead}
+use Rattle.named.proofs.Laws.{full-name, full-uuid}
 use Rattle.exact.specs.Read.{notFound, found, readAs, lesser, readGroup0, groupNumber}
 use Rattle.exact.specs.declared.Found.{Found}
 use Rattle.reader.proofs.Answers.{not-named, refused-first, accepted-first}

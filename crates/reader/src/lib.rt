@@ -13,8 +13,8 @@ use compare::NOT_LEFT;
 use compare::WRONG_LENGTH;
 use exact::Found;
 use geometry::Geometry;
-use names::named_by;
-use names::uuid_of;
+use named::named_by;
+use named::uuid_of;
 use params::OptU64;
 use plan::AgPlan;
 use plan::Agfl;
@@ -59,7 +59,7 @@ fn not_found(n: u32) -> Found
 fn read_as(head: &[u8], roomy: bool) -> Found
     ensures { λ r. ⌜ r ≡ readAs roomy (now (head .entry)) ⌝ }
 {
-    if head.len() < names::LEAST_SECTOR {
+    if head.len() < named::LEAST_SECTOR {
         return not_found(WRONG_LENGTH);
     }
     let named = named_by(head, roomy);

@@ -9,8 +9,8 @@ use Rattle.run.specs.Runs.{runOf}
 use Rattle.written.specs.Listing.{headBlocks, chunkBlocks, chunkCount}
 use Rattle.accepted.specs.Accepted.{AcceptedRun}
 use Rattle.accepted.proofs.Runs.{run-bounds}
-use Rattle.lengths.specs.Lengths.{blocksLength}
-use Rattle.lengths.proofs.Which.{group-length, root-length}
+use Rattle.listing.specs.Lengths.{blocksLength}
+use Rattle.listing.proofs.Which.{group-length, root-length}
 use Rattle.listing.specs.Chunks.{sizesIn, listedLength, partLength, lengthAnswer, partAnswer}
 use Rattle.writelaws.specs.Room.{longestChunk, Holds, Roomy}
 use Rattle.writelaws.proofs.Room.{chunk-within, part-within, head-within, root-within}

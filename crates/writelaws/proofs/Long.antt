@@ -21,7 +21,7 @@ use Rattle.run.specs.declared.Run.{Run}
 use Rattle.written.specs.Listing.{headBlocks, headerBlocks, chunkBlocks, headWritten, headFinished, opening, headRecords, chunkRecords, headerRecords, closing, listChunk}
 use Rattle.written.specs.Sound.{Sound}
 use Rattle.written.proofs.Counts.{opening-total, closing-total}
-use Rattle.lengths.specs.Lengths.{blocksLength, lengthOf}
+use Rattle.listing.specs.Lengths.{blocksLength, lengthOf}
 use Rattle.writelaws.specs.Long.{Long}
 use Rattle.writes.proofs.Splitting.{blocks-length}
 

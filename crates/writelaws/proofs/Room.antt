@@ -15,7 +15,7 @@ use Rattle.rootchunk.specs.Chunk.{chunkLength}
 use Rattle.rootchunk.proofs.Chunks.{whole-chunk}
 use Rattle.written.specs.Listing.{headBlocks, headerBlocks, chunkBlocks}
 use Rattle.shared.proofs.Accepted.{size-least, size-most, head-most}
-use Rattle.lengths.specs.Lengths.{blocksLength, lengthOf, partOf}
+use Rattle.listing.specs.Lengths.{blocksLength, lengthOf, partOf}
 use Rattle.listing.specs.Chunks.{listedLength, partLength}
 use Rattle.writelaws.specs.Whole.{largestHead}
 use Rattle.writelaws.specs.Room.{longestChunk}

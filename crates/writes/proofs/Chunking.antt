@@ -18,8 +18,8 @@ use Rattle.places.specs.Answers.{rootChunk}
 use Rattle.records.specs.Records.{Record, WZ, WB, FL, recordBytes, listBytes, blocks}
 use Rattle.run.specs.declared.Run.{Run}
 use Rattle.written.specs.Listing.{blocksEnd, tailStart, logOffset, logBlock, headBlocks, headerBlocks, chunkBlocks, headFinished, opening, headRecords, chunkRecords, closing, listChunk}
-use Rattle.lengths.specs.Lengths.{blocksLength}
-use Rattle.lengths.proofs.Which.{group-length, root-length, head-size, root-size}
+use Rattle.listing.specs.Lengths.{blocksLength}
+use Rattle.listing.proofs.Which.{group-length, root-length, head-size, root-size}
 use Rattle.listing.specs.Chunks.{sizesIn, listedLength, partLength}
 use Rattle.writes.specs.Writing.{partBytes, recordHead, zeroHeads}
 use Rattle.shared.proofs.Accepted.{size-least, size-most}

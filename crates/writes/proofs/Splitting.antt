@@ -15,7 +15,7 @@ use Rattle.structs.proofs.Reading.{patch-apart}
 use Rattle.records.specs.Records.{Record, WZ, WB, FL, recordBytes, listBytes, blocks}
 use Rattle.records.proofs.Sizes.{block-bytes}
 use Rattle.records.proofs.Sums.{blocks-bytes}
-use Rattle.lengths.specs.Lengths.{blocksLength}
+use Rattle.listing.specs.Lengths.{blocksLength}
 use Rattle.writes.specs.Writing.{recordHead}
 
 -- ---- one record

@@ -14,7 +14,7 @@ pub mod chunks; // chunks.rt: the records of each chunk
 
 use crate::chunks::put_chunk;
 use crate::parts::make_part;
-use lengths::part_of;
+use listing::parts::part_of;
 use listing::write_number;
 use run::Run;
 

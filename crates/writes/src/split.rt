@@ -4,7 +4,7 @@ ghost use Prim.Native.Nat.{_+_, _*_, _<_, _≤_, _^_};
 ghost use lib.ListN.{length, take, drop};
 ghost use Rattle.endian.specs.Bytes.{patch};
 ghost use Rattle.records.specs.Records.{WB, recordBytes, listBytes, blocks as blocks·of};
-ghost use Rattle.lengths.specs.Lengths.{headSize};
+ghost use Rattle.listing.specs.Lengths.{headSize};
 ghost use Rattle.writes.specs.Writing.{recordHead};
 use records::BLOCK_MARK;
 use records::HEAD_SIZE;

@@ -17,7 +17,7 @@ pub use Rattle.grouping.specs.Limits.{mib}
 pub use Rattle.geometry.specs.declared.Geometry.{Geometry}
 pub use Rattle.geometry.specs.Compute.{chosenOf, refusals, computeDef}
 pub use Rattle.answers.specs.Named.{namedOn, namesOf, isAnswer}
-pub use Rattle.naming.specs.Answers.{Answered, TypedGeometry, TypedAnswer}
+pub use Rattle.answers.specs.Answers.{Answered, TypedGeometry, TypedAnswer}
 pub use Rattle.structs.specs.Written.{Written}
 pub use Rattle.crc.specs.Crc.{crc32cOf, stamped, verified}
 pub use Rattle.layout.specs.Places.{groupBlocks, freelistOf}

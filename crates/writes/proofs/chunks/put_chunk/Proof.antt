@@ -7,9 +7,9 @@ use lib.ListN.{length}
 use Rattle.layout.specs.Bounds.{Bounds}
 use Rattle.places.specs.Answers.{rootChunk}
 use Rattle.written.specs.Listing.{headBlocks, headerBlocks, chunkBlocks}
-use Rattle.lengths.specs.declared.Sizes.{Sizes}
-use Rattle.lengths.specs.Lengths.{blocksLength}
-use Rattle.lengths.proofs.Which.{opening-length, group-length, root-length, closing-length, opening-size, root-size, head-size}
+use Rattle.listing.specs.declared.parts.Sizes.{Sizes}
+use Rattle.listing.specs.Lengths.{blocksLength}
+use Rattle.listing.proofs.Which.{opening-length, group-length, root-length, closing-length, opening-size, root-size, head-size}
 use Rattle.listing.specs.Chunks.{sizesIn}
 use Rattle.listing.proofs.Numbers.{format-zero}
 use Rattle.shared.proofs.Accepted.{bounded}

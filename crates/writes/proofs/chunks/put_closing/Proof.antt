@@ -1,6 +1,6 @@
 -- `writes::chunks::put_closing` meets its contract.
 -- Assumes nothing.
-use Rattle.lengths.specs.Lengths.{blocksLength}
+use Rattle.listing.specs.Lengths.{blocksLength}
 use Rattle.writes.proofs.Chunking.{closing-whole}
 use mathlib.Core.Path.{refl}
 use native.Mathlib.Omega.{arith}

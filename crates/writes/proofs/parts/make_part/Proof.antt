@@ -4,7 +4,7 @@ use Prim.Native.Nat.{_-_}
 use mathlib.Core.Path.{_≡_, sym, _∙_}
 use native.Mathlib.Omega.{arith}
 use lib.ListN.{length}
-use Rattle.lengths.proofs.Which.{opening-size, root-size, head-size}
+use Rattle.listing.proofs.Which.{opening-size, root-size, head-size}
 use Rattle.totals.specs.Totals.{plansNumber}
 use Rattle.listing.specs.Chunks.{sizesIn}
 use Rattle.listing.proofs.Numbers.{format-zero}

@@ -1,1 +1,0 @@
-// Theorems on the bytes of a head; no functions.

@@ -1,5 +1,0 @@
-pub mod AfterTrim
-pub mod Tests
-pub mod Again
-pub mod Same
-pub mod Exact
