@@ -5,10 +5,10 @@ use crate::ENDED;
 use crate::GOES_ON;
 use crate::MALFORMED;
 use crate::READ_FAILED;
-use applied::Decoded;
 use libc::STDIN_FILENO;
-use records::HEAD_SIZE;
-use records::MARK_SIZE;
+use list_read::Decoded;
+use list_records::HEAD_SIZE;
+use list_records::MARK_SIZE;
 
 // How many bytes were read, whether there may be more, and whether a read failed.
 struct Input {
@@ -68,7 +68,7 @@ fn head_of(buf: &[u8], i: Input, want: usize) -> Head
     requires { ⌜ i .n ≤ length (now buf) ⌝ }
 {
     let n = i.n;
-    let d = applied::decode(&buf[..n], n < want);
+    let d = list_read::decode(&buf[..n], n < want);
     if i.failed {
         return Head {
             stop: READ_FAILED,
@@ -97,7 +97,7 @@ fn read_into(buf: &mut [u8]) -> Head
         h.stop = ENDED;
     }
     let d = h.head;
-    if h.stop == GOES_ON && d.kind == applied::MORE {
+    if h.stop == GOES_ON && d.kind == list_read::MORE {
         let rest = fill(MARK_SIZE, HEAD_SIZE, buf);
         return head_of(buf, rest, HEAD_SIZE);
     }
@@ -114,10 +114,10 @@ pub(crate) fn read_head() -> Head {
 pub(crate) fn read_piece(left: u64, buf: &mut [u8]) -> Bytes
     ensures { λ r. ⌜ (r .here ≤ length (now (buf .exit))) × (r .here + r .left ≤ left) ⌝ }
 {
-    let room = applied::body(left, buf.len(), false);
+    let room = list_read::body(left, buf.len(), false);
     let want = room.here;
     let i = fill(0, want, buf);
-    let piece = applied::body(left, i.n, i.n < want);
+    let piece = list_read::body(left, i.n, i.n < want);
     if i.failed {
         return Bytes {
             stop: READ_FAILED,

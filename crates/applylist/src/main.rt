@@ -1,10 +1,10 @@
 // Applies a list of written records, read from standard input, in order to an existing file or device. It makes no file and shortens none.
-// `applied` says what a record is, and where a list ends; here bytes are only moved. The first record that can't be applied ends the program.
+// `list_read` says what a record is, and where a list ends; here bytes are only moved. The first record that can't be applied ends the program.
 mod input; // reading
 mod output; // writing
 
 ghost use Prim.Native.Nat.{_+_, _≤_};
-ghost use Rattle.applied.specs.Records.{largest};
+ghost use Rattle.list_read.specs.Records.{largest};
 use libc::STDERR_FILENO;
 use libc::STDOUT_FILENO;
 
@@ -56,7 +56,7 @@ fn idle(stop: u8, record: u64) -> Progress
 
 // Why there is no next record: the list is cut where the input ends before its second flush.
 fn no_head(stop: u8, flushes: u8) -> u8 {
-    if stop == ENDED && applied::ended(flushes) != 0 {
+    if stop == ENDED && list_read::ended(flushes) != 0 {
         return CUT;
     }
     stop
@@ -71,14 +71,14 @@ fn begin(fd: i32, record: u64, flushes: u8) -> Progress
     if h.stop != GOES_ON {
         return idle(no_head(h.stop, flushes), record);
     }
-    let passed = applied::next(flushes, d.kind);
+    let passed = list_read::next(flushes, d.kind);
     if passed.number != 0 {
         return idle(BEHIND, record);
     }
-    if !applied::within(d.at, d.len) {
+    if !list_read::within(d.at, d.len) {
         return idle(TOO_FAR, record);
     }
-    let stop = output::flush_where(fd, d.kind == applied::FLUSH);
+    let stop = output::flush_where(fd, d.kind == list_read::FLUSH);
     Progress {
         stop,
         record,
@@ -109,7 +109,7 @@ fn put_zeros(fd: i32, p: Progress, zeros: &[u8]) -> Progress
     requires { ⌜ p .at + p .left ≤ largest ⌝ }
     ensures { λ r. ⌜ r .at + r .left ≤ largest ⌝ }
 {
-    let piece = applied::body(p.left, zeros.len(), false);
+    let piece = list_read::body(p.left, zeros.len(), false);
     let stop = output::put_first(fd, zeros, piece.here, p.at);
     further(p, stop, piece.here, piece.left)
 }
@@ -135,7 +135,7 @@ fn turn(fd: i32, p: Progress, zeros: &[u8], buf: &mut [u8]) -> Progress
     if p.left == 0 {
         return begin(fd, std::num::wrapping_add_u64(p.record, 1), p.flushes);
     }
-    if p.kind == applied::ZEROS {
+    if p.kind == list_read::ZEROS {
         return put_zeros(fd, p, zeros);
     }
     put_bytes(fd, p, buf)

@@ -1,7 +1,7 @@
 // Writing to the file, each byte at its offset.
 ghost use Prim.Native.Nat.{_+_, _≤_};
 ghost use lib.ListN.{length};
-ghost use Rattle.applied.specs.Records.{largest};
+ghost use Rattle.list_read.specs.Records.{largest};
 use crate::FLUSH_FAILED;
 use crate::GOES_ON;
 use crate::NOTHING_TAKEN;

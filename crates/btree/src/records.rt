@@ -1,4 +1,4 @@
-// The records of the trees. Crate recs has their bytes one after the other.
+// The records of the trees. Crate btree_records has their bytes one after the other.
 
 // The refusal of more records than 64, or than fit a block.
 pub const TOO_MANY_RECORDS: u32 = 34;

@@ -10,13 +10,13 @@ use lib.ListN.{length}
 use borrow.Author.Tests.{le-leb, lt-leb, eq-eqb, leb-true}
 use Rattle.endian.specs.Answer.{room, answer, chosen, valued, Put, Got}
 use Rattle.endian.specs.Bytes.{patch}
-use Rattle.little.specs.Bytes.{leBytes, leAt}
+use Rattle.endian_little.specs.Bytes.{leBytes, leAt}
 use Rattle.endian.specs.Fields.{Field, Span, write, part, nth, spans, clear, tidy}
 use Rattle.endian.proofs.Fields.{patch-before, patch-after, patch-clear, patch-same, read-field}
 use Rattle.endian.proofs.Laws.{length-patch}
-use Rattle.little.proofs.Laws.{length-le, le-written}
+use Rattle.endian_little.proofs.Laws.{length-le, le-written}
 use Rattle.endian.proofs.Order.{patch-over}
-use Rattle.castagnoli.specs.Register.{crcBytes, zeroed}
+use Rattle.crc_register.specs.Register.{crcBytes, zeroed}
 use Rattle.crc.specs.Crc.{crc32cOf, cksumOf, stamped, verified}
 
 -- ---- bounds

@@ -6,8 +6,8 @@ use Prim.Native.Nat.{ℕ, _+_, _-_}
 use lib.Dec.{leb, eqb}
 use lib.ListN.{length}
 use Rattle.endian.specs.Bytes.{patch}
-use Rattle.little.specs.Bytes.{leBytes, leAt}
-use Rattle.castagnoli.specs.Register.{crcBytes, zeroed}
+use Rattle.endian_little.specs.Bytes.{leBytes, leAt}
+use Rattle.crc_register.specs.Register.{crcBytes, zeroed}
 
 -- The register starts with all bits set, and is inverted at the end.
 unfoldable pub crc32cOf : List ℕ → ℕ

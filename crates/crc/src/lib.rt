@@ -3,8 +3,8 @@ ghost use mathlib.Core.Path.{_≡_};
 ghost use Prim.Native.Nat.{_+_};
 ghost use Rattle.endian.specs.Answer.{Put, Got};
 ghost use Rattle.crc.specs.Crc.{crc32cOf, cksumOf, stamped, verified};
-use crctable::update;
-use crctable::update_zeroed;
+use crc_loops::update;
+use crc_loops::update_zeroed;
 use endian::Read32;
 use endian::WRONG_LENGTH;
 use endian::inside;
@@ -40,7 +40,7 @@ pub fn stamp(buf: &mut [u8], off: usize) -> u32
     ensures { λ r. ⌜ Put (off + 4) (stamped off (now (buf .entry))) (now (buf .entry)) r (now (buf .exit)) ⌝ }
 {
     let c = cksum(buf, off);
-    little::put_le32(buf, off, c.value)
+    endian_little::put_le32(buf, off, c.value)
 }
 
 // Whether the four bytes at `off` lie inside and are the checksum of `buf`.
@@ -48,7 +48,7 @@ pub fn verify(buf: &[u8], off: usize) -> bool
     ensures { λ r. ⌜ r ≡ verified off (now (buf .entry)) ⌝ }
 {
     if inside(buf.len(), off, 4) {
-        let stored = little::le32(buf, off);
+        let stored = endian_little::le32(buf, off);
         let right = cksum(buf, off);
         return stored.value == right.value;
     }

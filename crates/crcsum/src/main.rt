@@ -28,7 +28,7 @@ fn turn(register: u32, buf: &mut [u8]) -> Progress {
     }
     let n = io::count(got, buf);
     Progress {
-        register: crctable::update(register, &buf[..n]),
+        register: crc_loops::update(register, &buf[..n]),
         more: true,
         failed: false,
     }

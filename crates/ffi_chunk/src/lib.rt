@@ -3,11 +3,11 @@
 ghost use mathlib.Core.Bool.{false};
 ghost use mathlib.Core.Path.{_≡_};
 ghost use lib.ListN.{length};
-ghost use Rattle.rootchunk.specs.Chunk.{summaryDraw, chunkNumber, chunkBytes, ChunkMade};
+ghost use Rattle.chunk.specs.Chunk.{summaryDraw, chunkNumber, chunkBytes, ChunkMade};
+use chunk::root_chunk;
 use geometry::Geometry;
 use params::Features;
 use params::Timestamp;
-use rootchunk::root_chunk;
 
 #[no_mangle]
 pub extern "C" fn zq_root_chunk(

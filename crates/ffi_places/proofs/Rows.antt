@@ -8,9 +8,9 @@ use native.Mathlib.Omega.{arith}
 use lib.ListN.{length, getD, List·getD-append, List·getD-eq-default}
 use lib.Seq.{getD-append-add}
 use Rattle.geometry.specs.declared.Geometry.{Geometry}
-use Rattle.counts.specs.Known.{known64, known32}
-use Rattle.counts.specs.declared.Value64.{Value64}
-use Rattle.places.specs.declared.GroupBlock.{GroupBlock}
+use Rattle.geometry_counts.specs.Known.{known64, known32}
+use Rattle.geometry_counts.specs.declared.Value64.{Value64}
+use Rattle.geometry_places.specs.declared.GroupBlock.{GroupBlock}
 use Rattle.ffi_places.specs.Values.{wide32, none, headValues, inodeValues, fixedValues, placeValues, valuesOf}
 
 -- a number of 32 bits or 31, as one of 64

@@ -2,23 +2,23 @@
 -- Assumes nothing.
 use mathlib.Core.List.{List, [], _∷_, _++_}
 use Prim.Native.Nat.{ℕ}
-use Rattle.logsize.specs.Log.{headerOf, preallocOf}
+use Rattle.geometry_log.specs.Log.{headerOf, preallocOf}
 use Rattle.geometry.specs.declared.Geometry.{Geometry}
-use Rattle.answers.specs.Named.{isAnswer}
-use Rattle.layout.specs.Places.{cntBlock, ibtBlock, fibtBlock, rmapBlock, refcBlock, usableOf, agflSize, freelistOf, chunkOf, clusterOf, alignOf, sparseAlign, rootChunkOf, rextSize, lsunitBytes, logsunitOf}
-use Rattle.counts.specs.Known.{known64}
-use Rattle.counts.specs.declared.Value64.{Value64}
-use Rattle.counts.specs.declared.Value64.the-variants.{Refused, Of}
-use Rattle.counts.specs.declared.Value32.{Value32}
-use Rattle.counts.specs.declared.Value32.the-variants.{Refused as Refused32, Of as Of32}
-use Rattle.places.specs.Answers.{agBlocks, toFsBlock, toDiskAddress, toByteOffset, inodeNumber, logStart, rootIno, initialFdblocks}
-use Rattle.places.specs.declared.GroupBlock.{GroupBlock}
-use Rattle.places.specs.declared.ToFsBlock.{ToFsBlock}
-use Rattle.places.specs.declared.ToFsBlock.the-variants.{Refused as RefusedFsb, At as AtFsb}
-use Rattle.places.specs.declared.ToDiskAddress.{ToDiskAddress}
-use Rattle.places.specs.declared.ToDiskAddress.the-variants.{Refused as RefusedDaddr, At as AtDaddr}
-use Rattle.places.specs.declared.ToByteOffset.{ToByteOffset}
-use Rattle.places.specs.declared.ToByteOffset.the-variants.{Refused as RefusedByte, At as AtByte}
+use Rattle.geometry_answers.specs.Named.{isAnswer}
+use Rattle.geometry_layout.specs.Places.{cntBlock, ibtBlock, fibtBlock, rmapBlock, refcBlock, usableOf, agflSize, freelistOf, chunkOf, clusterOf, alignOf, sparseAlign, rootChunkOf, rextSize, lsunitBytes, logsunitOf}
+use Rattle.geometry_counts.specs.Known.{known64}
+use Rattle.geometry_counts.specs.declared.Value64.{Value64}
+use Rattle.geometry_counts.specs.declared.Value64.the-variants.{Refused, Of}
+use Rattle.geometry_counts.specs.declared.Value32.{Value32}
+use Rattle.geometry_counts.specs.declared.Value32.the-variants.{Refused as Refused32, Of as Of32}
+use Rattle.geometry_places.specs.Answers.{agBlocks, toFsBlock, toDiskAddress, toByteOffset, inodeNumber, logStart, rootIno, initialFdblocks}
+use Rattle.geometry_places.specs.declared.GroupBlock.{GroupBlock}
+use Rattle.geometry_places.specs.declared.ToFsBlock.{ToFsBlock}
+use Rattle.geometry_places.specs.declared.ToFsBlock.the-variants.{Refused as RefusedFsb, At as AtFsb}
+use Rattle.geometry_places.specs.declared.ToDiskAddress.{ToDiskAddress}
+use Rattle.geometry_places.specs.declared.ToDiskAddress.the-variants.{Refused as RefusedDaddr, At as AtDaddr}
+use Rattle.geometry_places.specs.declared.ToByteOffset.{ToByteOffset}
+use Rattle.geometry_places.specs.declared.ToByteOffset.the-variants.{Refused as RefusedByte, At as AtByte}
 
 -- ---- an answer as a number of 64 bits, or the same refusal
 

@@ -2,7 +2,7 @@
 // a time. The comparison with the Rust calls the port through it.
 ghost use mathlib.Core.Path.{_≡_};
 ghost use lib.ListN.{getD};
-ghost use Rattle.counts.specs.Known.{number64};
+ghost use Rattle.geometry_counts.specs.Known.{number64};
 ghost use Rattle.geometry.specs.Compute.{computeDef};
 ghost use Rattle.ffi_geometry.specs.Input.{paramsOf};
 ghost use Rattle.ffi_places.specs.Values.{value64, none, valuesOf};
@@ -11,8 +11,8 @@ use crate::row::number_of;
 use crate::row::value_of;
 use ffi_geometry::params_of;
 use geometry::Geometry;
+use geometry_places::GroupBlock;
 use params::Label;
-use places::GroupBlock;
 
 pub mod row; // all answers for a geometry and a place
 

@@ -9,11 +9,11 @@ use Rattle.params.specs.declared.OptU64.{OptU64}
 use Rattle.params.specs.declared.OptU64.the-variants.{Absent, Given}
 use Rattle.params.specs.Options.{or64}
 use Rattle.geometry.specs.declared.Geometry.{Geometry}
-use Rattle.site.specs.Sites.{value64}
+use Rattle.plan_site.specs.Sites.{value64}
 use Rattle.plan.specs.declared.AgPlan.{AgPlan}
 use Rattle.plan.specs.declared.Planned.{Planned}
 use Rattle.plan.specs.Plan.{planned}
-use Rattle.totals.specs.Totals.{freeblksOf, longestOf, ofFew}
+use Rattle.plan_totals.specs.Totals.{freeblksOf, longestOf, ofFew}
 use Rattle.request.specs.declared.Request.{Request}
 use Rattle.request.specs.Parse.{parseDef}
 use Rattle.run.specs.Runs.{orNext, stepOf}

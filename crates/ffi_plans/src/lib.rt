@@ -16,11 +16,11 @@ use plan::AgPlan;
 use plan::Agfl;
 use plan::Planned;
 use plan::plan_ag;
+use plan_site::value_of;
+use plan_summary::records::freeblks;
+use plan_summary::records::longest;
 use request::Request;
 use request::parse;
-use site::value_of;
-use summary::records::freeblks;
-use summary::records::longest;
 
 // How many numbers stand outside the lists of a plan, at an index of them, and beside a geometry.
 const NUMBERS: u64 = 10;

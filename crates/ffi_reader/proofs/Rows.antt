@@ -6,8 +6,8 @@ use Prim.Native.Nat.{ℕ, _≤_}
 use borrow.Author.Tests.{eq-eqb, ne-eqb}
 use lib.ListN.{getD, List·getD-eq-default}
 use Rattle.plan.specs.declared.Planned.{Planned}
-use Rattle.exact.specs.declared.Found.{Found}
-use Rattle.exact.specs.Read.{readGroup, readLog}
+use Rattle.reader_exact.specs.declared.Found.{Found}
+use Rattle.reader_exact.specs.Read.{readGroup, readLog}
 use Rattle.ffi_reader.specs.Parts.{foundNumbers, groupBy, logBy}
 
 pub no-number : (f : Found) (k : ℕ) → 13 ≤ k → getD (foundNumbers f) k 0 ≡ 0

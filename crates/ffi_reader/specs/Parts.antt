@@ -4,8 +4,8 @@ use mathlib.Core.List.{List, [], _∷_}
 use Prim.Native.Nat.{ℕ}
 use lib.Dec.{eqb}
 use Rattle.seqs.specs.Lists.{choose}
-use Rattle.exact.specs.declared.Found.{Found}
-use Rattle.exact.specs.Read.{readGroup, readLog}
+use Rattle.reader_exact.specs.declared.Found.{Found}
+use Rattle.reader_exact.specs.Read.{readGroup, readLog}
 
 -- the refusal, then sizes, groups and log of the geometry, then the plan's length and the lengths of its lists
 unfoldable pub foundNumbers : Found → List ℕ

@@ -2,12 +2,12 @@
 // comparison with the Rust calls the port through it.
 ghost use mathlib.Core.Path.{_≡_};
 ghost use lib.ListN.{getD};
-ghost use Rattle.exact.specs.Read.{readGroup0};
+ghost use Rattle.reader_exact.specs.Read.{readGroup0};
 ghost use Rattle.ffi_reader.specs.Parts.{foundNumbers, groupBy, logBy};
-use exact::Found;
 use reader::read_group;
 use reader::read_group0;
 use reader::read_log;
+use reader_exact::Found;
 
 // How many numbers are given of what group 0's head gave.
 const NUMBERS: u64 = 13;

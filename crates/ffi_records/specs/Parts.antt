@@ -7,12 +7,12 @@ use lib.ListN.{getD}
 use Rattle.seqs.specs.Lists.{choose}
 use Rattle.btree.specs.declared.records.AllocRec.{AllocRec}
 use Rattle.btree.specs.declared.records.RmapRec.{RmapRec}
-use Rattle.free.specs.declared.FreeList.{FreeList}
-use Rattle.free.specs.declared.Taken.{Taken}
-use Rattle.free.specs.Free.{zeroRec}
-use Rattle.rmap.specs.declared.RmapList.{RmapList}
-use Rattle.rmap.specs.declared.Inserted.{Inserted}
-use Rattle.rmap.specs.Rmap.{zeroRec as zeroRmap}
+use Rattle.plan_free.specs.declared.FreeList.{FreeList}
+use Rattle.plan_free.specs.declared.Taken.{Taken}
+use Rattle.plan_free.specs.Free.{zeroRec}
+use Rattle.plan_rmap.specs.declared.RmapList.{RmapList}
+use Rattle.plan_rmap.specs.declared.Inserted.{Inserted}
+use Rattle.plan_rmap.specs.Rmap.{zeroRec as zeroRmap}
 
 -- f of each number below n
 unfoldable pub rows : {A : Type 0} → (ℕ → A) → ℕ → List A

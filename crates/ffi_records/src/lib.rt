@@ -1,15 +1,15 @@
 // `take` and `rmap_insert` for a caller in C or Rust: comparison calls the port through it. A list comes as an array for each field of its
 // records, and an answer is asked for number by number.
 ghost use mathlib.Core.Path.{_≡_};
-ghost use Rattle.free.specs.Free.{taken};
-ghost use Rattle.rmap.specs.Rmap.{inserted};
+ghost use Rattle.plan_free.specs.Free.{taken};
+ghost use Rattle.plan_rmap.specs.Rmap.{inserted};
 ghost use Rattle.ffi_records.specs.Parts.{freeFrom, rmapFrom, freeAt, rmapAt, partOf, takenPart, insertedPart};
 use btree::AllocRec;
 use btree::RmapRec;
-use free::FreeList;
-use free::Taken;
-use rmap::Inserted;
-use rmap::RmapList;
+use plan_free::FreeList;
+use plan_free::Taken;
+use plan_rmap::Inserted;
+use plan_rmap::RmapList;
 
 // The parts of an answer: its number, how many records are left, and the numbers of one of these.
 pub const NUMBER: u32 = 0;
@@ -25,14 +25,14 @@ pub const OWNER: u32 = 4;
 fn free_from(starts: [u32; 64], counts: [u32; 64], n: usize) -> FreeList
     ensures { λ r. ⌜ r ≡ freeFrom starts counts n ⌝ }
 {
-    let mut list = free::empty();
+    let mut list = plan_free::empty();
     let mut i: usize = 0;
     while i < 64 {
         let rec = AllocRec {
             start: starts[i],
             count: counts[i],
         };
-        list = free::push(list, rec);
+        list = plan_free::push(list, rec);
         i += 1;
     }
     let recs = list.recs;
@@ -42,7 +42,7 @@ fn free_from(starts: [u32; 64], counts: [u32; 64], n: usize) -> FreeList
 fn rmap_from(starts: [u32; 64], counts: [u32; 64], owners: [u64; 64], n: usize) -> RmapList
     ensures { λ r. ⌜ r ≡ rmapFrom starts counts owners n ⌝ }
 {
-    let mut list = rmap::empty();
+    let mut list = plan_rmap::empty();
     let mut i: usize = 0;
     while i < 64 {
         let rec = RmapRec {
@@ -50,7 +50,7 @@ fn rmap_from(starts: [u32; 64], counts: [u32; 64], owners: [u64; 64], n: usize) 
             count: counts[i],
             owner: owners[i],
         };
-        list = rmap::push(list, rec);
+        list = plan_rmap::push(list, rec);
         i += 1;
     }
     let recs = list.recs;
@@ -116,7 +116,7 @@ pub extern "C" fn zq_take(
     ensures { λ r. ⌜ r ≡ takenPart part k (taken (freeFrom (now (starts .entry)) (now (counts .entry)) n) start len) ⌝ }
 {
     let list = free_from(*starts, *counts, n);
-    let t = free::take(list, start, len);
+    let t = plan_free::take(list, start, len);
     let left = t.list;
     let rec = free_at(left, k);
     part_of(part, t.number, left.len, rec.start, rec.count, 0)
@@ -143,7 +143,7 @@ pub extern "C" fn zq_rmap_insert(
         count,
         owner,
     };
-    let t = rmap::rmap_insert(list, rec);
+    let t = plan_rmap::rmap_insert(list, rec);
     let left = t.list;
     let at = rmap_at(left, k);
     part_of(part, t.number, left.len, at.start, at.count, at.owner)

@@ -26,7 +26,7 @@ fn alloc_array(start: &[u32; 64], count: &[u32; 64]) -> [AllocRec; 64]
     recs
 }
 
-// `recs::alloc_recs_64` of them.
+// `btree_records::alloc_recs_64` of them.
 #[no_mangle]
 pub extern "C" fn zq_alloc_recs(
     start: &[u32; 64],
@@ -37,7 +37,7 @@ pub extern "C" fn zq_alloc_recs(
     ensures { λ r. ⌜ Written (recsNumber 8 count (length (now (out .entry)))) (listed allocBytes (take count (allocArray (now (start .entry)) (now (blocks .entry))))) (now (out .entry)) r (now (out .exit)) ⌝ }
 {
     let recs = alloc_array(start, blocks);
-    recs::alloc_recs_64(recs, count, out)
+    btree_records::alloc_recs_64(recs, count, out)
 }
 
 // The inode chunks whose fields these are.
@@ -72,7 +72,7 @@ fn inobt_array(
     recs
 }
 
-// `recs::inobt_recs_64` of them.
+// `btree_records::inobt_recs_64` of them.
 #[no_mangle]
 pub extern "C" fn zq_inobt_recs(
     startino: &[u32; 64],
@@ -87,7 +87,7 @@ pub extern "C" fn zq_inobt_recs(
     ensures { λ r. ⌜ Written (recsNumber 16 count (length (now (out .entry)))) (listed (inobtBytes sparse) (take count (inobtArray (now (startino .entry)) (now (holemask .entry)) (now (inodes .entry)) (now (freecount .entry)) (now (free .entry))))) (now (out .entry)) r (now (out .exit)) ⌝ }
 {
     let recs = inobt_array(startino, holemask, inodes, freecount, free);
-    recs::inobt_recs_64(recs, count, sparse, out)
+    btree_records::inobt_recs_64(recs, count, sparse, out)
 }
 
 // The reverse mappings whose first blocks, lengths and owners these are.
@@ -112,7 +112,7 @@ fn rmap_array(start: &[u32; 64], count: &[u32; 64], owner: &[u64; 64]) -> [RmapR
     recs
 }
 
-// `recs::rmap_recs_64` of them.
+// `btree_records::rmap_recs_64` of them.
 #[no_mangle]
 pub extern "C" fn zq_rmap_recs(
     start: &[u32; 64],
@@ -124,5 +124,5 @@ pub extern "C" fn zq_rmap_recs(
     ensures { λ r. ⌜ Written (recsNumber 24 count (length (now (out .entry)))) (listed rmapBytes (take count (rmapArray (now (start .entry)) (now (blocks .entry)) (now (owner .entry))))) (now (out .entry)) r (now (out .exit)) ⌝ }
 {
     let recs = rmap_array(start, blocks, owner);
-    recs::rmap_recs_64(recs, count, out)
+    btree_records::rmap_recs_64(recs, count, out)
 }

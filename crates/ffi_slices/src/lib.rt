@@ -27,15 +27,15 @@ fn alloc_array(start: &[u32; 65], count: &[u32; 65]) -> [AllocRec; 65]
     recs
 }
 
-// `slices::alloc_recs` of the first `count` records.
+// `btree_slices::alloc_recs` of the first `count` records.
 fn alloc_first(recs: [AllocRec; 65], count: usize, out: &mut [u8]) -> u32
     requires { ⌜ count ≤ 65 ⌝ }
     ensures { λ r. ⌜ Written (recsNumber 8 count (length (now (out .entry)))) (listed allocBytes (take count recs)) (now (out .entry)) r (now (out .exit)) ⌝ }
 {
-    slices::alloc_recs(&recs[..count], out)
+    btree_slices::alloc_recs(&recs[..count], out)
 }
 
-// `slices::alloc_recs` of them.
+// `btree_slices::alloc_recs` of them.
 #[no_mangle]
 pub extern "C" fn zq_alloc_slice(
     start: &[u32; 65],
@@ -72,15 +72,15 @@ fn rmap_array(start: &[u32; 65], count: &[u32; 65], owner: &[u64; 65]) -> [RmapR
     recs
 }
 
-// `slices::rmap_recs` of the first `count` records.
+// `btree_slices::rmap_recs` of the first `count` records.
 fn rmap_first(recs: [RmapRec; 65], count: usize, out: &mut [u8]) -> u32
     requires { ⌜ count ≤ 65 ⌝ }
     ensures { λ r. ⌜ Written (recsNumber 24 count (length (now (out .entry)))) (listed rmapBytes (take count recs)) (now (out .entry)) r (now (out .exit)) ⌝ }
 {
-    slices::rmap_recs(&recs[..count], out)
+    btree_slices::rmap_recs(&recs[..count], out)
 }
 
-// `slices::rmap_recs` of them.
+// `btree_slices::rmap_recs` of them.
 #[no_mangle]
 pub extern "C" fn zq_rmap_slice(
     start: &[u32; 65],

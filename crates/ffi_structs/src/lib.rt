@@ -10,7 +10,7 @@ ghost use Rattle.ag.specs.Agf.{agfBytes};
 ghost use Rattle.ag.specs.Agi.{agiBytes};
 ghost use Rattle.ag.specs.Agfl.{agflNumber, agflBytes};
 ghost use Rattle.btree.specs.Leaf.{leafNumber, leafBytes};
-ghost use Rattle.timestamp.specs.Time.{timeNumber, timeInside, timeRaw, accepted, decoded};
+ghost use Rattle.inode_time.specs.Time.{timeNumber, timeInside, timeRaw, accepted, decoded};
 ghost use Rattle.inode.specs.Dinode.{dinodeNumber, dinodeBytes, freeNumber, freeBytes};
 ghost use Rattle.inode.specs.Directory.{EmptyDir};
 use ag::Agf;
@@ -235,7 +235,7 @@ pub extern "C" fn zq_encode_free(ino: u64, generation: u32, uuid: &[u8; 16], slo
 pub extern "C" fn zq_time_number(secs: i64, nsecs: u32, bigtime: bool) -> u32
     ensures { λ r. ⌜ r ≡ timeNumber bigtime secs nsecs ⌝ }
 {
-    let s = timestamp::encode_time(Timestamp { secs, nsecs }, bigtime);
+    let s = inode_time::encode_time(Timestamp { secs, nsecs }, bigtime);
     s.number
 }
 
@@ -244,7 +244,7 @@ pub extern "C" fn zq_time_number(secs: i64, nsecs: u32, bigtime: bool) -> u32
 pub extern "C" fn zq_encode_time(secs: i64, nsecs: u32, bigtime: bool) -> u64
     ensures { λ r. ⌜ r ≡ accepted (timeInside bigtime secs nsecs) (timeRaw bigtime secs nsecs) ⌝ }
 {
-    let s = timestamp::encode_time(Timestamp { secs, nsecs }, bigtime);
+    let s = inode_time::encode_time(Timestamp { secs, nsecs }, bigtime);
     s.value
 }
 
@@ -253,7 +253,7 @@ pub extern "C" fn zq_encode_time(secs: i64, nsecs: u32, bigtime: bool) -> u64
 pub extern "C" fn zq_decode_secs(raw: u64, bigtime: bool) -> i64
     ensures { λ r. ⌜ r ≡ decoded bigtime raw .secs ⌝ }
 {
-    let t = timestamp::decode_time(raw, bigtime);
+    let t = inode_time::decode_time(raw, bigtime);
     t.secs
 }
 
@@ -262,7 +262,7 @@ pub extern "C" fn zq_decode_secs(raw: u64, bigtime: bool) -> i64
 pub extern "C" fn zq_decode_nsecs(raw: u64, bigtime: bool) -> u32
     ensures { λ r. ⌜ r ≡ decoded bigtime raw .nsecs ⌝ }
 {
-    let t = timestamp::decode_time(raw, bigtime);
+    let t = inode_time::decode_time(raw, bigtime);
     t.nsecs
 }
 

@@ -8,15 +8,15 @@ use lib.ListN.{take, replicate}
 use Rattle.arith.specs.Choice.{when}
 use Rattle.arith.specs.Powers.{powerLog, log2Up}
 use Rattle.refusals.specs.Table.{Refusal, _if_, first}
-use Rattle.grouping.specs.Limits.{minGroup}
-use Rattle.logsize.specs.Limits.{labelRoom}
+use Rattle.geometry_groups.specs.Limits.{minGroup}
+use Rattle.geometry_log.specs.Limits.{labelRoom}
 use Rattle.geometry.specs.Limits.{minDirBlock, minDirLog}
-use Rattle.sizes.specs.Sizes.{sizesOf, sizesRefusals}
-use Rattle.grouping.specs.Groups.{askedBlocks, initialGroups, isShort, trim, optionsRefusals, groupsRefusals}
-use Rattle.logsize.specs.Log.{preallocOf, logLimit, logBlocks, imaxpctOf, lastRefusals}
+use Rattle.geometry_sizes.specs.Sizes.{sizesOf, sizesRefusals}
+use Rattle.geometry_groups.specs.Groups.{askedBlocks, initialGroups, isShort, trim, optionsRefusals, groupsRefusals}
+use Rattle.geometry_log.specs.Log.{preallocOf, logLimit, logBlocks, imaxpctOf, lastRefusals}
 use Rattle.params.specs.declared.Params.{Params}
-use Rattle.sizes.specs.declared.Sizes.{Sizes}
-use Rattle.grouping.specs.declared.Groups.{Groups}
+use Rattle.geometry_sizes.specs.declared.Sizes.{Sizes}
+use Rattle.geometry_groups.specs.declared.Groups.{Groups}
 use Rattle.geometry.specs.declared.Chosen.{Chosen}
 use Rattle.geometry.specs.declared.Geometry.{Geometry}
 use Rattle.geometry.specs.declared.Computed.{Computed}

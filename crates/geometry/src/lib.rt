@@ -2,9 +2,9 @@
 // The types stand here.
 pub mod step; // step.rt: Geometry::compute
 
-use grouping::Groups;
+use geometry_groups::Groups;
+use geometry_sizes::Sizes;
 use params::Features;
-use sizes::Sizes;
 
 // All that the options and the device decide; the groups as asked for and without a short last one.
 pub struct Chosen {
@@ -68,38 +68,38 @@ impl Geometry {
 
     pub const AGFL_HEADER: u32 = 36; // bytes
 
-    // Those that the crates grouping and logsize test.
-    pub const TIB: u64 = grouping::TIB;
+    // Those that the crates geometry_groups and geometry_log test.
+    pub const TIB: u64 = geometry_groups::TIB;
 
-    pub const AG_MIN_BYTES: u64 = grouping::AG_MIN_BYTES;
+    pub const AG_MIN_BYTES: u64 = geometry_groups::AG_MIN_BYTES;
 
-    pub const AG_MAX_BYTES: u64 = grouping::AG_MAX_BYTES;
+    pub const AG_MAX_BYTES: u64 = geometry_groups::AG_MAX_BYTES;
 
-    pub const MAX_AGNUMBER: u64 = grouping::MAX_AGNUMBER;
+    pub const MAX_AGNUMBER: u64 = geometry_groups::MAX_AGNUMBER;
 
-    pub const LARGE_BYTES: u64 = grouping::LARGE_BYTES;
+    pub const LARGE_BYTES: u64 = geometry_groups::LARGE_BYTES;
 
-    pub const FOUR_GROUP_BYTES: u64 = grouping::FOUR_GROUP_BYTES;
+    pub const FOUR_GROUP_BYTES: u64 = geometry_groups::FOUR_GROUP_BYTES;
 
-    pub const TWO_GROUP_BYTES: u64 = grouping::TWO_GROUP_BYTES;
+    pub const TWO_GROUP_BYTES: u64 = geometry_groups::TWO_GROUP_BYTES;
 
-    pub const MIN_AGCOUNT: u64 = logsize::MIN_AGCOUNT;
+    pub const MIN_AGCOUNT: u64 = geometry_log::MIN_AGCOUNT;
 
-    pub const MIN_SUPPORTED_BYTES: u64 = logsize::MIN_SUPPORTED_BYTES;
+    pub const MIN_SUPPORTED_BYTES: u64 = geometry_log::MIN_SUPPORTED_BYTES;
 
-    pub const MAX_LOG_BLOCKS: u64 = logsize::MAX_LOG_BLOCKS;
+    pub const MAX_LOG_BLOCKS: u64 = geometry_log::MAX_LOG_BLOCKS;
 
-    pub const MIN_LOG_BYTES: u64 = logsize::MIN_LOG_BYTES;
+    pub const MIN_LOG_BYTES: u64 = geometry_log::MIN_LOG_BYTES;
 
-    pub const MAX_LOG_BYTES: u64 = logsize::MAX_LOG_BYTES;
+    pub const MAX_LOG_BYTES: u64 = geometry_log::MAX_LOG_BYTES;
 
-    pub const REALISTIC_LOG_BYTES: u64 = logsize::REALISTIC_LOG_BYTES;
+    pub const REALISTIC_LOG_BYTES: u64 = geometry_log::REALISTIC_LOG_BYTES;
 
-    pub const LOG_RATIO: u64 = logsize::LOG_RATIO;
+    pub const LOG_RATIO: u64 = geometry_log::LOG_RATIO;
 
-    pub const ALLOCBT_AGFL_RESERVE: u64 = logsize::ALLOCBT_AGFL_RESERVE;
+    pub const ALLOCBT_AGFL_RESERVE: u64 = geometry_log::ALLOCBT_AGFL_RESERVE;
 
-    pub const MAX_IMAXPCT: u8 = logsize::MAX_IMAXPCT;
+    pub const MAX_IMAXPCT: u8 = geometry_log::MAX_IMAXPCT;
 
-    pub const MAX_LABEL: usize = logsize::MAX_LABEL;
+    pub const MAX_LABEL: usize = geometry_log::MAX_LABEL;
 }

@@ -12,23 +12,23 @@ use arith::numbers::quotient;
 use arith::numbers::quotient_u32;
 use arith::powers::log2_roundup;
 use arith::powers::pow2_log;
-use grouping::asked_blocks;
-use grouping::groups_refusal;
-use grouping::initial_groups;
-use grouping::is_short;
-use grouping::min_group;
-use grouping::options_refusal;
-use grouping::trimmed;
-use logsize::imaxpct_of;
-use logsize::last_refusal;
-use logsize::log_blocks;
-use logsize::log_limit;
-use logsize::prealloc_of;
+use geometry_groups::asked_blocks;
+use geometry_groups::groups_refusal;
+use geometry_groups::initial_groups;
+use geometry_groups::is_short;
+use geometry_groups::min_group;
+use geometry_groups::options_refusal;
+use geometry_groups::trimmed;
+use geometry_log::imaxpct_of;
+use geometry_log::last_refusal;
+use geometry_log::log_blocks;
+use geometry_log::log_limit;
+use geometry_log::prealloc_of;
+use geometry_sizes::chosen_sizes;
+use geometry_sizes::sizes_refusal;
 use params::Features;
 use params::Params;
 use refusals::first;
-use sizes::chosen_sizes;
-use sizes::sizes_refusal;
 
 // The label's bytes, filled up with zeros.
 fn padded(bytes: [u8; 12], length: usize) -> [u8; 12]

@@ -5,20 +5,20 @@ ghost use Prim.Native.Nat.{_*_, _≤_};
 ghost use lib.ListN.{length, replicate};
 ghost use Rattle.endian.specs.Bytes.{patch};
 ghost use Rattle.structs.specs.Written.{Written};
-ghost use Rattle.answers.specs.Named.{isAnswer};
+ghost use Rattle.geometry_answers.specs.Named.{isAnswer};
 ghost use Rattle.sb.specs.Superblock.{sbBytes};
-ghost use Rattle.sameplan.specs.Same.{isPlan};
-ghost use Rattle.frame.specs.Frames.{frameOf, Fine, Few};
-ghost use Rattle.headbytes.specs.Head.{headBlocks, headBytes, headLength, headNumber};
-ghost use Rattle.headbytes.specs.Parts.{sectorOn, sectorsOn, rootsOn, moreOn};
+ghost use Rattle.plan_same.specs.Same.{isPlan};
+ghost use Rattle.head_frame.specs.Frames.{frameOf, Fine, Few};
+ghost use Rattle.head_bytes.specs.Head.{headBlocks, headBytes, headLength, headNumber};
+ghost use Rattle.head_bytes.specs.Parts.{sectorOn, sectorsOn, rootsOn, moreOn};
 
 pub mod roots; // roots.rt: the root blocks
 pub mod sectors; // sectors.rt: superblock, AGF, AGI and free list
 
-use frame::Frame;
-use frame::frame_of;
 use geometry::Geometry;
-use logsize::prealloc_of;
+use geometry_log::prealloc_of;
+use head_frame::Frame;
+use head_frame::frame_of;
 use plan::AgPlan;
 use sb::SbState;
 

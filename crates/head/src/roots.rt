@@ -4,21 +4,21 @@ ghost use mathlib.Core.Bool.{true};
 ghost use Prim.Native.Nat.{_+_, _*_, _≤_};
 ghost use lib.ListN.{length};
 ghost use Rattle.endian.specs.Bytes.{patch};
-ghost use Rattle.layout.specs.Places.{fibtBlock, rmapBlock, refcBlock, daddrOf};
+ghost use Rattle.geometry_layout.specs.Places.{fibtBlock, rmapBlock, refcBlock, daddrOf};
 ghost use Rattle.btree.specs.Records.{listed, allocBytes, rmapBytes};
-ghost use Rattle.free.specs.Free.{freeOf, smaller};
-ghost use Rattle.rmap.specs.Rmap.{rmapOf};
-ghost use Rattle.frame.specs.Frames.{Fine, Few};
-ghost use Rattle.headbytes.specs.Sorting.{bySize};
-ghost use Rattle.headbytes.specs.Head.{finoMagic, rootBytes, inodeRoot, rmapRoot, refcRoot, headBlocks};
-ghost use Rattle.headbytes.specs.Parts.{blockIf, rootsOn, moreOn};
+ghost use Rattle.plan_free.specs.Free.{freeOf, smaller};
+ghost use Rattle.plan_rmap.specs.Rmap.{rmapOf};
+ghost use Rattle.head_frame.specs.Frames.{Fine, Few};
+ghost use Rattle.head_bytes.specs.Sorting.{bySize};
+ghost use Rattle.head_bytes.specs.Head.{finoMagic, rootBytes, inodeRoot, rmapRoot, refcRoot, headBlocks};
+ghost use Rattle.head_bytes.specs.Parts.{blockIf, rootsOn, moreOn};
 use crate::sectors::refc_at;
 use crate::sectors::rmap_at;
 use btree::AllocRec;
-use frame::Frame;
-use free::FreeList;
+use head_frame::Frame;
 use plan::AgPlan;
-use rmap::RmapList;
+use plan_free::FreeList;
+use plan_rmap::RmapList;
 
 // The address of block b of the group, in units of 512 bytes.
 fn address(w: Frame, b: u32) -> u64
@@ -64,7 +64,7 @@ fn put_free(w: Frame, magic: u32, b: u32, uuid: &[u8; 16], l: FreeList, buf: &mu
     let bs = w.block as usize;
     let at = (b as usize) * bs;
     let daddr = address(w, b);
-    leaves::free_leaf(magic, daddr, w.agno, uuid, l, &mut buf[at..at + bs]);
+    head_leaves::free_leaf(magic, daddr, w.agno, uuid, l, &mut buf[at..at + bs]);
 }
 
 // The root chunk into block b, where the group has it.
@@ -76,7 +76,7 @@ fn put_chunk(w: Frame, magic: u32, b: u32, uuid: &[u8; 16], buf: &mut [u8])
     let bs = w.block as usize;
     let at = (b as usize) * bs;
     let daddr = address(w, b);
-    leaves::chunk_leaf(
+    head_leaves::chunk_leaf(
         magic,
         daddr,
         w.agno,
@@ -96,7 +96,7 @@ fn put_maps(w: Frame, magic: u32, b: u32, uuid: &[u8; 16], l: RmapList, buf: &mu
     let bs = w.block as usize;
     let at = (b as usize) * bs;
     let daddr = address(w, b);
-    leaves::rmap_leaf(magic, daddr, w.agno, uuid, l, &mut buf[at..at + bs]);
+    head_leaves::rmap_leaf(magic, daddr, w.agno, uuid, l, &mut buf[at..at + bs]);
 }
 
 // The three roots of every group: free extents by block and by size, and inodes.
@@ -140,7 +140,7 @@ fn put_refc(w: Frame, uuid: &[u8; 16], buf: &mut [u8])
     let f = w.features;
     if f.reflink {
         let b = refc_at(f, w.header);
-        let none = free::empty();
+        let none = plan_free::empty();
         put_free(w, btree::magic::REFC, b, uuid, none, buf);
     }
 }

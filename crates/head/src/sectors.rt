@@ -5,24 +5,24 @@ ghost use Prim.Native.Nat.{_+_, _*_, _≤_, _<_, _^_};
 ghost use lib.ListN.{length, take};
 ghost use Rattle.arith.specs.Choice.{bit};
 ghost use Rattle.structs.specs.Sizes.{isSector};
-ghost use Rattle.layout.specs.Places.{rmapBlock, refcBlock};
-ghost use Rattle.site.specs.Sites.{value64};
-ghost use Rattle.totals.specs.Totals.{freeblksOf, longestOf};
-ghost use Rattle.frame.specs.Frames.{Fine, Few};
+ghost use Rattle.geometry_layout.specs.Places.{rmapBlock, refcBlock};
+ghost use Rattle.plan_site.specs.Sites.{value64};
+ghost use Rattle.plan_totals.specs.Totals.{freeblksOf, longestOf};
+ghost use Rattle.head_frame.specs.Frames.{Fine, Few};
 ghost use Rattle.ag.specs.Agf.{agfBytes};
 ghost use Rattle.ag.specs.Agi.{agiBytes};
 ghost use Rattle.ag.specs.Agfl.{agflBytes};
 ghost use Rattle.sb.specs.Superblock.{sbNumber, sbBytes};
-ghost use Rattle.headbytes.specs.Head.{agfWith, agfOf, agiOf};
-ghost use Rattle.headbytes.specs.Parts.{sectorOn, sectorsOn};
+ghost use Rattle.head_bytes.specs.Head.{agfWith, agfOf, agiOf};
+ghost use Rattle.head_bytes.specs.Parts.{sectorOn, sectorsOn};
 use ag::Agf;
 use ag::Agi;
 use arith::choice::bit_of;
 use arith::choice::pick_u32;
 use arith::numbers::minus_u32;
-use counts::Value64;
-use frame::Frame;
 use geometry::Geometry;
+use geometry_counts::Value64;
+use head_frame::Frame;
 use params::Features;
 use plan::AgPlan;
 use plan::Agfl;
@@ -66,7 +66,7 @@ fn blocks_in(p: AgPlan) -> u32
     requires { ⌜ Few p ⌝ }
     ensures { λ r. ⌜ r ≡ freeblksOf (p .free) ⌝ }
 {
-    value_of(summary::records::freeblks(p)) as u32
+    value_of(plan_summary::records::freeblks(p)) as u32
 }
 
 // Its longest free extent.
@@ -74,7 +74,7 @@ fn longest_in(p: AgPlan) -> u32
     requires { ⌜ Few p ⌝ }
     ensures { λ r. ⌜ r ≡ longestOf (p .free) ⌝ }
 {
-    value_of(summary::records::longest(p)) as u32
+    value_of(plan_summary::records::longest(p)) as u32
 }
 
 fn agf_with(w: Frame, list: u32, freeblks: u32, longest: u32) -> Agf

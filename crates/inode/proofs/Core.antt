@@ -14,7 +14,7 @@ use Rattle.structs.specs.Written.{require}
 use Rattle.structs.proofs.Written.{passed}
 use Rattle.params.specs.declared.Timestamp.{Timestamp}
 use Rattle.inode.specs.declared.dinode.Dinode.{Dinode}
-use Rattle.timestamp.specs.Time.{timeInside, accepted, StoredAs}
+use Rattle.inode_time.specs.Time.{timeInside, accepted, StoredAs}
 use Rattle.inode.specs.Dinode.{isBig, inside, raw, orElse, timesNumber, TimesAs, coreFields, dinodeFields, dinodeBytes}
 use Rattle.inode.specs.Directory.{emptyDir, EmptyDir}
 

@@ -12,7 +12,7 @@ use Rattle.structs.specs.Sizes.{isInode}
 use Rattle.structs.specs.Written.{null32, require}
 use Rattle.params.specs.declared.Timestamp.{Timestamp}
 use Rattle.inode.specs.declared.dinode.Dinode.{Dinode}
-use Rattle.timestamp.specs.Time.{outOfRange, timeInside, timeRaw, accepted}
+use Rattle.inode_time.specs.Time.{outOfRange, timeInside, timeRaw, accepted}
 
 -- "IN"
 abbrev pub inodeMagic : ℕ

@@ -8,9 +8,9 @@ ghost use Rattle.endian.specs.Fields.{write};
 ghost use Rattle.structs.specs.Sizes.{isInode};
 ghost use Rattle.structs.specs.Written.{Written};
 ghost use Rattle.inode.specs.Dinode.{isBig, orElse, TimesAs, coreFields, dinodeNumber, dinodeBytes, freeNumber, freeBytes};
+use inode_time::encode_time;
 use params::Timestamp;
 use structs::is_inode;
-use timestamp::encode_time;
 
 // "IN"
 pub const MAGIC: u64 = 0x494e;

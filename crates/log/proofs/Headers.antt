@@ -10,7 +10,7 @@ use lib.Dec.{T, leb, leb→le, eqb}
 use lib.ListN.{length, take, drop, replicate, set, length-replicate, replicate-append-replicate, take-append-drop}
 use lib.Seq.{take-at, drop-at}
 use Rattle.endian.specs.Bytes.{beBytes, beAt, patch}
-use Rattle.little.specs.Bytes.{leBytes}
+use Rattle.endian_little.specs.Bytes.{leBytes}
 use Rattle.endian.specs.Fields.{Field, Span, write, spans}
 use Rattle.endian.proofs.Laws.{length-patch, take-patch, drop-patch}
 use Rattle.endian.proofs.Fields.{and-left, and-right, write-length}

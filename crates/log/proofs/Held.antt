@@ -7,7 +7,7 @@ use native.Mathlib.Omega.{arith}
 use lib.Dec.{T, leb, lit≤}
 use lib.ListN.{length, replicate, length-replicate}
 use Rattle.endian.specs.Bytes.{beBytes}
-use Rattle.little.specs.Bytes.{leBytes}
+use Rattle.endian_little.specs.Bytes.{leBytes}
 use Rattle.endian.specs.Fields.{Field, spans}
 use Rattle.structs.specs.Holds.{Holds}
 use Rattle.structs.proofs.Reading.{held}

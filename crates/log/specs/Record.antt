@@ -6,7 +6,7 @@ use Prim.Native.Nat.{ℕ, zero, suc, _+_, _*_, _-_, _/_, _^_, max}
 use lib.Dec.{leb, eqb}
 use lib.ListN.{replicate}
 use Rattle.endian.specs.Answer.{wrongLength}
-use Rattle.little.specs.Bytes.{leBytes}
+use Rattle.endian_little.specs.Bytes.{leBytes}
 use Rattle.endian.specs.Fields.{Field, field, run, write}
 use Rattle.structs.specs.Written.{null32, require}
 

@@ -128,7 +128,7 @@ pub(crate) fn unmount(rec: &mut [u8], cycle: u32)
     endian::put32(rec, 516, 8);
     endian::put8(rec, 520, CLIENT_LOG);
     endian::put8(rec, 521, UNMOUNT_TRANS);
-    little::put_le16(rec, 524, UNMOUNT_TYPE);
+    endian_little::put_le16(rec, 524, UNMOUNT_TYPE);
 }
 
 // The cycle goes into the first word of each basic block behind the unmount record.

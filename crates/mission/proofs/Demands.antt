@@ -9,31 +9,31 @@ use lib.Dec.{eqb}
 use borrow.Author.Tests.{eqb-true}
 use Rattle.endian.specs.Answer.{room, answer, chosen, Put}
 use Rattle.structs.specs.Written.{Written}
-use Rattle.castagnoli.specs.Register.{crcBit, crcBits, crcBytes}
+use Rattle.crc_register.specs.Register.{crcBit, crcBits, crcBytes}
 use Rattle.crc.specs.Crc.{crc32cOf}
 use Rattle.crc.proofs.Laws.{length-stamped, stamped-verifies}
 use Rattle.geometry.specs.Compute.{chosenOf, refusalOf, geometryOf, computeDef}
 use Rattle.geometry.proofs.Answer.{number-of}
-use Rattle.answers.proofs.Again.{again}
-use Rattle.answers.proofs.Exact.{exact}
-use Rattle.layout.proofs.Bounding.{answered-bounds}
-use Rattle.layout.proofs.Sizings.{step-old}
-use Rattle.closed.proofs.Planning.{closed-plan, roomy-planned}
-use Rattle.uses.proofs.OneUse.{one-use, rmap-agrees}
+use Rattle.geometry_answers.proofs.Again.{again}
+use Rattle.geometry_answers.proofs.Exact.{exact}
+use Rattle.geometry_layout.proofs.Bounding.{answered-bounds}
+use Rattle.geometry_layout.proofs.Sizings.{step-old}
+use Rattle.plan_closed.proofs.Planning.{closed-plan, roomy-planned}
+use Rattle.plan_uses.proofs.OneUse.{one-use, rmap-agrees}
 use Rattle.seqs.proofs.Laws.{choose-elim}
 use Rattle.request.specs.declared.Request.{Request}
 use Rattle.request.specs.Parse.{parseDef}
 use Rattle.run.specs.declared.Run.{Run}
 use Rattle.run.specs.Runs.{runNumber, runOf, accepted}
-use Rattle.accepted.proofs.Parsed.{accepted-run}
+use Rattle.list_accepted.proofs.Parsed.{accepted-run}
 use Rattle.stations.specs.Stations.{stations}
-use Rattle.accepted.proofs.Stations.{k1-accepted}
-use Rattle.accepted.proofs.Heads.{run-ordered, run-left}
-use Rattle.writelaws.proofs.Whole.{input-whole}
-use Rattle.exact.specs.Disk.{formatted}
-use Rattle.exact.proofs.Sizings.{reported-plain, reported-old}
-use Rattle.exact.proofs.Numbers.{first-numbers, group-numbers, log-numbers}
-use Rattle.exact.proofs.Disk.{exact-records}
+use Rattle.list_accepted.proofs.Stations.{k1-accepted}
+use Rattle.list_accepted.proofs.Heads.{run-ordered, run-left}
+use Rattle.list_laws.proofs.Whole.{input-whole}
+use Rattle.reader_exact.specs.Disk.{formatted}
+use Rattle.reader_exact.proofs.Sizings.{reported-plain, reported-old}
+use Rattle.reader_exact.proofs.Numbers.{first-numbers, group-numbers, log-numbers}
+use Rattle.reader_exact.proofs.Disk.{exact-records}
 use Rattle.mission.specs.Mission.{Demand1, Demand2, Demand3}
 use Rattle.mission.proofs.Geometries.{own-sectors, is-answer, label-size, refused-plans}
 use Rattle.mission.proofs.Leaving.{first-head, other-head, log-block}

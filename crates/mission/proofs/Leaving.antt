@@ -7,16 +7,16 @@ use Prim.Native.Nat.{ℕ, _<_}
 use Rattle.geometry.specs.declared.Geometry.{Geometry}
 use Rattle.plan.specs.declared.Planned.{Planned}
 use Rattle.plan.specs.Plan.{planned}
-use Rattle.device.specs.Device.{Device}
-use Rattle.written.specs.Listing.{logBlock, headLeft}
-use Rattle.accepted.specs.Accepted.{Source}
-use Rattle.exact.specs.declared.Found.{Found}
-use Rattle.exact.specs.Read.{found, readGroup0, readGroup, readLog}
-use Rattle.exact.specs.Left.{Octets, Handed, Left, LeftLog}
-use Rattle.exact.specs.Disk.{headOn, logOn, formatted}
-use Rattle.exact.proofs.Disk.{head-formatted, log-formatted}
-use Rattle.exact.proofs.First.{accepts-first}
-use Rattle.exact.proofs.Others.{group-sound, complete-group, exact-log}
+use Rattle.list_device.specs.Device.{Device}
+use Rattle.list_spec.specs.Listing.{logBlock, headLeft}
+use Rattle.list_accepted.specs.Accepted.{Source}
+use Rattle.reader_exact.specs.declared.Found.{Found}
+use Rattle.reader_exact.specs.Read.{found, readGroup0, readGroup, readLog}
+use Rattle.reader_exact.specs.Left.{Octets, Handed, Left, LeftLog}
+use Rattle.reader_exact.specs.Disk.{headOn, logOn, formatted}
+use Rattle.reader_exact.proofs.Disk.{head-formatted, log-formatted}
+use Rattle.reader_exact.proofs.First.{accepts-first}
+use Rattle.reader_exact.proofs.Others.{group-sound, complete-group, exact-log}
 use Rattle.mission.specs.Mission.Words.{Leaves, LeavesLog, SomeLeaves}
 
 module _ (g : Geometry) (u xs : List ℕ) where

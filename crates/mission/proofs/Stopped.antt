@@ -9,23 +9,23 @@ use lib.Seq.{take-append-le}
 use Rattle.request.specs.declared.Request.{Request}
 use Rattle.run.specs.declared.Run.{Run}
 use Rattle.run.specs.Runs.{runOf}
-use Rattle.records.specs.Records.{Record, FL}
-use Rattle.records.proofs.Sums.{count-total}
-use Rattle.device.specs.Device.{Device, applied}
-use Rattle.written.specs.Listing.{headerRecords, closing, listOf, recordCount}
-use Rattle.written.specs.Left.{unfinished}
-use Rattle.written.proofs.Counts.{list-count, closing-total}
-use Rattle.written.proofs.Parts.{list-parts}
-use Rattle.accepted.specs.Accepted.{AcceptedRun}
-use Rattle.accepted.proofs.Runs.{source-of}
-use Rattle.accepted.proofs.Sound.{sound}
-use Rattle.accepted.proofs.Heads.{run-finished}
-use Rattle.exact.specs.Read.{readGroup0, readGroup, readLog}
-use Rattle.exact.specs.Left.{reported}
-use Rattle.exact.specs.Disk.{headOn, formatted}
-use Rattle.exact.proofs.Heads.{some-group}
-use Rattle.exact.proofs.Disk.{head-formatted, log-formatted, cut-refused}
-use Rattle.exact.proofs.Recovery.{recovered}
+use Rattle.list_records.specs.Records.{Record, FL}
+use Rattle.list_records.proofs.Sums.{count-total}
+use Rattle.list_device.specs.Device.{Device, applied}
+use Rattle.list_spec.specs.Listing.{headerRecords, closing, listOf, recordCount}
+use Rattle.list_spec.specs.Left.{unfinished}
+use Rattle.list_spec.proofs.Counts.{list-count, closing-total}
+use Rattle.list_spec.proofs.Parts.{list-parts}
+use Rattle.list_accepted.specs.Accepted.{AcceptedRun}
+use Rattle.list_accepted.proofs.Runs.{source-of}
+use Rattle.list_accepted.proofs.Sound.{sound}
+use Rattle.list_accepted.proofs.Heads.{run-finished}
+use Rattle.reader_exact.specs.Read.{readGroup0, readGroup, readLog}
+use Rattle.reader_exact.specs.Left.{reported}
+use Rattle.reader_exact.specs.Disk.{headOn, formatted}
+use Rattle.reader_exact.proofs.Heads.{some-group}
+use Rattle.reader_exact.proofs.Disk.{head-formatted, log-formatted, cut-refused}
+use Rattle.reader_exact.proofs.Recovery.{recovered}
 use Rattle.mission.specs.Mission.Words.{beforeFinished, stopped, ReadBack}
 
 module _ (run : Run) (device : ℕ) where

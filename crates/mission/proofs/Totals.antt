@@ -5,16 +5,16 @@ use mathlib.Core.List.{List}
 use Prim.Native.Nat.{ℕ, _+_, _*_, _<_}
 use native.Mathlib.Omega.{arith}
 use Rattle.geometry.specs.declared.Geometry.{Geometry}
-use Rattle.layout.specs.Places.{groupBlocks}
-use Rattle.written.specs.Listing.{headBlocks}
-use Rattle.accepted.proofs.Runs.{source-plans, source-label, source-uuid}
-use Rattle.exact.specs.Read.{readGroup0}
-use Rattle.exact.specs.Left.{Octets, ReadWhole}
-use Rattle.exact.proofs.Whole.{whole-source, whole-heads}
-use Rattle.decoded.specs.Decoded.{logIn, countIn}
-use Rattle.byuse.specs.ByUse.{usesIn, Once, freeTotal, listTotal, chunkTotal, LeftHeads}
-use Rattle.byuse.proofs.Totals.{free-total, disk-total}
-use Rattle.byuse.proofs.OneUse.{one-use}
+use Rattle.geometry_layout.specs.Places.{groupBlocks}
+use Rattle.list_spec.specs.Listing.{headBlocks}
+use Rattle.list_accepted.proofs.Runs.{source-plans, source-label, source-uuid}
+use Rattle.reader_exact.specs.Read.{readGroup0}
+use Rattle.reader_exact.specs.Left.{Octets, ReadWhole}
+use Rattle.reader_exact.proofs.Whole.{whole-source, whole-heads}
+use Rattle.reader_decoded.specs.Decoded.{logIn, countIn}
+use Rattle.reader_uses.specs.ByUse.{usesIn, Once, freeTotal, listTotal, chunkTotal, LeftHeads}
+use Rattle.reader_uses.proofs.Totals.{free-total, disk-total}
+use Rattle.reader_uses.proofs.OneUse.{one-use}
 
 module _ (heads : ℕ → List ℕ) (log : List ℕ) (o : Octets (heads 0)) (r : ReadWhole heads log) (g : Geometry) (e : readGroup0 (heads 0) .geometry ≡ g) where
   abbrev its : Geometry

@@ -11,8 +11,8 @@ use lib.ListN.{length, length-append}
 use Rattle.seqs.specs.Lists.{choose, Store, packed, pushed, appended, upFrom}
 use Rattle.seqs.proofs.Laws.{appended-append, appended-packed, upFrom-step}
 use Rattle.btree.specs.declared.records.AllocRec.{AllocRec}
-use Rattle.rmap.specs.Rmap as Rmap
-use Rattle.site.specs.declared.Site.{Site}
+use Rattle.plan_rmap.specs.Rmap as Rmap
+use Rattle.plan_site.specs.declared.Site.{Site}
 use Rattle.plan.specs.Plan.{least, gap, headMap, refcMap, logMap, mapRec, ownRefc, ownLog}
 
 length-if : {A : Type 0} (b : Bool) (x : A) → length (choose b (x ∷ []) []) ≤ 1

@@ -11,16 +11,16 @@ use Rattle.geometry.specs.declared.Geometry.{Geometry}
 use Rattle.btree.specs.declared.records.AllocRec.{AllocRec}
 use Rattle.btree.specs.declared.records.RmapRec.{RmapRec}
 use Rattle.btree.specs.Owners.{negative}
-use Rattle.places.specs.Answers.{groupRefusal}
-use Rattle.site.specs.declared.Site.{Site}
-use Rattle.site.specs.Sites.{siteOf}
-use Rattle.free.specs.declared.FreeList.{FreeList}
-use Rattle.free.specs.declared.Taken.{Taken}
-use Rattle.free.specs.declared.Choice.{Choice}
-use Rattle.free.specs.Free.{packFree, taken, picked}
-use Rattle.rmap.specs.declared.RmapList.{RmapList}
-use Rattle.rmap.specs.declared.Inserted.{Inserted}
-use Rattle.rmap.specs.Rmap.{packRmap, inserted}
+use Rattle.geometry_places.specs.Answers.{groupRefusal}
+use Rattle.plan_site.specs.declared.Site.{Site}
+use Rattle.plan_site.specs.Sites.{siteOf}
+use Rattle.plan_free.specs.declared.FreeList.{FreeList}
+use Rattle.plan_free.specs.declared.Taken.{Taken}
+use Rattle.plan_free.specs.declared.Choice.{Choice}
+use Rattle.plan_free.specs.Free.{packFree, taken, picked}
+use Rattle.plan_rmap.specs.declared.RmapList.{RmapList}
+use Rattle.plan_rmap.specs.declared.Inserted.{Inserted}
+use Rattle.plan_rmap.specs.Rmap.{packRmap, inserted}
 use Rattle.plan.specs.declared.Agfl.{Agfl}
 use Rattle.plan.specs.declared.Work.{Work}
 use Rattle.plan.specs.declared.AgPlan.{AgPlan}

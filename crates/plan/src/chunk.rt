@@ -7,14 +7,14 @@ use crate::fill::finish;
 use crate::fill::note_owner;
 use btree::owner;
 use btree::records::RmapRec;
-use site::Site;
+use plan_site::Site;
 
 pub(crate) fn take_chunk(s: Site, w: Work) -> Work
     ensures { λ x. ⌜ x ≡ chunked s w ⌝ }
 {
     if w.number == 0 {
         let free = w.free;
-        let t = free::take(free, s.chunk_at as u64, s.chunk_blocks as u64);
+        let t = plan_free::take(free, s.chunk_at as u64, s.chunk_blocks as u64);
         let number = t.number;
         if number == 0 {
             let list = t.list;

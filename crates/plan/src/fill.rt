@@ -8,9 +8,9 @@ use crate::Agfl;
 use crate::Work;
 use btree::owner;
 use btree::records::RmapRec;
-use free::FreeList;
-use rmap::Inserted;
-use rmap::RmapList;
+use plan_free::FreeList;
+use plan_rmap::Inserted;
+use plan_rmap::RmapList;
 
 pub(crate) fn no_blocks() -> Agfl
     ensures { λ r. ⌜ r ≡ packAgfl [] ⌝ }
@@ -63,7 +63,7 @@ pub(crate) fn note_owner(on: bool, l: RmapList, r: RmapRec) -> Inserted
     ensures { λ x. ⌜ x ≡ mapped on l r ⌝ }
 {
     if on {
-        return rmap::rmap_insert(l, r);
+        return plan_rmap::rmap_insert(l, r);
     }
     Inserted { number: 0, list: l }
 }
@@ -93,7 +93,7 @@ fn move_blocks(w: Work, start: u32, n: u32) -> Work
     ensures { λ x. ⌜ x ≡ moved w start n ⌝ }
 {
     let free = w.free;
-    let t = free::take(free, start as u64, n as u64);
+    let t = plan_free::take(free, start as u64, n as u64);
     let number = t.number;
     if number == 0 {
         let list = t.list;
@@ -127,7 +127,7 @@ fn one_turn(w: Work) -> Work
             return w;
         }
         let free = w.free;
-        let c = free::pick(free, want as u64);
+        let c = plan_free::pick(free, want as u64);
         let found = c.found;
         if found {
             let r = c.rec;

@@ -2,18 +2,18 @@
 ghost use mathlib.Core.Path.{_≡_};
 ghost use Prim.Native.Nat.{_+_};
 ghost use Rattle.seqs.specs.Lists.{appended};
-ghost use Rattle.free.specs.Free.{packFree, ofFree, toFree};
-ghost use Rattle.rmap.specs.Rmap.{packRmap, ofRmap, toRmap};
-ghost use Rattle.site.specs.Sites.{Sound};
+ghost use Rattle.plan_free.specs.Free.{packFree, ofFree, toFree};
+ghost use Rattle.plan_rmap.specs.Rmap.{packRmap, ofRmap, toRmap};
+ghost use Rattle.plan_site.specs.Sites.{Sound};
 ghost use Rattle.plan.specs.Plan.{gap, freeAtFirst, headMap, refcMap, logMap, rmapAtFirst, atFirst};
 use crate::Work;
 use crate::fill::no_blocks;
 use btree::owner;
 use btree::records::AllocRec;
 use btree::records::RmapRec;
-use free::FreeList;
-use rmap::RmapList;
-use site::Site;
+use plan_free::FreeList;
+use plan_rmap::RmapList;
+use plan_site::Site;
 
 // The free record from a up to b, if there is one.
 fn put_gap(l: FreeList, a: u32, b: u32) -> FreeList
@@ -24,7 +24,7 @@ fn put_gap(l: FreeList, a: u32, b: u32) -> FreeList
             start: a,
             count: b - a,
         };
-        return free::push(l, r);
+        return plan_free::push(l, r);
     }
     l
 }
@@ -34,7 +34,7 @@ fn first_free(s: Site) -> FreeList
     requires { ⌜ Sound s ⌝ }
     ensures { λ x. ⌜ x ≡ packFree (freeAtFirst s) ⌝ }
 {
-    let none = free::empty();
+    let none = plan_free::empty();
     if s.has_log {
         let one = put_gap(none, s.head, s.log_at);
         return put_gap(one, s.log_at + s.log_blocks, s.length);
@@ -43,7 +43,7 @@ fn first_free(s: Site) -> FreeList
         start: s.head,
         count: s.length - s.head,
     };
-    free::push(none, r)
+    plan_free::push(none, r)
 }
 
 // The head by its parts.
@@ -51,7 +51,7 @@ fn put_head(l: RmapList, s: Site) -> RmapList
     requires { ⌜ Sound s ⌝ }
     ensures { λ x. ⌜ x ≡ toRmap (appended (ofRmap l) (headMap s)) ⌝ }
 {
-    let a = rmap::push(
+    let a = plan_rmap::push(
         l,
         RmapRec {
             start: 0,
@@ -59,7 +59,7 @@ fn put_head(l: RmapList, s: Site) -> RmapList
             owner: owner::FS,
         },
     );
-    let b = rmap::push(
+    let b = plan_rmap::push(
         a,
         RmapRec {
             start: s.bno,
@@ -67,7 +67,7 @@ fn put_head(l: RmapList, s: Site) -> RmapList
             owner: owner::AG,
         },
     );
-    let c = rmap::push(
+    let c = plan_rmap::push(
         b,
         RmapRec {
             start: s.ibt,
@@ -75,7 +75,7 @@ fn put_head(l: RmapList, s: Site) -> RmapList
             owner: owner::INOBT,
         },
     );
-    rmap::push(
+    plan_rmap::push(
         c,
         RmapRec {
             start: s.rmap_at,
@@ -94,7 +94,7 @@ fn put_refc(l: RmapList, s: Site) -> RmapList
             count: 1,
             owner: owner::REFC,
         };
-        return rmap::push(l, r);
+        return plan_rmap::push(l, r);
     }
     l
 }
@@ -108,7 +108,7 @@ fn put_log(l: RmapList, s: Site) -> RmapList
             count: s.log_blocks,
             owner: owner::LOG,
         };
-        return rmap::push(l, r);
+        return plan_rmap::push(l, r);
     }
     l
 }
@@ -117,7 +117,7 @@ fn first_rmap(s: Site) -> RmapList
     requires { ⌜ Sound s ⌝ }
     ensures { λ x. ⌜ x ≡ packRmap (rmapAtFirst s) ⌝ }
 {
-    let none = rmap::empty();
+    let none = plan_rmap::empty();
     if s.rmapbt {
         let a = put_head(none, s);
         let b = put_refc(a, s);

@@ -1,7 +1,7 @@
 // The plan of an allocation group: what mkfs.xfs leaves of its blocks.
 // The types stand here; the functions stand in the modules, in the order in which a plan is made.
 ghost use mathlib.Core.Path.{_≡_};
-ghost use Rattle.site.specs.Sites.{Sound};
+ghost use Rattle.plan_site.specs.Sites.{Sound};
 ghost use Rattle.plan.specs.Plan.{refusedPlan, answer, planOf, planned};
 
 pub mod first; // first.rt: the records before anything is taken
@@ -12,12 +12,12 @@ use crate::chunk::take_chunk;
 use crate::fill::fill_list;
 use crate::fill::no_blocks;
 use crate::first::start_work;
-use free::FreeList;
 use geometry::Geometry;
 use params::OptU64;
-use rmap::RmapList;
-use site::Site;
-use site::site_of;
+use plan_free::FreeList;
+use plan_rmap::RmapList;
+use plan_site::Site;
+use plan_site::site_of;
 
 // Blocks on the free list, in its order: the first `len` of `blocks`.
 pub struct Agfl {
@@ -55,9 +55,9 @@ pub struct Planned {
 fn refuse(n: u32) -> Planned
     ensures { λ r. ⌜ r ≡ refusedPlan n ⌝ }
 {
-    let free = free::empty();
+    let free = plan_free::empty();
     let agfl = no_blocks();
-    let rmap = rmap::empty();
+    let rmap = plan_rmap::empty();
     let chunk = OptU64::Absent;
     let plan = AgPlan {
         agno: 0,

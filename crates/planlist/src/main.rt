@@ -1,11 +1,11 @@
 // Reads input records from standard input and prints the plan of every group in a table, or `refused N`.
-// The table's numbers come from `summary`, its lines from `lines`; here they are only read, put in a row and written.
+// The table's numbers come from `plan_summary`, its lines from `table_lines`; here they are only read, put in a row and written.
 ghost use Prim.Native.Nat.{_<_};
 use libc::STDIN_FILENO;
 use libc::STDOUT_FILENO;
-use lines::Row;
-use lines::Sums;
-use summary::Summary;
+use plan_summary::Summary;
+use table_lines::Row;
+use table_lines::Sums;
 
 // What was read, and whether there may be more.
 struct Input {
@@ -67,7 +67,7 @@ fn flush(buf: &[u8], end: usize) -> bool {
 fn turn(s: Summary, at: Place, buf: &mut [u8]) -> Place
     requires { ⌜ at .k < s .agcount ⌝ }
 {
-    let row = summary::row_at(s, at.k);
+    let row = plan_summary::row_at(s, at.k);
     let line = Row {
         group: row.group,
         length: row.length,
@@ -77,7 +77,7 @@ fn turn(s: Summary, at: Place, buf: &mut [u8]) -> Place
         free: row.free,
         longest: row.longest,
     };
-    let w = lines::put_row(line, buf, at.end);
+    let w = table_lines::put_row(line, buf, at.end);
     if w.number != 0 {
         let written = flush(buf, at.end);
         return Place {
@@ -110,20 +110,20 @@ fn put_rows(s: Summary, begin: usize, buf: &mut [u8]) -> Place {
 
 // The line of the sums, behind the groups' or in a buffer that they left empty.
 fn put_last(sums: Sums, end: usize, buf: &mut [u8]) -> bool {
-    let w = lines::put_total(sums, buf, end);
+    let w = table_lines::put_total(sums, buf, end);
     if w.number == 0 {
         return flush(buf, w.end);
     }
     if !flush(buf, end) {
         return false;
     }
-    let again = lines::put_total(sums, buf, 0);
+    let again = table_lines::put_total(sums, buf, 0);
     flush(buf, again.end)
 }
 
 // The whole table; false where a write failed.
 fn print_table(s: Summary, buf: &mut [u8]) -> bool {
-    let h = lines::put_header(buf, 0);
+    let h = table_lines::put_header(buf, 0);
     let at = put_rows(s, h.end, buf);
     if at.failed {
         return false;
@@ -140,7 +140,7 @@ fn print_table(s: Summary, buf: &mut [u8]) -> bool {
 }
 
 fn print_refused(number: u32, buf: &mut [u8]) -> bool {
-    let w = lines::put_refused(number as u64, buf, 0);
+    let w = table_lines::put_refused(number as u64, buf, 0);
     flush(buf, w.end)
 }
 
@@ -151,7 +151,7 @@ fn answer(input: &[u8], buf: &mut [u8]) -> bool {
         return print_refused(r.number, buf);
     }
     let g = r.geometry;
-    let s = summary::summary_of(g);
+    let s = plan_summary::summary_of(g);
     let table = s.summary;
     print_table(table, buf)
 }

@@ -1,17 +1,17 @@
 // One pass over a disk: every head and the log's first block, taken in order.
 ghost use mathlib.Core.Path.{_≡_};
-ghost use Rattle.disk.specs.Parts.{headTaken};
+ghost use Rattle.reader_disk.specs.Parts.{headTaken};
 use crate::WHOLE;
 use crate::input::fill;
-use disk::Disk;
 use geometry::Geometry;
-use named::LEAST_SECTOR;
-use named::named_by;
-use places::GroupBlock;
-use places::ToByteOffset;
-use places::units::agb_to_byte;
-use shared::head_left;
-use shared::head_length;
+use geometry_places::GroupBlock;
+use geometry_places::ToByteOffset;
+use geometry_places::units::agb_to_byte;
+use group_bytes::head_left;
+use group_bytes::head_length;
+use reader_disk::Disk;
+use reader_names::LEAST_SECTOR;
+use reader_names::named_by;
 
 // How it stands with the reading, the last place that was read (a group, or the number of groups for the log's block), and the disk as far
 // as it is read.
@@ -47,15 +47,15 @@ fn take_next(d: Disk, work: &mut [u8], head: &[u8]) -> Disk
     let g = d.geometry;
     let uuid = d.uuid;
     if head_left(g, uuid, d.next, work) != 0 {
-        return disk::take_head(d, head);
+        return reader_disk::take_head(d, head);
     }
-    disk::take_compared(d, work, head)
+    reader_disk::take_compared(d, work, head)
 }
 
 // Group 0's head.
 pub(crate) fn begin(fd: i32, buf: &mut [u8]) -> Pass {
     let stop = fill(fd, 0, buf);
-    let disk = disk::start(buf);
+    let disk = reader_disk::start(buf);
     Pass {
         stop,
         place: 0,
@@ -101,7 +101,7 @@ fn take_block(fd: i32, p: Pass, block: &mut [u8]) -> Pass {
     let g = d.geometry;
     let place = agb_to_byte(g, GroupBlock(g.logagno, g.log_agbno));
     let stop = fill(fd, byte_of(place), block);
-    let disk = disk::take_log(d, block);
+    let disk = reader_disk::take_log(d, block);
     Pass {
         stop,
         place: g.agcount,

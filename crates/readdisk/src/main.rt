@@ -1,7 +1,7 @@
 // Reads the disk or image that PATH names and prints planlist's table of it, or `refused N`. It is opened for reading alone.
-// `disk` says whether an accepted run leaves it, and `summary` gives the rows of the geometry that its superblock names; here bytes
+// `reader_disk` says whether an accepted run leaves it, and `plan_summary` gives the rows of the geometry that its superblock names; here bytes
 // are only read, and lines written. No line is printed before every head and the log's block are accepted; what the bytes of such
-// a disk say of a group is its row (`whole-printed`, crate byuse).
+// a disk say of a group is its row (`whole-printed`, crate reader_uses).
 mod heads; // the heads and the log's block
 mod input; // reading
 mod printed; // the table
@@ -54,14 +54,14 @@ fn answer(p: Pass) -> u8 {
     let d = p.disk;
     let g = d.geometry;
     let uuid = d.uuid;
-    let v = disk::finish(d);
+    let v = reader_disk::finish(d);
     if v.number != 0 {
         words::say_place(v.place, g.agcount);
         words::say_refused();
         return printed::print_refused(v.number);
     }
     words::say_disk(g, uuid);
-    let s = summary::summary_of(g);
+    let s = plan_summary::summary_of(g);
     let table = s.summary;
     printed::print_table(table)
 }

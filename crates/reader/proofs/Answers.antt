@@ -11,14 +11,14 @@ use Rattle.arith.specs.Choice.{when}
 use Rattle.refusals.specs.Table.{first}
 use Rattle.geometry.specs.declared.Geometry.{Geometry}
 use Rattle.geometry.specs.Compute.{zeroGeometry}
-use Rattle.answers.specs.Named.{isAnswer}
+use Rattle.geometry_answers.specs.Named.{isAnswer}
 use Rattle.plan.specs.declared.Planned.{Planned}
 use Rattle.plan.specs.Plan.{refusedPlan, planned}
-use Rattle.totals.specs.Totals.{plansNumber}
-use Rattle.sameplan.specs.Same.{eqList}
-use Rattle.named.specs.Named.{namedBy, uuidAt}
-use Rattle.exact.specs.declared.Found.{Found}
-use Rattle.exact.specs.Read.{notFound, found, firstTests, foundAs, readAs, placeTests, groupNumber, readGroup}
+use Rattle.plan_totals.specs.Totals.{plansNumber}
+use Rattle.plan_same.specs.Same.{eqList}
+use Rattle.reader_names.specs.Named.{namedBy, uuidAt}
+use Rattle.reader_exact.specs.declared.Found.{Found}
+use Rattle.reader_exact.specs.Read.{notFound, found, firstTests, foundAs, readAs, placeTests, groupNumber, readGroup}
 
 -- ---- any group
 

@@ -9,17 +9,17 @@ use borrow.Author.Tests.{lt-ltb, le-ltb}
 use lib.ListN.{length}
 use Rattle.seqs.specs.Lists.{choose}
 use Rattle.geometry.specs.declared.Computed.{Computed}
-use Rattle.answers.specs.Named.{isAnswer}
-use Rattle.answers.proofs.Exact.{complete}
-use Rattle.layout.proofs.Bounding.{answer-bounds}
+use Rattle.geometry_answers.specs.Named.{isAnswer}
+use Rattle.geometry_answers.proofs.Exact.{complete}
+use Rattle.geometry_layout.proofs.Bounding.{answer-bounds}
 use Rattle.plan.specs.declared.Planned.{Planned}
 use Rattle.plan.specs.Plan.{planned}
-use Rattle.named.specs.Named.{namedBy, uuidAt}
-use Rattle.named.proofs.Answer.{named-answered, named-label}
-use Rattle.named.specs.Read.{namedRead, uuidRead}
-use Rattle.named.proofs.Laws.{full-name, full-uuid}
-use Rattle.exact.specs.Read.{notFound, found, readAs, lesser, readGroup0, groupNumber}
-use Rattle.exact.specs.declared.Found.{Found}
+use Rattle.reader_names.specs.Named.{namedBy, uuidAt}
+use Rattle.reader_names.proofs.Answer.{named-answered, named-label}
+use Rattle.reader_names.specs.Read.{namedRead, uuidRead}
+use Rattle.reader_names.proofs.Laws.{full-name, full-uuid}
+use Rattle.reader_exact.specs.Read.{notFound, found, readAs, lesser, readGroup0, groupNumber}
+use Rattle.reader_exact.specs.declared.Found.{Found}
 use Rattle.reader.proofs.Answers.{not-named, refused-first, accepted-first}
 
 module _ (roomy : Bool) (xs : List ℕ) (l : 512 ≤ length xs) (r : Computed) (e : r ≡ namedRead roomy xs) where

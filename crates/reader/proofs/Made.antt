@@ -14,16 +14,16 @@ use Rattle.refusals.specs.Table.{first}
 use Rattle.structs.specs.Written.{Written}
 use Rattle.structs.proofs.Written.{written-in}
 use Rattle.geometry.specs.declared.Geometry.{Geometry}
-use Rattle.answers.specs.Named.{isAnswer}
-use Rattle.totals.specs.Totals.{plansNumber}
-use Rattle.headbytes.specs.Head.{headLength}
-use Rattle.written.specs.Listing.{headLeft, logBlock}
-use Rattle.shared.specs.Answers.{headRefusal, logRefusal}
-use Rattle.shared.proofs.Accepted.{bounded, size-most, head-most}
-use Rattle.shared.proofs.Made.{head-fits}
-use Rattle.shared.proofs.Logging.{block-fits}
-use Rattle.exact.specs.Read.{placeTests, groupNumber, readLog}
-use Rattle.compare.specs.Places.{comparedNumber}
+use Rattle.geometry_answers.specs.Named.{isAnswer}
+use Rattle.plan_totals.specs.Totals.{plansNumber}
+use Rattle.head_bytes.specs.Head.{headLength}
+use Rattle.list_spec.specs.Listing.{headLeft, logBlock}
+use Rattle.group_bytes.specs.Answers.{headRefusal, logRefusal}
+use Rattle.group_bytes.proofs.Accepted.{bounded, size-most, head-most}
+use Rattle.group_bytes.proofs.Made.{head-fits}
+use Rattle.group_bytes.proofs.Logging.{block-fits}
+use Rattle.reader_exact.specs.Read.{placeTests, groupNumber, readLog}
+use Rattle.reader_compare.specs.Places.{comparedNumber}
 
 -- as much of a buffer as there are bytes to compare
 pub room-for : {m : ℕ} (xs work : List ℕ) → length xs ≤ m → m ≡ length work → length (take (length xs) work) ≡ length xs

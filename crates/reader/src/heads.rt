@@ -2,11 +2,11 @@
 ghost use mathlib.Core.Path.{_≡_};
 ghost use Prim.Native.Nat.{_≤_};
 ghost use lib.ListN.{length};
-ghost use Rattle.exact.specs.Read.{groupNumber};
-use compare::compare_head;
+ghost use Rattle.reader_exact.specs.Read.{groupNumber};
 use geometry::Geometry;
-use shared::LARGEST_HEAD;
-use shared::head_left;
+use group_bytes::LARGEST_HEAD;
+use group_bytes::head_left;
+use reader_compare::compare_head;
 
 // A head of 10 blocks of 4096 bytes.
 const SMALL_HEAD: usize = 40960;

@@ -2,32 +2,32 @@
 // from it, and the two are compared.
 ghost use mathlib.Core.Path.{_≡_};
 ghost use Rattle.plan.specs.Plan.{refusedPlan};
-ghost use Rattle.exact.specs.Read.{notFound, readAs, readGroup0, readGroup, readLog};
+ghost use Rattle.reader_exact.specs.Read.{notFound, readAs, readGroup0, readGroup, readLog};
 
 pub mod heads; // heads.rt: a head, made and compared
 pub mod logs; // logs.rt: the log's first block, made and compared
 
 use crate::heads::group_number;
 use crate::logs::log_number;
-use compare::NOT_LEFT;
-use compare::WRONG_LENGTH;
-use exact::Found;
 use geometry::Geometry;
-use named::named_by;
-use named::uuid_of;
 use params::OptU64;
 use plan::AgPlan;
 use plan::Agfl;
 use plan::Planned;
 use plan::plan_ag;
+use reader_compare::NOT_LEFT;
+use reader_compare::WRONG_LENGTH;
+use reader_exact::Found;
+use reader_names::named_by;
+use reader_names::uuid_of;
 
 fn no_plan(n: u32) -> Planned
     ensures { λ r. ⌜ r ≡ refusedPlan n ⌝ }
 {
-    let free = free::empty();
+    let free = plan_free::empty();
     let blocks = [0u32; 64];
     let agfl = Agfl { blocks, len: 0 };
-    let rmap = rmap::empty();
+    let rmap = plan_rmap::empty();
     let chunk = OptU64::Absent;
     let plan = AgPlan {
         agno: 0,
@@ -59,7 +59,7 @@ fn not_found(n: u32) -> Found
 fn read_as(head: &[u8], roomy: bool) -> Found
     ensures { λ r. ⌜ r ≡ readAs roomy (now (head .entry)) ⌝ }
 {
-    if head.len() < named::LEAST_SECTOR {
+    if head.len() < reader_names::LEAST_SECTOR {
         return not_found(WRONG_LENGTH);
     }
     let named = named_by(head, roomy);

@@ -2,10 +2,10 @@
 ghost use mathlib.Core.Path.{_≡_};
 ghost use Prim.Native.Nat.{_≤_};
 ghost use lib.ListN.{length};
-ghost use Rattle.exact.specs.Read.{readLog};
-use compare::place_number;
+ghost use Rattle.reader_exact.specs.Read.{readLog};
 use geometry::Geometry;
-use shared::log_block;
+use group_bytes::log_block;
+use reader_compare::place_number;
 
 // The largest block.
 const LARGEST_BLOCK: usize = 16384;

@@ -99,7 +99,7 @@ fn put_features(buf: &mut [u8], f: Features) {
 fn put_time(buf: &mut [u8], time: OptTime) {
     match time {
         OptTime::Given(t) => {
-            let stored = timestamp::encode_time(t, true);
+            let stored = inode_time::encode_time(t, true);
             put(buf, 27, 1);
             put(buf, 28, stored.number as u64);
             put(buf, 29, stored.value);

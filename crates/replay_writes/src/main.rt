@@ -44,20 +44,20 @@ fn work_room() -> [u8; 163840]
 // Chunk k in a buffer of its length, added to what was written.
 fn add_chunk(run: Run, device: u64, k: u64, whole: bool, s: Sum, part: &mut [u8]) -> Sum {
     let mut work = work_room();
-    let number = writes::write_chunk(run, device, k, &mut work, part);
+    let number = list_write::write_chunk(run, device, k, &mut work, part);
     if whole {
         io::write_all(STDOUT_FILENO, part);
     }
     Sum {
         number,
         length: std::num::wrapping_add_u64(s.length, part.len() as u64),
-        register: crctable::update(s.register, part),
+        register: crc_loops::update(s.register, part),
     }
 }
 
 // The next chunk; a chunk that has no room is refused.
 fn next_chunk(run: Run, device: u64, k: u64, whole: bool, s: Sum, buf: &mut [u8]) -> Sum {
-    let length = listing::chunk_length(run, k);
+    let length = list_lengths::chunk_length(run, k);
     let n = length.value as usize;
     if n <= buf.len() {
         return add_chunk(run, device, k, whole, s, &mut buf[0..n]);
@@ -71,7 +71,7 @@ fn next_chunk(run: Run, device: u64, k: u64, whole: bool, s: Sum, buf: &mut [u8]
 
 // All chunks, or those before the first that is refused.
 fn all_chunks(run: Run, device: u64, whole: bool, buf: &mut [u8]) -> Sum {
-    let count = listing::chunk_count(run);
+    let count = list_lengths::chunk_count(run);
     let n = count.value;
     let mut s = Sum {
         number: 0,

@@ -8,7 +8,7 @@ use native.Mathlib.Omega.{arith}
 use lib.ListN.{length}
 use Rattle.endian.specs.Bytes.{beAt}
 use Rattle.params.specs.declared.Params.{Params}
-use Rattle.input.specs.Records.{wellFormed}
+use Rattle.request_input.specs.Records.{wellFormed}
 use Rattle.request.specs.Options.{paramsOf}
 use Rattle.request.specs.Parse.{request, refusal, parseDef}
 use Rattle.request.proofs.Values.{device-inside}

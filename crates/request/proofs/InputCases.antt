@@ -6,7 +6,7 @@ use lib.IntN.{pos}
 use lib.ListN.{length, replicate}
 use Rattle.endian.specs.Bytes.{beBytes, beAt}
 use Rattle.params.specs.Params.{noOptions}
-use Rattle.input.specs.Records.{optionBits, fits, recordAt, split, records, lookup, sound, startsWithDevice, wellFormed}
+use Rattle.request_input.specs.Records.{optionBits, fits, recordAt, split, records, lookup, sound, startsWithDevice, wellFormed}
 use Rattle.request.specs.Options.{signed, featuresIn, labelAt, paramsOf}
 use Rattle.request.specs.Parse.{longestInput, request, parseDef}
 use Rattle.request.specs.Defaults.{uuidOf, timeOf, seedOf}

@@ -10,9 +10,9 @@ use lib.ListN.{length, getD, set, List·getD-map}
 use lib.Seq.{getD-set-other}
 use borrow.Author.Tests.{eqb-false, ltb-true, ltb-false, le-ltb, not-true}
 use Rattle.params.specs.Options.{given64}
-use Rattle.input.specs.declared.Record.{Record}
-use Rattle.input.specs.Records.{option, optionBits, fits, known, more, recordAt, split, records, found, lookup, sound, startsWithDevice, wellFormed}
-use Rattle.input.proofs.Marks.{record-all, record-ends}
+use Rattle.request_input.specs.declared.Record.{Record}
+use Rattle.request_input.specs.Records.{option, optionBits, fits, known, more, recordAt, split, records, found, lookup, sound, startsWithDevice, wellFormed}
+use Rattle.request_input.proofs.Marks.{record-all, record-ends}
 use Rattle.request.specs.Parse.{longestInput}
 use Rattle.request.proofs.Values.{first, other, never}
 

@@ -11,11 +11,11 @@ use borrow.Author.Tests.{eqb-true, ltb-true, le-ltb}
 use Rattle.params.specs.Options.{given64}
 use Rattle.params.specs.declared.OptU64.{OptU64}
 use Rattle.params.specs.declared.OptU64.the-variants.{Absent, Given}
-use Rattle.input.specs.declared.Record.{Record}
-use Rattle.input.specs.Records.{device, label, uuid, option, optionBits, fits, known, more, recordAt, split, records, found, lookup, sound, startsWithDevice, wellFormed}
+use Rattle.request_input.specs.declared.Record.{Record}
+use Rattle.request_input.specs.Records.{device, label, uuid, option, optionBits, fits, known, more, recordAt, split, records, found, lookup, sound, startsWithDevice, wellFormed}
 use Rattle.request.specs.Options.{holds, below, labelInside, uuidInside}
-use Rattle.input.proofs.Marks.{Inside, record-inside, first-inside}
-use Rattle.input.proofs.Splitting.{records-more, records-end}
+use Rattle.request_input.proofs.Marks.{Inside, record-inside, first-inside}
+use Rattle.request_input.proofs.Splitting.{records-more, records-end}
 
 pub first : (a b : Bool) → a && b ≡ true → a ≡ true
 first true b e = refl

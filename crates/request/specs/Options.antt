@@ -21,8 +21,8 @@ use Rattle.params.specs.declared.Label.{Label}
 use Rattle.params.specs.declared.Features.{Features}
 use Rattle.params.specs.declared.Params.{Params}
 use Rattle.params.specs.Params.{allFeatures, options, noLabel, noUuid}
-use Rattle.input.specs.declared.Record.{Record}
-use Rattle.input.specs.Records.{label, uuid, option, lookup, records}
+use Rattle.request_input.specs.declared.Record.{Record}
+use Rattle.request_input.specs.Records.{label, uuid, option, lookup, records}
 
 -- what holds of an option's number, if it is given
 abbrev pub holds : (ℕ → Type 0) → OptU64 → Type 0

@@ -7,7 +7,7 @@ use Rattle.endian.specs.Bytes.{beAt}
 use Rattle.params.specs.Params.{noOptions}
 use Rattle.params.specs.declared.Params.{Params}
 use Rattle.request.specs.declared.Request.{Request}
-use Rattle.input.specs.Records.{wellFormed}
+use Rattle.request_input.specs.Records.{wellFormed}
 use Rattle.request.specs.Options.{paramsOf}
 
 -- the refusal of malformed input records

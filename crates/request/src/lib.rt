@@ -44,7 +44,7 @@ pub fn input_buffer() -> [u8; 427]
 pub fn parse(input: &[u8]) -> Request
     ensures { λ r. ⌜ r ≡ parseDef (now (input .entry)) ⌝ }
 {
-    if !input::well_formed(input) {
+    if !request_input::well_formed(input) {
         return malformed();
     }
     let params = options::params_of(input);

@@ -4,12 +4,8 @@ ghost use mathlib.Core.Bool.{true};
 ghost use Prim.Native.Nat.{_+_, _≤_, _<_};
 ghost use lib.ListN.{length, getD};
 ghost use Rattle.endian.specs.Fields.{part};
-ghost use Rattle.input.specs.Records.{optionBits, records, lookup, wellFormed};
+ghost use Rattle.request_input.specs.Records.{optionBits, records, lookup, wellFormed};
 ghost use Rattle.request.specs.Options.{below, labelInside, uuidInside, short32, short8, signed, givenTime, timeGiven, on, featuresIn, featuresGiven, roomyGiven, labelAt, labelGiven, uuidGiven, paramsOf};
-use input::LABEL;
-use input::OPTION;
-use input::UUID;
-use input::value_of;
 use params::Features;
 use params::Label;
 use params::OptTime;
@@ -20,6 +16,10 @@ use params::OptUuid;
 use params::Params;
 use params::Presence;
 use params::Timestamp;
+use request_input::LABEL;
+use request_input::OPTION;
+use request_input::UUID;
+use request_input::value_of;
 
 // The codes.
 const SIZE: usize = 1;

@@ -133,7 +133,7 @@ fn command() -> [u8; 48] {
 // The checksum's bytes on the wire, as one number: the lowest byte goes first.
 fn wire(sum: u32) -> u32 {
     let mut bytes = [0u8; 4];
-    little::put_le32(&mut bytes, 0, sum);
+    endian_little::put_le32(&mut bytes, 0, sum);
     let r = endian::be32(&bytes, 0);
     r.value
 }

@@ -10,11 +10,11 @@ use Rattle.params.specs.declared.Timestamp.{Timestamp}
 use Rattle.geometry.specs.declared.Geometry.{Geometry}
 use Rattle.geometry.specs.declared.Computed.{Computed}
 use Rattle.geometry.specs.Compute.{zeroGeometry, computeDef}
-use Rattle.timestamp.specs.Time.{timeNumber}
+use Rattle.inode_time.specs.Time.{timeNumber}
 use Rattle.request.specs.declared.Request.{Request}
 use Rattle.request.specs.Parse.{parseDef}
 use Rattle.request.specs.Defaults.{uuidOf, timeOf, seedOf}
-use Rattle.totals.specs.Totals.{plansNumber}
+use Rattle.plan_totals.specs.Totals.{plansNumber}
 use Rattle.run.specs.declared.Run.{Run}
 
 -- the first of two numbers that isn't 0

@@ -1,16 +1,16 @@
 // A run: what the input records ask for, accepted where its geometry, all its plans and its time are.
 ghost use mathlib.Core.Path.{_≡_};
-ghost use Rattle.totals.specs.Totals.{plansNumber};
+ghost use Rattle.plan_totals.specs.Totals.{plansNumber};
 ghost use Rattle.run.specs.Runs.{orNext, timeRefusal, noRun, runOf, accepted};
 use geometry::Geometry;
+use inode_time::encode_time;
 use params::Timestamp;
+use plan_summary::plans_number;
 use request::Request;
 use request::defaults::seed_or_zero;
 use request::defaults::time_or_zero;
 use request::defaults::uuid_or_zeros;
 use request::parse;
-use summary::plans_number;
-use timestamp::encode_time;
 
 // The number is 0 for an accepted run; a refusal has zeros.
 pub struct Run {

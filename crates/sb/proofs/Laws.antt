@@ -9,8 +9,8 @@ use native.Mathlib.Omega.{arith}
 use lib.Dec.{ltb, lit<}
 use Rattle.arith.specs.Choice.{bit}
 use Rattle.geometry.specs.declared.Geometry.{Geometry}
-use Rattle.layout.specs.Bounds.{Bounds}
-use Rattle.layout.specs.Places.{rextSize, lsunitBytes, logsunitOf, alignOf, sparseAlign}
+use Rattle.geometry_layout.specs.Bounds.{Bounds}
+use Rattle.geometry_layout.specs.Places.{rextSize, lsunitBytes, logsunitOf, alignOf, sparseAlign}
 use Rattle.sb.specs.declared.SbState.{SbState}
 use Rattle.sb.specs.Superblock.{magic, fixedVersion, largeSector, versionOf, features2Bits, roCompat, inCompat, logstartOf}
 use Rattle.sb.specs.Numbers.{numbers}

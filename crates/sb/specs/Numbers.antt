@@ -8,7 +8,7 @@ use lib.ListN.{drop}
 use Rattle.endian.specs.Fields.{write, table}
 use Rattle.arith.specs.Choice.{bit}
 use Rattle.geometry.specs.declared.Geometry.{Geometry}
-use Rattle.layout.specs.Places.{rextSize, lsunitBytes, logsunitOf, alignOf, sparseAlign}
+use Rattle.geometry_layout.specs.Places.{rextSize, lsunitBytes, logsunitOf, alignOf, sparseAlign}
 use Rattle.sb.specs.declared.SbState.{SbState}
 use Rattle.sb.specs.Superblock.{magic, features2Bits, versionOf, roCompat, inCompat, logstartOf}
 

@@ -11,8 +11,8 @@ use Rattle.crc.specs.Crc.{stamped}
 use Rattle.structs.specs.Written.{require}
 use Rattle.params.specs.declared.Features.{Features}
 use Rattle.geometry.specs.declared.Geometry.{Geometry}
-use Rattle.answers.specs.Named.{isAnswer}
-use Rattle.layout.specs.Places.{fsbOf, rextSize, lsunitBytes, logsunitOf, alignOf, sparseAlign}
+use Rattle.geometry_answers.specs.Named.{isAnswer}
+use Rattle.geometry_layout.specs.Places.{fsbOf, rextSize, lsunitBytes, logsunitOf, alignOf, sparseAlign}
 use Rattle.sb.specs.declared.SbState.{SbState}
 
 -- XFS_SB_MAGIC, "XFSB"

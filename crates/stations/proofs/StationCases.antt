@@ -5,24 +5,24 @@ use lib.Dec.{T}
 use Rattle.arith.specs.Choice.{when, bit}
 use Rattle.arith.specs.Numbers.{ceilDiv}
 use Rattle.arith.specs.Powers.{powerIn, powerLog, leastFrom, log2Up}
-use Rattle.sizes.specs.Sizes.{defaultSector, sizesOf, sizesRefusals}
-use Rattle.grouping.specs.Groups.{groupBlocks, askedBlocks, defaultSize, initialGroups, isShort, trim, optionsRefusals, groupsRefusals}
-use Rattle.logsize.specs.Log.{headerOf, preallocOf, freelistOf, logLimit, logBlocks, defaultImaxpct, lastRefusals}
+use Rattle.geometry_sizes.specs.Sizes.{defaultSector, sizesOf, sizesRefusals}
+use Rattle.geometry_groups.specs.Groups.{groupBlocks, askedBlocks, defaultSize, initialGroups, isShort, trim, optionsRefusals, groupsRefusals}
+use Rattle.geometry_log.specs.Log.{headerOf, preallocOf, freelistOf, logLimit, logBlocks, defaultImaxpct, lastRefusals}
 use Rattle.geometry.specs.Compute.{withGroups, withSizes, chosenOf, refusals, refusalOf, labelOf, geometryOf, zeroGeometry, computeDef}
 use Rattle.geometry.specs.Compute as compute
-use Rattle.answers.specs.Same.{sameFeatures, numbersOf, sameFrom, sameGeometry}
-use Rattle.answers.specs.Named.{namedOptions, namedOn, namedFits, namedAnswer, namesOf, isAnswer}
-use Rattle.layout.specs.Places.{ibtBlock, rmapBlock, refcBlock, chunkOf, clusterOf, alignOf, roundUp, aligned, rootChunkOf, fsbOf, inoOf}
-use Rattle.places.specs.Answers.{groupRefusal, rootChunk, rootIno}
-use Rattle.site.specs.Sites.{siteOf}
+use Rattle.geometry_answers.specs.Same.{sameFeatures, numbersOf, sameFrom, sameGeometry}
+use Rattle.geometry_answers.specs.Named.{namedOptions, namedOn, namedFits, namedAnswer, namesOf, isAnswer}
+use Rattle.geometry_layout.specs.Places.{ibtBlock, rmapBlock, refcBlock, chunkOf, clusterOf, alignOf, roundUp, aligned, rootChunkOf, fsbOf, inoOf}
+use Rattle.geometry_places.specs.Answers.{groupRefusal, rootChunk, rootIno}
+use Rattle.plan_site.specs.Sites.{siteOf}
 use Rattle.seqs.specs.Lists.{firstIndex, pushed, appended, fold, turns, upFrom}
 use Rattle.seqs.specs.Runs.{valid, weigh, blocks}
 use Rattle.btree.specs.Owners.{negative}
-use Rattle.free.specs.Free.{cut, takenAt, takenFrom, taken, fitter, bigger, pickedFrom, picked}
-use Rattle.rmap.specs.Rmap.{joinsLeft, joinsRight, insertedAt, takes, inserted}
+use Rattle.plan_free.specs.Free.{cut, takenAt, takenFrom, taken, fitter, bigger, pickedFrom, picked}
+use Rattle.plan_rmap.specs.Rmap.{joinsLeft, joinsRight, insertedAt, takes, inserted}
 use Rattle.plan.specs.Plan.{freeAtFirst, rmapAtFirst, atFirst, failed, noted, moved, turn, listed, chunked, answer, planOf, planned}
-use Rattle.totals.specs.Totals.{freeblksOf, longestOf, sumTo, firstTo, plansNumber, freeCount, rowOf, totalOf}
-use Rattle.states.specs.States.{finishedState}
+use Rattle.plan_totals.specs.Totals.{freeblksOf, longestOf, sumTo, firstTo, plansNumber, freeCount, rowOf, totalOf}
+use Rattle.sb_states.specs.States.{finishedState}
 use Rattle.stations.specs.Stations.{rootInode, shownGeometry, shown, acceptedPlans, plansBy, plansOf, same, passes, all, stations, rows, exampleRows, example}
 
 pub hold : T (all stations && same exampleRows example)

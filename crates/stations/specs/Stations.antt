@@ -12,18 +12,18 @@ use Rattle.params.specs.declared.Params.{Params}
 use Rattle.params.specs.Params.{noOptions, withSectorSize, withAgcount, withAgsize, withFeatures, withRoomy}
 use Rattle.geometry.specs.declared.Geometry.{Geometry}
 use Rattle.geometry.specs.declared.Computed.{Computed}
-use Rattle.grouping.specs.Limits.{mib}
+use Rattle.geometry_groups.specs.Limits.{mib}
 use Rattle.geometry.specs.Compute.{computeDef}
-use Rattle.layout.specs.Places.{inoOf, rootChunkOf}
-use Rattle.site.specs.Sites.{siteOf}
+use Rattle.geometry_layout.specs.Places.{inoOf, rootChunkOf}
+use Rattle.plan_site.specs.Sites.{siteOf}
 use Rattle.plan.specs.declared.AgPlan.{AgPlan}
 use Rattle.plan.specs.Plan.{planned}
-use Rattle.closed.specs.Closed.{freeBlocks}
-use Rattle.totals.specs.declared.Row.{Row}
-use Rattle.totals.specs.declared.Total.{Total}
-use Rattle.totals.specs.Totals.{plansNumber, rowOf, totalOf}
+use Rattle.plan_closed.specs.Closed.{freeBlocks}
+use Rattle.plan_totals.specs.declared.Row.{Row}
+use Rattle.plan_totals.specs.declared.Total.{Total}
+use Rattle.plan_totals.specs.Totals.{plansNumber, rowOf, totalOf}
 use Rattle.sb.specs.declared.SbState.{SbState}
-use Rattle.states.specs.States.{finishedState}
+use Rattle.sb_states.specs.States.{finishedState}
 
 pub record Case : Type 0 where
   pub options : Params

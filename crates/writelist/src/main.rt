@@ -1,5 +1,5 @@
 // Reads input records from standard input and writes the list of written records of the run that they ask for to standard output, or
-// prints `refused N`. The records come from `writes`, chunk by chunk; here they are only lent buffers and written.
+// prints `refused N`. The records come from `list_write`, chunk by chunk; here they are only lent buffers and written.
 // Give each disk its UUID in an `ID` record: without one it is zeros, and Linux doesn't mount such a disk.
 ghost use mathlib.Core.Path.{_≡_};
 ghost use lib.ListN.{length};
@@ -77,14 +77,14 @@ fn flush(buf: &[u8], end: usize) -> bool {
 // Makes chunk k in a buffer of its length.
 fn make(run: Run, device: u64, k: u64, n: usize, work: &mut [u8], buf: &mut [u8]) -> u32 {
     if n <= buf.len() {
-        return writes::write_chunk(run, device, k, work, &mut buf[0..n]);
+        return list_write::write_chunk(run, device, k, work, &mut buf[0..n]);
     }
-    listing::NO_CHUNK
+    list_lengths::NO_CHUNK
 }
 
 // Makes chunk k and writes it; false where a write failed.
 fn write_one(run: Run, device: u64, k: u64, work: &mut [u8], buf: &mut [u8]) -> bool {
-    let length = listing::chunk_length(run, k);
+    let length = list_lengths::chunk_length(run, k);
     let n = length.value as usize;
     if make(run, device, k, n, work, buf) != 0 {
         return false;
@@ -94,7 +94,7 @@ fn write_one(run: Run, device: u64, k: u64, work: &mut [u8], buf: &mut [u8]) -> 
 
 // Writes all chunks; false where a write failed, and then nothing more is written.
 fn write_list(run: Run, device: u64, work: &mut [u8], buf: &mut [u8]) -> bool {
-    let count = listing::chunk_count(run);
+    let count = list_lengths::chunk_count(run);
     let n = count.value;
     let mut left = n;
     let mut written = true;
@@ -118,17 +118,17 @@ fn write_most(run: Run, device: u64) -> bool {
 }
 
 // Whether the small buffers are enough: the first head and the root chunk, which is the chunk before the last, are the longest
-// (`room-enough` of writelaws).
+// (`room-enough` of list_laws).
 fn needs_few(run: Run) -> bool {
-    let count = listing::chunk_count(run);
-    let head = listing::chunk_length(run, 1);
-    let root = listing::chunk_length(run, minus(count.value, 2));
+    let count = list_lengths::chunk_count(run);
+    let head = list_lengths::chunk_length(run, 1);
+    let root = list_lengths::chunk_length(run, minus(count.value, 2));
     head.value <= FEW as u64 && root.value <= FEW as u64
 }
 
 fn print_refused(number: u32) -> bool {
     let mut line = [0u8; 32];
-    let w = lines::put_refused(number as u64, &mut line, 0);
+    let w = table_lines::put_refused(number as u64, &mut line, 0);
     flush(&line, w.end)
 }
 

@@ -4,7 +4,7 @@ use mathlib.Core.Path.{_≡_, refl}
 use native.Mathlib.Omega.{arith}
 use Prim.Native.Nat.{_+_, _≤_}
 use lib.ListN.{length}
-use Rattle.applied.specs.Records.{largest}
+use Rattle.list_read.specs.Records.{largest}
 use Rattle.applylist.proofs.apply.Statement.{statement}
 use Rattle.applylist.proofs.apply.Tie as tie
 

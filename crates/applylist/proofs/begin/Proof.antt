@@ -1,6 +1,6 @@
 -- `applylist::begin` meets its contract.
 -- Assumes nothing.
-use Rattle.applied.proofs.Heads.{within-end}
+use Rattle.list_read.proofs.Heads.{within-end}
 use mathlib.Core.Path.{sym, _∙_}
 use borrow.Author.Tests.{not-false}
 use borrow.Author.Needs.{needs}

@@ -1,7 +1,7 @@
 -- `ffi_geometry::head` meets its contract: each number is its field.
 -- Assumes nothing.
 use borrow.Author.Needs.{needs}
-use Rattle.answers.specs.Same.{numbersOf}
+use Rattle.geometry_answers.specs.Same.{numbersOf}
 use Rattle.ffi_geometry.specs.Fields.{headOf}
 use Rattle.ffi_geometry.proofs.head.Statement.{statement}
 use Rattle.ffi_geometry.proofs.head.Tie as tie

@@ -4,7 +4,7 @@ use mathlib.Core.Path.{_≡_, sym}
 use borrow.Author.Needs.{needs}
 use native.Mathlib.Omega.{arith}
 use lib.ListN.{length, length-map, List·getD-eq-default}
-use Rattle.free.specs.Free.{zeroRec}
+use Rattle.plan_free.specs.Free.{zeroRec}
 use Rattle.ffi_records.proofs.free_at.Statement.{statement}
 use Rattle.ffi_records.proofs.free_at.Tie as tie
 

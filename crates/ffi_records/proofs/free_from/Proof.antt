@@ -4,7 +4,7 @@ use mathlib.Core.Path.{_≡_, refl, sym, ap, _∙_}
 use Prim.Native.Nat.{_-_, _≤_}
 use borrow.Author.Needs.{needs}
 use native.Mathlib.Omega.{arith}
-use Rattle.free.specs.Free.{zeroRec, toFree, packFree}
+use Rattle.plan_free.specs.Free.{zeroRec, toFree, packFree}
 use Rattle.ffi_records.specs.Parts.{rows, freeRow, freeFrom}
 use Rattle.ffi_records.proofs.Laws.{rows-push, rows-full}
 use Rattle.ffi_records.proofs.free_from.Statement.{statement}

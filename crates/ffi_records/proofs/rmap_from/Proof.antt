@@ -4,7 +4,7 @@ use mathlib.Core.Path.{_≡_, refl, sym, ap, _∙_}
 use Prim.Native.Nat.{_-_, _≤_}
 use borrow.Author.Needs.{needs}
 use native.Mathlib.Omega.{arith}
-use Rattle.rmap.specs.Rmap.{zeroRec, toRmap, packRmap}
+use Rattle.plan_rmap.specs.Rmap.{zeroRec, toRmap, packRmap}
 use Rattle.ffi_records.specs.Parts.{rows, rmapRow, rmapFrom}
 use Rattle.ffi_records.proofs.Laws.{rows-push, rows-full}
 use Rattle.ffi_records.proofs.rmap_from.Statement.{statement}

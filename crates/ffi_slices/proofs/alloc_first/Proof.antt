@@ -17,10 +17,10 @@ use Rattle.btree.specs.Records.{allocBytes}
 use Rattle.btree.proofs.records.AllocRec as T
 use Rattle.btree.proofs.records.AllocRec.Laws as T′
 use Rattle.ffi_slices.proofs.First.{FirstClauses, first-meets}
-use Rattle.slices.proofs.alloc_recs as recs
-use Rattle.slices.proofs.alloc_recs.Symbol as recs-def
-use Rattle.slices.proofs.alloc_recs.Symbol.{name as #slices·alloc-recs}
-use Rattle.slices.proofs.alloc_recs.Met as recs-thm
+use Rattle.btree_slices.proofs.alloc_recs as recs
+use Rattle.btree_slices.proofs.alloc_recs.Symbol as recs-def
+use Rattle.btree_slices.proofs.alloc_recs.Symbol.{name as #slices·alloc-recs}
+use Rattle.btree_slices.proofs.alloc_recs.Met as recs-thm
 use Rattle.ffi_slices.proofs.alloc_first.Key.{name as #ffi-slices·alloc-first}
 use Rattle.ffi_slices.proofs.alloc_first as first
 use Rattle.ffi_slices.proofs.alloc_first.Statement as stated
@@ -39,4 +39,4 @@ alloc-first-spec 𝓤 H 𝓜 𝓖 𝓡 =
     (first-meets T.the-row allocBytes 8 #slices·alloc-recs tt (lit< tt, lit< tt) (LL.vals T.the-type T′.the-laws) (LL.tells T.the-type T′.the-laws)
     (LL.lawful T.the-type T′.the-laws 𝓤 H (𝓖 .A) (givenOf 𝓤 H 𝓜 𝓖) .typed) 𝓤 H (𝓖 .A) (givenOf 𝓤 H 𝓜 𝓖) (LL.copy T.the-type T′.the-copy 𝓤 H (𝓖 .A) (givenOf 𝓤 H 𝓜 𝓖))
     (tablesOf 𝓤 H 𝓜 (tables 𝓤 H 𝓜 𝓡 code.env))
-    (cited 𝓤 H (tripleOf 𝓤 H (𝓖 .A) recs.signature (recs.spec 𝓤 H (𝓖 .A) (𝓜 .mem) (𝓡 .run))) 𝓜 𝓡 code.env #slices·alloc-recs recs-def.routine code.calls-slices·alloc-recs (recs-thm.met 𝓤 H 𝓜 𝓖 𝓡)))
+    (cited 𝓤 H (tripleOf 𝓤 H (𝓖 .A) recs.signature (recs.spec 𝓤 H (𝓖 .A) (𝓜 .mem) (𝓡 .run))) 𝓜 𝓡 code.env #slices·alloc-recs recs-def.routine code.calls-btree-slices·alloc-recs (recs-thm.met 𝓤 H 𝓜 𝓖 𝓡)))

@@ -1,9 +1,9 @@
 -- `head::ag_head` meets its contract.
 -- Assumes nothing.
-use Rattle.headbytes.proofs.Ready.{length-fits, head-refused, head-wrong, head-accepted}
-use Rattle.headbytes.specs.Head.{headLength}
-use Rattle.frame.proofs.Fitting.{framed-plan, framed-frame}
-use Rattle.frame.specs.declared.Framed.{Framed}
+use Rattle.head_bytes.proofs.Ready.{length-fits, head-refused, head-wrong, head-accepted}
+use Rattle.head_bytes.specs.Head.{headLength}
+use Rattle.head_frame.proofs.Fitting.{framed-plan, framed-frame}
+use Rattle.head_frame.specs.declared.Framed.{Framed}
 use borrow.Author.Tests.{ne-eqb}
 use Rattle.structs.proofs.Written.{refused, done}
 use lib.ListN.{length}

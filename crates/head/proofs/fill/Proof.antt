@@ -1,7 +1,7 @@
 -- `head::fill` meets its contract.
 -- Assumes nothing.
-use Rattle.headbytes.proofs.Whole.{whole}
-use Rattle.headbytes.proofs.Ready.{ready, head-from}
+use Rattle.head_bytes.proofs.Whole.{whole}
+use Rattle.head_bytes.proofs.Ready.{ready, head-from}
 use Rattle.endian.proofs.Laws.{kept}
 use lib.ListN.{length}
 use mathlib.Core.Path.{_≡_, _∙_}

@@ -1,6 +1,6 @@
 -- `head::put_headers` meets its contract.
 -- Assumes nothing.
-use Rattle.headbytes.proofs.Ready.{sb-accepted}
+use Rattle.head_bytes.proofs.Ready.{sb-accepted}
 use Rattle.endian.proofs.Laws.{kept, put-in}
 use native.Mathlib.Omega.{arith}
 use borrow.Author.Needs.{needs}

@@ -1,6 +1,6 @@
 -- `head::put_trees` meets its contract.
 -- Assumes nothing.
-use Rattle.headbytes.proofs.Whole.{three-inside}
+use Rattle.head_bytes.proofs.Whole.{three-inside}
 use native.Mathlib.Nat.{le-trans, mul-le-mul-right}
 use borrow.Author.Needs.{needs}
 use Rattle.head.proofs.put_trees.Statement.{statement}

@@ -13,43 +13,43 @@ pub use Rattle.seqs.specs.Lists.{both}
 pub use Rattle.refusals.specs.Table.{first}
 pub use Rattle.params.specs.declared.Params.{Params}
 pub use Rattle.params.specs.Params.{noOptions, withRoomy}
-pub use Rattle.grouping.specs.Limits.{mib}
+pub use Rattle.geometry_groups.specs.Limits.{mib}
 pub use Rattle.geometry.specs.declared.Geometry.{Geometry}
 pub use Rattle.geometry.specs.Compute.{chosenOf, refusals, computeDef}
-pub use Rattle.answers.specs.Named.{namedOn, namesOf, isAnswer}
-pub use Rattle.answers.specs.Answers.{Answered, TypedGeometry, TypedAnswer}
+pub use Rattle.geometry_answers.specs.Named.{namedOn, namesOf, isAnswer}
+pub use Rattle.geometry_answers.specs.Answers.{Answered, TypedGeometry, TypedAnswer}
 pub use Rattle.structs.specs.Written.{Written}
 pub use Rattle.crc.specs.Crc.{crc32cOf, stamped, verified}
-pub use Rattle.layout.specs.Places.{groupBlocks, freelistOf}
-pub use Rattle.site.specs.Sites.{siteOf}
+pub use Rattle.geometry_layout.specs.Places.{groupBlocks, freelistOf}
+pub use Rattle.plan_site.specs.Sites.{siteOf}
 pub use Rattle.plan.specs.Plan.{planned}
-pub use Rattle.closed.specs.Closed.{freeBlocks, closedPlan}
-pub use Rattle.totals.specs.Totals.{plansNumber}
-pub use Rattle.uses.specs.Uses.{usesOf, usedOf, mappedOf}
+pub use Rattle.plan_closed.specs.Closed.{freeBlocks, closedPlan}
+pub use Rattle.plan_totals.specs.Totals.{plansNumber}
+pub use Rattle.plan_uses.specs.Uses.{usesOf, usedOf, mappedOf}
 pub use Rattle.request.specs.declared.Request.{Request}
 pub use Rattle.request.specs.Parse.{request, parseDef}
 pub use Rattle.request.specs.Defaults.{timeOf}
 pub use Rattle.run.specs.Runs.{orNext, stepOf, timeRefusal, runOf, accepted}
-pub use Rattle.records.specs.Records.{listBytes}
-pub use Rattle.applied.specs.Whole.{readAll}
-pub use Rattle.device.specs.Device.{Device}
-use Rattle.device.specs.Device.{applied}
-pub use Rattle.written.specs.Listing.{headBlocks, listOf, recordCount}
-use Rattle.written.specs.Listing.{chunkBlocks}
-pub use Rattle.written.specs.Order.{Ordered}
-pub use Rattle.written.specs.Left.{Left}
-pub use Rattle.accepted.specs.Accepted.{AcceptedRun}
-use Rattle.accepted.specs.Accepted.{Source}
-pub use Rattle.writelaws.specs.Whole.{sentAll}
-pub use Rattle.exact.specs.Read.{readGroup0, readGroup, readLog}
-use Rattle.exact.specs.Read.{found}
-pub use Rattle.named.specs.Sizings.{plain}
-pub use Rattle.exact.specs.Left.{Octets, Handed, ReadWhole, reported}
-pub use Rattle.exact.specs.Disk.{headOn, formatted, ByRecords}
-use Rattle.exact.specs.Disk.{logOn}
-pub use Rattle.disk.specs.Whole.{inParts, headsOf}
-pub use Rattle.decoded.specs.Decoded.{logIn, countIn}
-pub use Rattle.byuse.specs.ByUse.{usesIn, Once, freeTotal, listTotal, chunkTotal}
+pub use Rattle.list_records.specs.Records.{listBytes}
+pub use Rattle.list_read.specs.Whole.{readAll}
+pub use Rattle.list_device.specs.Device.{Device}
+use Rattle.list_device.specs.Device.{applied}
+pub use Rattle.list_spec.specs.Listing.{headBlocks, listOf, recordCount}
+use Rattle.list_spec.specs.Listing.{chunkBlocks}
+pub use Rattle.list_spec.specs.Order.{Ordered}
+pub use Rattle.list_spec.specs.Left.{Left}
+pub use Rattle.list_accepted.specs.Accepted.{AcceptedRun}
+use Rattle.list_accepted.specs.Accepted.{Source}
+pub use Rattle.list_laws.specs.Whole.{sentAll}
+pub use Rattle.reader_exact.specs.Read.{readGroup0, readGroup, readLog}
+use Rattle.reader_exact.specs.Read.{found}
+pub use Rattle.reader_names.specs.Sizings.{plain}
+pub use Rattle.reader_exact.specs.Left.{Octets, Handed, ReadWhole, reported}
+pub use Rattle.reader_exact.specs.Disk.{headOn, formatted, ByRecords}
+use Rattle.reader_exact.specs.Disk.{logOn}
+pub use Rattle.reader_disk.specs.Whole.{inParts, headsOf}
+pub use Rattle.reader_decoded.specs.Decoded.{logIn, countIn}
+pub use Rattle.reader_uses.specs.ByUse.{usesIn, Once, freeTotal, listTotal, chunkTotal}
 
 -- Some accepted run with geometry g and UUID u leaves exactly the bytes xs as the head of group k: whatever the device held before, they stand
 -- there when the run's written records have been applied.

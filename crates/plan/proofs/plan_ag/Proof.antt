@@ -1,8 +1,8 @@
 -- `plan::plan_ag` meets its contract.
 -- Assumes nothing.
 use Rattle.plan.specs.Plan.{planned}
-use Rattle.site.proofs.Sites.{site-number, site-is, answered-sound}
-use Rattle.site.specs.declared.Sited.{Sited}
+use Rattle.plan_site.proofs.Sites.{site-number, site-is, answered-sound}
+use Rattle.plan_site.specs.declared.Sited.{Sited}
 use lib.ListN.{length}
 use borrow.Author.Tests.{eq-eqb, ne-eqb}
 use mathlib.Core.Path.{_≡_, sym, ap, _∙_}

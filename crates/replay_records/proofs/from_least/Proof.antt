@@ -1,7 +1,7 @@
 -- `replay_records::from_least` is safe: the sum is in the range of the test.
 -- Assumes nothing.
-use Rattle.timestamp.proofs.Seconds.{between, sum-fits, sum-read, shifted-most}
-use Rattle.timestamp.specs.Time.{shifted}
+use Rattle.inode_time.proofs.Seconds.{between, sum-fits, sum-read, shifted-most}
+use Rattle.inode_time.specs.Time.{shifted}
 use mir.ValLaws.{toZ-ofZ}
 use mir.Syntax.{w64}
 use native.Mathlib.Omega.{arith}

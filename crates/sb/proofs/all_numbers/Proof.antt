@@ -1,7 +1,7 @@
 -- `sb::all_numbers` meets its contract.
 -- Assumes nothing.
 use mathlib.Core.Path.{ap, _∙_}
-use Rattle.layout.specs.Places.{alignOf, sparseAlign, logsunitOf}
+use Rattle.geometry_layout.specs.Places.{alignOf, sparseAlign, logsunitOf}
 use Rattle.sb.proofs.Laws.{version-is, numbers-are}
 use borrow.Author.Needs.{needs}
 use Rattle.sb.proofs.all_numbers.Statement.{statement}

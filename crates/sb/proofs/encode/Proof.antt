@@ -3,8 +3,8 @@
 use Rattle.sb.proofs.Laws.{answer-fits}
 use Rattle.sb.specs.Superblock.{sbNumber}
 use Rattle.structs.proofs.Written.{refused, done}
-use Rattle.layout.proofs.Bounding.{answer-bounds}
-use Rattle.answers.specs.Named.{isAnswer}
+use Rattle.geometry_layout.proofs.Bounding.{answer-bounds}
+use Rattle.geometry_answers.specs.Named.{isAnswer}
 use borrow.Author.Tests.{eq-eqb, ne-eqb}
 use lib.ListN.{length}
 use mathlib.Core.Bool.{true}

@@ -1,6 +1,6 @@
 -- `sb::log_start` meets its contract.
 -- Assumes nothing.
-use Rattle.layout.specs.Places.{fsbOf}
+use Rattle.geometry_layout.specs.Places.{fsbOf}
 use borrow.Author.Needs.{needs}
 use Rattle.sb.proofs.log_start.Statement.{statement}
 use Rattle.sb.proofs.log_start.Tie as tie

@@ -1,9 +1,9 @@
 -- `geometry::step::refusal` meets its contract: each call gives what its definition says.
 -- Assumes nothing.
 use borrow.Author.Needs.{needs}
-use Rattle.sizes.specs.Sizes.{sizesRefusals}
-use Rattle.grouping.specs.Groups.{optionsRefusals, groupsRefusals}
-use Rattle.logsize.specs.Log.{lastRefusals}
+use Rattle.geometry_sizes.specs.Sizes.{sizesRefusals}
+use Rattle.geometry_groups.specs.Groups.{optionsRefusals, groupsRefusals}
+use Rattle.geometry_log.specs.Log.{lastRefusals}
 use Rattle.geometry.specs.Compute.{refusals, refusalOf}
 use Rattle.geometry.proofs.step.refusal.Statement.{statement}
 use Rattle.geometry.proofs.step.refusal.Tie as tie

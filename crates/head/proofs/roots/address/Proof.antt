@@ -1,6 +1,6 @@
 -- `head::roots::address` meets its contract.
 -- Assumes nothing.
-use Rattle.layout.specs.Places.{daddrOf, before}
+use Rattle.geometry_layout.specs.Places.{daddrOf, before}
 use native.Mathlib.Omega.{arith}
 use Prim.Native.Nat.{_*_, _<_, _^_}
 use borrow.Author.Needs.{needs}

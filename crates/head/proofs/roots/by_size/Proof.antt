@@ -1,6 +1,6 @@
 -- `head::roots::by_size` meets its contract.
 -- Assumes nothing.
-use Rattle.headbytes.proofs.Sorting.{few-sorted, two-sorted, two-swapped}
+use Rattle.head_bytes.proofs.Sorting.{few-sorted, two-sorted, two-swapped}
 use lib.ListN.{length, length-map}
 use native.Mathlib.Omega.{arith}
 use mathlib.Core.Path.{_≡_, refl, sym, _∙_}

@@ -1,9 +1,9 @@
 -- `head::roots::put_chunk` meets its contract.
 -- Assumes nothing.
-use Rattle.headbytes.proofs.Lending.{lent-root, part-length, leaf-accepted}
-use Rattle.headbytes.specs.Head.{inodeRoot}
+use Rattle.head_bytes.proofs.Lending.{lent-root, part-length, leaf-accepted}
+use Rattle.head_bytes.specs.Head.{inodeRoot}
 use Rattle.structs.proofs.Lengths.{block-least}
-use Rattle.leaves.specs.Leaves.{few, chunkRec}
+use Rattle.head_leaves.specs.Leaves.{few, chunkRec}
 use Rattle.btree.specs.Leaf.{leafNumber}
 use Rattle.btree.specs.Records.{listed, inobtBytes}
 use Rattle.arith.proofs.Laws.{bit-le}

@@ -1,7 +1,7 @@
 -- `head::roots::put_fibt` meets its contract.
 -- Assumes nothing.
-use Rattle.headbytes.proofs.Whole.{block-on, block-off}
-use Rattle.layout.specs.Places.{fibtBlock}
+use Rattle.head_bytes.proofs.Whole.{block-on, block-off}
+use Rattle.geometry_layout.specs.Places.{fibtBlock}
 use native.Mathlib.Omega.{arith}
 use borrow.Author.Needs.{needs}
 use Rattle.head.proofs.roots.put_fibt.Statement.{statement}

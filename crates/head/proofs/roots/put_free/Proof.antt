@@ -1,9 +1,9 @@
 -- `head::roots::put_free` meets its contract.
 -- Assumes nothing.
-use Rattle.headbytes.proofs.Lending.{lent-root, part-length, list-accepted}
+use Rattle.head_bytes.proofs.Lending.{lent-root, part-length, list-accepted}
 use Rattle.structs.proofs.Lengths.{block-least}
-use Rattle.leaves.specs.Leaves.{listNumber}
-use Rattle.free.specs.Free.{freeOf}
+use Rattle.head_leaves.specs.Leaves.{listNumber}
+use Rattle.plan_free.specs.Free.{freeOf}
 use Rattle.btree.specs.Records.{listed, allocBytes}
 use native.Mathlib.Omega.{arith}
 use Prim.Native.Nat.{ℕ, _*_}

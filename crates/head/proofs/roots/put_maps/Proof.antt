@@ -1,9 +1,9 @@
 -- `head::roots::put_maps` meets its contract.
 -- Assumes nothing.
-use Rattle.headbytes.proofs.Lending.{lent-root, part-length, list-accepted}
+use Rattle.head_bytes.proofs.Lending.{lent-root, part-length, list-accepted}
 use Rattle.structs.proofs.Lengths.{block-least}
-use Rattle.leaves.specs.Leaves.{listNumber}
-use Rattle.rmap.specs.Rmap.{rmapOf}
+use Rattle.head_leaves.specs.Leaves.{listNumber}
+use Rattle.plan_rmap.specs.Rmap.{rmapOf}
 use Rattle.btree.specs.Records.{listed, rmapBytes}
 use native.Mathlib.Omega.{arith}
 use Prim.Native.Nat.{ℕ, _*_}

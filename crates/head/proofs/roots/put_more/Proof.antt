@@ -1,8 +1,8 @@
 -- `head::roots::put_more` meets its contract.
 -- Assumes nothing.
-use Rattle.headbytes.proofs.Whole.{block-room, fibt-inside, rmap-inside, refc-inside}
-use Rattle.headbytes.specs.Parts.{moreOn}
-use Rattle.headbytes.specs.Head.{headBlocks}
+use Rattle.head_bytes.proofs.Whole.{block-room, fibt-inside, rmap-inside, refc-inside}
+use Rattle.head_bytes.specs.Parts.{moreOn}
+use Rattle.head_bytes.specs.Head.{headBlocks}
 use Rattle.endian.proofs.Laws.{kept}
 use mathlib.Core.Path.{_∙_}
 use borrow.Author.Needs.{needs}

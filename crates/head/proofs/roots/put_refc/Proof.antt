@@ -1,10 +1,10 @@
 -- `head::roots::put_refc` meets its contract.
 -- Assumes nothing.
-use Rattle.headbytes.proofs.Whole.{block-on, block-off}
+use Rattle.head_bytes.proofs.Whole.{block-on, block-off}
 use Rattle.endian.specs.Bytes.{patch}
-use Rattle.headbytes.specs.Head.{rootBytes, refcMagic}
+use Rattle.head_bytes.specs.Head.{rootBytes, refcMagic}
 use mathlib.Core.List.{[]}
-use Rattle.headbytes.specs.Head.{refcRoot}
+use Rattle.head_bytes.specs.Head.{refcRoot}
 use native.Mathlib.Omega.{arith}
 use Prim.Native.Nat.{ℕ, _*_}
 use mathlib.Core.Path.{ap, _∙_}

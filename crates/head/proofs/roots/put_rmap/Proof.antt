@@ -1,11 +1,11 @@
 -- `head::roots::put_rmap` meets its contract.
 -- Assumes nothing.
-use Rattle.headbytes.proofs.Whole.{block-on, block-off}
+use Rattle.head_bytes.proofs.Whole.{block-on, block-off}
 use Rattle.endian.specs.Bytes.{patch}
-use Rattle.headbytes.specs.Head.{rootBytes, rmapMagic}
+use Rattle.head_bytes.specs.Head.{rootBytes, rmapMagic}
 use Rattle.btree.specs.Records.{listed, rmapBytes}
-use Rattle.rmap.specs.Rmap.{rmapOf}
-use Rattle.headbytes.specs.Head.{rmapRoot}
+use Rattle.plan_rmap.specs.Rmap.{rmapOf}
+use Rattle.head_bytes.specs.Head.{rmapRoot}
 use native.Mathlib.Omega.{arith}
 use Prim.Native.Nat.{ℕ, _*_}
 use mathlib.Core.Path.{ap, _∙_}

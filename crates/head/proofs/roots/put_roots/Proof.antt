@@ -1,8 +1,8 @@
 -- `head::roots::put_roots` meets its contract.
 -- Assumes nothing.
-use Rattle.headbytes.specs.Parts.{rootsOn}
-use Rattle.headbytes.specs.Head.{bnoRoot, cntRoot}
-use Rattle.layout.specs.Places.{cntBlock, ibtBlock}
+use Rattle.head_bytes.specs.Parts.{rootsOn}
+use Rattle.head_bytes.specs.Head.{bnoRoot, cntRoot}
+use Rattle.geometry_layout.specs.Places.{cntBlock, ibtBlock}
 use borrow.Author.Needs.{needs}
 use Rattle.head.proofs.roots.put_roots.Statement.{statement}
 use Rattle.head.proofs.roots.put_roots.Tie as tie

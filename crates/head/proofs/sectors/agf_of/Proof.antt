@@ -1,6 +1,6 @@
 -- `head::sectors::agf_of` meets its contract.
 -- Assumes nothing.
-use Rattle.headbytes.specs.Head.{agfOf}
+use Rattle.head_bytes.specs.Head.{agfOf}
 use borrow.Author.Needs.{needs}
 use Rattle.head.proofs.sectors.agf_of.Statement.{statement}
 use Rattle.head.proofs.sectors.agf_of.Tie as tie

@@ -1,7 +1,7 @@
 -- `head::sectors::agf_with` meets its contract.
 -- Assumes nothing.
 use Rattle.structs.proofs.Lengths.{sector-least}
-use Rattle.layout.specs.Places.{cntBlock, agflSize}
+use Rattle.geometry_layout.specs.Places.{cntBlock, agflSize}
 use native.Mathlib.Omega.{arith}
 use Prim.Native.Nat.{_≤_}
 use borrow.Author.Needs.{needs}

@@ -1,7 +1,7 @@
 -- `head::sectors::agi_of` meets its contract.
 -- Assumes nothing.
-use Rattle.headbytes.specs.Head.{agiOf}
-use Rattle.layout.specs.Places.{ibtBlock, fibtBlock}
+use Rattle.head_bytes.specs.Head.{agiOf}
+use Rattle.geometry_layout.specs.Places.{ibtBlock, fibtBlock}
 use borrow.Author.Needs.{needs}
 use Rattle.head.proofs.sectors.agi_of.Statement.{statement}
 use Rattle.head.proofs.sectors.agi_of.Tie as tie

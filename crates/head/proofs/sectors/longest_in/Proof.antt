@@ -1,9 +1,9 @@
 -- `head::sectors::longest_in` meets its contract.
 -- Assumes nothing.
-use Rattle.headbytes.proofs.Lending.{few-value}
-use Rattle.totals.specs.Totals.{longestOf}
-use Rattle.site.specs.Sites.{value64}
-use Rattle.counts.specs.declared.Value64.{Value64}
+use Rattle.head_bytes.proofs.Lending.{few-value}
+use Rattle.plan_totals.specs.Totals.{longestOf}
+use Rattle.plan_site.specs.Sites.{value64}
+use Rattle.geometry_counts.specs.declared.Value64.{Value64}
 use Prim.Native.Nat.{_<_, _^_}
 use mathlib.Core.Path.{_≡_, ap, _∙_}
 use borrow.Author.Needs.{needs}

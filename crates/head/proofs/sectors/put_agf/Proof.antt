@@ -1,6 +1,6 @@
 -- `head::sectors::put_agf` meets its contract.
 -- Assumes nothing.
-use Rattle.headbytes.proofs.Lending.{lent-sector, agf-length}
+use Rattle.head_bytes.proofs.Lending.{lent-sector, agf-length}
 use Rattle.ag.specs.Agf.{agfBytes}
 use Rattle.ag.specs.Sector.{sectorNumber}
 use Prim.Native.Nat.{ℕ}

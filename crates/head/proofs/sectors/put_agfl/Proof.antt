@@ -1,6 +1,6 @@
 -- `head::sectors::put_agfl` meets its contract.
 -- Assumes nothing.
-use Rattle.headbytes.proofs.Lending.{lent-sector, agfl-length, agfl-accepted}
+use Rattle.head_bytes.proofs.Lending.{lent-sector, agfl-length, agfl-accepted}
 use Rattle.ag.specs.Agfl.{agflNumber, agflBytes}
 use lib.ListN.{take}
 use Prim.Native.Nat.{ℕ, _*_}

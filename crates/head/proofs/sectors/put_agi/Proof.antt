@@ -1,6 +1,6 @@
 -- `head::sectors::put_agi` meets its contract.
 -- Assumes nothing.
-use Rattle.headbytes.proofs.Lending.{lent-sector, agi-length}
+use Rattle.head_bytes.proofs.Lending.{lent-sector, agi-length}
 use Rattle.ag.specs.Agi.{agiBytes}
 use Rattle.ag.specs.Sector.{sectorNumber}
 use Prim.Native.Nat.{ℕ, _*_}

@@ -1,6 +1,6 @@
 -- `head::sectors::put_sb` meets its contract.
 -- Assumes nothing.
-use Rattle.headbytes.proofs.Lending.{lent-sector, sb-length}
+use Rattle.head_bytes.proofs.Lending.{lent-sector, sb-length}
 use Rattle.sb.specs.Superblock.{sbNumber, sbBytes}
 use native.Mathlib.Omega.{arith}
 use Prim.Native.Nat.{ℕ}

@@ -1,6 +1,6 @@
 -- `head::sectors::put_sectors` meets its contract.
 -- Assumes nothing.
-use Rattle.headbytes.specs.Parts.{sectorsOn}
+use Rattle.head_bytes.specs.Parts.{sectorsOn}
 use borrow.Author.Needs.{needs}
 use Rattle.head.proofs.sectors.put_sectors.Statement.{statement}
 use Rattle.head.proofs.sectors.put_sectors.Tie as tie

@@ -1,6 +1,6 @@
 -- `head::sectors::refc_at` meets its contract.
 -- Assumes nothing.
-use Rattle.layout.specs.Places.{refcBlock}
+use Rattle.geometry_layout.specs.Places.{refcBlock}
 use native.Mathlib.Omega.{arith}
 use borrow.Author.Needs.{needs}
 use Rattle.head.proofs.sectors.refc_at.Statement.{statement}

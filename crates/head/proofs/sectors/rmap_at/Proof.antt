@@ -1,6 +1,6 @@
 -- `head::sectors::rmap_at` meets its contract.
 -- Assumes nothing.
-use Rattle.layout.specs.Places.{rmapBlock}
+use Rattle.geometry_layout.specs.Places.{rmapBlock}
 use native.Mathlib.Omega.{arith}
 use borrow.Author.Needs.{needs}
 use Rattle.head.proofs.sectors.rmap_at.Statement.{statement}

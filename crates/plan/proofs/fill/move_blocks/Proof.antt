@@ -2,8 +2,8 @@
 -- Assumes nothing.
 use Rattle.plan.specs.Plan.{moved}
 use Rattle.btree.specs.Owners.{negative}
-use Rattle.free.proofs.Laws.{taken-ends}
-use Rattle.free.specs.Free.{taken}
+use Rattle.plan_free.proofs.Laws.{taken-ends}
+use Rattle.plan_free.specs.Free.{taken}
 use borrow.Author.Tests.{eq-eqb, ne-eqb}
 use native.Mathlib.Omega.{arith}
 use mathlib.Core.Path.{_≡_, _∙_}

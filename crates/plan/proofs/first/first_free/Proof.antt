@@ -2,7 +2,7 @@
 -- Assumes nothing.
 use Rattle.plan.proofs.Laws.{two-gaps, appended-from}
 use Rattle.plan.specs.Plan.{gap, freeAtFirst}
-use Rattle.free.specs.Free.{zeroRec, toFree}
+use Rattle.plan_free.specs.Free.{zeroRec, toFree}
 use Rattle.seqs.proofs.Laws.{pushed-packed}
 use mathlib.Core.List.{[]}
 use Prim.Native.Nat.{_+_}

@@ -2,7 +2,7 @@
 -- Assumes nothing.
 use Rattle.plan.proofs.Laws.{maps-packed}
 use Rattle.plan.specs.Plan.{rmapAtFirst}
-use Rattle.rmap.specs.Rmap.{toRmap}
+use Rattle.plan_rmap.specs.Rmap.{toRmap}
 use mathlib.Core.Path.{ap, _∙_}
 use borrow.Author.Needs.{needs}
 use Rattle.plan.proofs.first.first_rmap.Statement.{statement}

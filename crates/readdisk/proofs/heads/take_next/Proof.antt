@@ -6,10 +6,10 @@ use Prim.Native.Nat.{ℕ}
 use borrow.Author.Needs.{needs}
 use Rattle.structs.specs.Written.{Written}
 use Rattle.structs.proofs.Written.{written-in}
-use Rattle.written.specs.Listing.{headLeft}
-use Rattle.disk.specs.declared.Disk.{Disk}
-use Rattle.disk.specs.Parts.{headTaken, headCompared}
-use Rattle.disk.proofs.States.{compared-taken}
+use Rattle.list_spec.specs.Listing.{headLeft}
+use Rattle.reader_disk.specs.declared.Disk.{Disk}
+use Rattle.reader_disk.specs.Parts.{headTaken, headCompared}
+use Rattle.reader_disk.proofs.States.{compared-taken}
 use Rattle.readdisk.proofs.heads.take_next.Statement.{statement}
 use Rattle.readdisk.proofs.heads.take_next.Tie as tie
 

@@ -2,7 +2,7 @@
 -- Assumes nothing.
 use mathlib.Core.Path.{refl, _∙_}
 use borrow.Author.Needs.{needs}
-use Rattle.input.specs.Records.{optionBits}
+use Rattle.request_input.specs.Records.{optionBits}
 use Rattle.request.proofs.Values.{byte-fits}
 use Rattle.request.proofs.options.imaxpct.Statement.{statement}
 use Rattle.request.proofs.options.imaxpct.Tie as tie

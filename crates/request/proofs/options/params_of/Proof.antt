@@ -4,7 +4,7 @@ use mathlib.Core.Path.{refl}
 use native.Mathlib.Omega.{arith}
 use borrow.Author.Needs.{needs}
 use Rattle.request.specs.Options.{paramsOf}
-use Rattle.input.specs.Records.{optionBits}
+use Rattle.request_input.specs.Records.{optionBits}
 use Rattle.request.proofs.options.params_of.Statement.{statement}
 use Rattle.request.proofs.options.params_of.Tie as tie
 

@@ -1,0 +1,57 @@
+// The whole chunk in a buffer of its length.
+ghost use mathlib.Core.Path.{_≡_};
+ghost use mathlib.Core.Bool.{true};
+ghost use Prim.Native.Nat.{_+_, _*_, _^_, _<_};
+ghost use lib.ListN.{length};
+ghost use Rattle.structs.specs.Sizes.{isInode};
+ghost use Rattle.inode.specs.Dinode.{inside};
+ghost use Rattle.chunk.specs.Chunk.{summaryDraw, contents, DrawnAs};
+use crate::inodes::put_bitmap;
+use crate::inodes::put_root;
+use crate::inodes::put_summary;
+use crate::slots::free_slots;
+use chunk_generation::draw;
+use params::Timestamp;
+
+// The chunk's generations, in the order in which they are drawn, and the state after them.
+struct Generations {
+    chunk: u32,
+    bitmap: u32,
+    summary: u32,
+    state: u64,
+}
+
+fn draw_three(seed: u64) -> Generations
+    ensures { λ r. ⌜ DrawnAs seed (r .chunk) (r .bitmap) (r .summary) (r .state) ⌝ }
+{
+    let a = draw(seed);
+    let b = draw(a.state);
+    let c = draw(b.state);
+    Generations {
+        chunk: a.value,
+        bitmap: b.value,
+        summary: c.value,
+        state: c.state,
+    }
+}
+
+// All slots free, and the three inodes in use over theirs; the state after the draws.
+pub(crate) fn fill_chunk(
+    first: u64,
+    size: usize,
+    flags2: u64,
+    time: Timestamp,
+    uuid: &[u8; 16],
+    seed: u64,
+    buf: &mut [u8],
+) -> u64
+    requires { ⌜ (isInode size ≡ true) × (length (now buf) ≡ 64 * size) × (first + 64 < 2 ^ 64) × (inside flags2 time ≡ true) ⌝ }
+    ensures { λ r. ⌜ (r ≡ summaryDraw seed .state) × (now (buf .exit) ≡ contents first size flags2 time (now (uuid .entry)) seed) ⌝ }
+{
+    let g = draw_three(seed);
+    free_slots(first, g.chunk, uuid, size, buf);
+    put_root(first, flags2, time, uuid, size, buf);
+    put_bitmap(first, flags2, g.bitmap, time, uuid, size, buf);
+    put_summary(first, flags2, g.summary, time, uuid, size, buf);
+    g.state
+}

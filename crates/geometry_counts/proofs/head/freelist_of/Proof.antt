@@ -1,0 +1,15 @@
+-- `geometry_counts::head::freelist_of` meets its contract: each call gives what its definition says.
+-- Assumes nothing.
+use Rattle.geometry_layout.specs.Places.{freelistOf}
+use Rattle.geometry_counts.proofs.head.freelist_of.Statement.{statement}
+use Rattle.geometry_counts.proofs.head.freelist_of.Tie as tie
+
+returns : tie.Need-returns
+unfolding freelistOf
+returns c = cc
+
+pub freelist-of-spec : {M : Type 1} → statement M
+freelist-of-spec =
+    tie.close
+    (tie.spec
+    (λ c κs. tt) returns)

@@ -1,0 +1,100 @@
+-- What a plan of the planner says of its head, and which number is answered.
+-- Assumes nothing.
+use mathlib.Core.Path.{_≡_, refl, ap, sym, _∙_}
+use mathlib.Core.Bool.{Bool, true, false}
+use mathlib.Core.List.{List, _++_}
+use Prim.Native.Nat.{ℕ, _+_, _*_, _≤_, _<_, _^_}
+use native.Mathlib.Nat.{mul-le-mul, mul-le-mul-right}
+use native.Mathlib.Omega.{arith}
+use lib.Dec.{eqb}
+use lib.ListN.{length}
+use borrow.Author.Tests.{eq-eqb, ne-eqb}
+use Rattle.arith.specs.Choice.{bit}
+use Rattle.seqs.specs.Lists.{choose}
+use Rattle.geometry.specs.declared.Geometry.{Geometry}
+use Rattle.geometry_log.specs.Log.{preallocOf}
+use Rattle.geometry_answers.specs.Named.{isAnswer}
+use Rattle.geometry_layout.proofs.Bounding.{answer-bounds}
+use Rattle.sb.specs.declared.SbState.{SbState}
+use Rattle.sb.specs.Superblock.{sbNumber, sbBytes}
+use Rattle.plan.specs.declared.AgPlan.{AgPlan}
+use Rattle.plan_same.specs.Same.{isPlan}
+use Rattle.head_frame.specs.declared.Frame.{Frame}
+use Rattle.head_frame.specs.Frames.{frameOf, framed, Fine, Few}
+use Rattle.head_frame.proofs.Fitting.{plan-answer, plan-few, plan-fine, framed-number}
+use Rattle.head_bytes.specs.Head.{zeros, headBlocks, behindBytes, headBytes, headLength, headNumber}
+use Rattle.head_bytes.proofs.Whole.{three-inside}
+
+pub sb-accepted : (g : Geometry) (len : ℕ) → isAnswer g ≡ true → len ≡ g .sectsize → sbNumber g len ≡ 0
+unfolding sbNumber
+sb-accepted g len h e = rw (h, eq-eqb len (g .sectsize) e) refl
+
+-- the head's blocks are the preallocated ones
+pub blocks-are : (g : Geometry) (p : AgPlan) → headBlocks (frameOf g p) * frameOf g p .block ≡ headLength g
+unfolding frameOf headBlocks headLength preallocOf
+blocks-are g p = refl
+
+pub record Ready (g : Geometry) (p : AgPlan) (w : Frame) (len : ℕ) : Type 0 where
+  pub answer : isAnswer g ≡ true
+  pub sector : w .sector ≡ g .sectsize
+  pub fine : Fine w
+  pub few : Few p
+  pub headers : w .header * w .block ≤ len
+  pub exact : len ≡ headBlocks w * w .block
+  pub all : headBlocks w * w .block ≤ len
+
+sector-is : (g : Geometry) (p : AgPlan) → frameOf g p .sector ≡ g .sectsize
+unfolding frameOf
+sector-is g p = refl
+
+pub ready : (g : Geometry) (p : AgPlan) (w : Frame) (len : ℕ) → length (g .label) ≡ 12 → isPlan g p ≡ true → w ≡ frameOf g p → len ≡ headLength g → Ready g p w len
+ready g p w len l h e n =
+    let x : len ≡ headBlocks w * w .block = n ∙ sym (blocks-are g p) ∙ rw e refl in
+    let t = three-inside w in
+    let m : w .header * w .block ≤ headBlocks w * w .block = mul-le-mul-right (w .block) (omega arith) in
+    record {
+      answer = plan-answer g p l h .0;
+      sector = rw e (sector-is g p);
+      fine = rw e (plan-fine g p l h);
+      few = plan-few g p l h;
+      headers = omega arith;
+      exact = x;
+      all = omega arith;
+    }
+
+-- the head's bytes from its parts
+pub head-from : (g : Geometry) (p : AgPlan) (w : Frame) (uuid : List ℕ) (s : SbState) → w ≡ frameOf g p
+    → sbBytes g s (zeros (w .sector)) ++ behindBytes w p uuid ≡ headBytes g p uuid s
+unfolding headBytes
+head-from g p w uuid s e = rw e (rw (sector-is g p) refl)
+
+-- its length fits 64 bits
+pub length-fits : (g : Geometry) (p : AgPlan) → length (g .label) ≡ 12 → isPlan g p ≡ true → preallocOf (g .features) (g .sectsize) (g .blocksize) * g .blocksize < 2 ^ 64
+unfolding frameOf
+length-fits g p l h =
+    let a = answer-bounds g l (plan-answer g p l h .0) .places .head-most in
+    let b : g .blocksize ≤ 16384 = plan-fine g p l h .block-most in
+    let m : preallocOf (g .features) (g .sectsize) (g .blocksize) * g .blocksize ≤ 10 * 16384 = mul-le-mul a b in
+    omega arith
+
+-- ---- the number
+
+refused-at : (t : Bool) (n rest : ℕ) → n ≡ choose t 0 31 → (n ≡ 0 → ⊥) → t ≡ false
+refused-at true n rest e z = absurd (z e)
+refused-at false n rest e z = refl
+
+pub head-refused : (g : Geometry) (p : AgPlan) (len : ℕ) → (framed g p .number ≡ 0 → ⊥) → headNumber g p len ≡ framed g p .number
+unfolding headNumber
+head-refused g p len z =
+    let t = refused-at (isPlan g p) (framed g p .number) 0 (framed-number g p) z in
+    let a : headNumber g p len ≡ 31 = rw t refl in
+    let b : framed g p .number ≡ 31 = framed-number g p ∙ ap (λ (x : Bool). choose {A = ℕ} x 0 31) t in
+    a ∙ sym b
+
+pub head-wrong : (g : Geometry) (p : AgPlan) (len : ℕ) → isPlan g p ≡ true → (len ≡ headLength g → ⊥) → headNumber g p len ≡ 27
+unfolding headNumber
+head-wrong g p len h z = rw (h, ne-eqb len (headLength g) z) refl
+
+pub head-accepted : (g : Geometry) (p : AgPlan) (len : ℕ) → isPlan g p ≡ true → len ≡ headLength g → headNumber g p len ≡ 0
+unfolding headNumber
+head-accepted g p len h e = rw (h, eq-eqb len (headLength g) e) refl

@@ -1,0 +1,238 @@
+-- Every plan of the planner has a frame that is fine, and short lists.
+-- Assumes nothing.
+use mathlib.Core.Path.{_≡_, refl, ap, sym, subst, _∙_}
+use mathlib.Core.Bool.{Bool, true, false, _||_}
+use mathlib.Core.Logic.{⊎-elim}
+use mathlib.Core.List.{List, [], _∷_, _++_}
+use Prim.Native.Nat.{ℕ, zero, suc, _+_, _*_, _-_, _/_, _^_, _≤_, _<_}
+use native.Mathlib.Nat.{pow-le-pow-right, mul-le-mul}
+use native.Mathlib.Omega.{arith}
+use lib.Dec.{T, eqb, ltb, lit<}
+use lib.ListN.{length, length-append}
+use borrow.Author.Tests.{eq-eqb}
+use Rattle.seqs.specs.Lists.{choose}
+use Rattle.seqs.proofs.Laws.{choose-elim, lt-or-le}
+use Rattle.geometry.specs.declared.Geometry.{Geometry}
+use Rattle.geometry_log.specs.Log.{headerOf}
+use Rattle.geometry_answers.specs.Named.{isAnswer}
+use Rattle.geometry_layout.specs.Bounds.{Bounds}
+use Rattle.geometry_layout.specs.Places.{groupBlocks}
+use Rattle.geometry_layout.proofs.Bounding.{answer-bounds}
+use Rattle.geometry_layout.proofs.Ceil.{counted}
+use Rattle.geometry_layout.proofs.Inside.{blocks-least, inodes-most}
+use Rattle.geometry_places.proofs.Refused.{a-group}
+use Rattle.geometry_places.proofs.Room.{room-at}
+use Rattle.geometry_places.specs.Answers.{groupRefusal}
+use Rattle.plan_site.specs.declared.Site.{Site}
+use Rattle.plan_site.specs.Sites.{siteOf, Sound}
+use Rattle.plan_site.proofs.Sites.{site-sound}
+use Rattle.structs.specs.Sizes.{isPower, isSector, isBlock}
+use Rattle.plan_free.specs.Free.{packFree}
+use Rattle.plan.specs.declared.AgPlan.{AgPlan}
+use Rattle.plan.specs.declared.Planned.{Planned}
+use Rattle.params.specs.declared.OptU64.{OptU64}
+use Rattle.params.specs.declared.OptU64.the-variants.{Absent, Given}
+use Rattle.btree.specs.declared.records.AllocRec.{AllocRec}
+use Rattle.btree.specs.declared.records.RmapRec.{RmapRec}
+use Rattle.plan.specs.Plan.{ownAg, ownLog, ownInodes, ownRefc, gap, mapRec, refcMap, logMap, refusedPlan, planOf, planned}
+use Rattle.plan_closed.specs.Closed.{isFirst, isJoined, listAt, headParts, listParts, chunkParts, closedFree, closedList, closedRmap, closedAgPlan, closedPlan, short}
+use Rattle.plan_closed.proofs.Planning.{closed-plan}
+use Rattle.plan_totals.specs.Totals.{larger, freeblksOf, longestOf, beforeChunk, afterChunk}
+use Rattle.plan_totals.proofs.Rows.{free-is, longest-is, list-is}
+use Rattle.plan_same.specs.Same.{isPlan}
+use Rattle.plan_same.proofs.Planners.{planned-there, is-plan-number, is-plan-same}
+use Rattle.head_frame.specs.declared.Frame.{Frame}
+use Rattle.head_frame.specs.declared.Framed.{Framed}
+use Rattle.head_frame.specs.Frames.{frameOf, noFrame, framed, Fine, Few, chunkIno}
+
+-- ---- powers of two in a range
+
+or-true : (a : Bool) → (a || true) ≡ true
+or-true true = refl
+or-true false = refl
+
+pub is-power : (k c j : ℕ) → k ≤ j → j ≤ k + c → isPower k c (2 ^ j) ≡ true
+is-power k zero j h l = let e : j ≡ k = omega arith in rw e (eq-eqb (2 ^ k) (2 ^ k) refl)
+is-power k (suc c) j h l =
+    ⊎-elim
+    (λ lt. let r : isPower (suc k) c (2 ^ j) ≡ true = is-power (suc k) c j (omega arith) (omega arith) in rw r (or-true (eqb (2 ^ j) (2 ^ k))))
+    (λ le. let e : j ≡ k = omega arith in rw e (rw (eq-eqb (2 ^ k) (2 ^ k) refl) refl))
+    (lt-or-le k j)
+
+-- ---- the plan in closed form
+
+plan-at : (t : Bool) (p : AgPlan) → choose {A = Planned} t (refusedPlan 25) (record { number = 0; plan = p }) .number ≡ 0
+    → choose {A = Planned} t (refusedPlan 25) (record { number = 0; plan = p }) .plan ≡ p
+plan-at true p e = absurd (omega arith)
+plan-at false p e = refl
+
+-- records in a list of choices
+gap-few : (a b : ℕ) → length (gap a b) ≤ 1
+gap-few a b = choose-elim (λ (l : List AllocRec). length l ≤ 1) (ltb a b) _ _ (λ t. omega arith) (λ t. omega arith)
+
+maybe-few : {A : Type 0} (t : Bool) (x : A) → length (choose t (x ∷ []) []) ≤ 1
+maybe-few true x = omega arith
+maybe-few false x = omega arith
+
+free-few : (s : Site) → length (closedFree s) ≤ 2
+unfolding closedFree
+free-few s =
+    choose-elim (λ (l : List AllocRec). length l ≤ 2) (isFirst s) _ _
+    (λ t. let n = length-append (gap (s .head + s .need) (s .«chunk_at»)) (gap (s .«chunk_at» + s .«chunk_blocks») (s .length)) in
+    let a = gap-few (s .head + s .need) (s .«chunk_at») in
+    let b = gap-few (s .«chunk_at» + s .«chunk_blocks») (s .length) in
+    omega arith)
+    (λ t. let a = gap-few (listAt s + s .need) (s .length) in omega arith)
+
+between-few : (s : Site) → length (listParts s) ≤ 4
+between-few s =
+    choose-elim (λ (l : List RmapRec). length l ≤ 4) (isJoined s) _ _
+    (λ t. omega arith)
+    (λ t. let last = mapRec (listAt s) (s .need) ownAg ∷ [] in
+    let a = maybe-few (s .reflink) (mapRec (s .«refc_at») 1 ownRefc) in
+    let b = maybe-few (s .«has_log») (mapRec (s .«log_at») (s .«log_blocks») ownLog) in
+    let n = length-append (refcMap s) (logMap s ++ last) in
+    let m = length-append (logMap s) last in
+    omega arith)
+
+rmap-few : (s : Site) → length (closedRmap s) ≤ 8
+unfolding closedRmap
+rmap-few s =
+    choose-elim (λ (l : List RmapRec). length l ≤ 8) (s .rmapbt) _ _
+    (λ t. let a = between-few s in
+    let b = maybe-few (isFirst s) (mapRec (s .«chunk_at») (s .«chunk_blocks») ownInodes) in
+    let n = length-append (headParts s) (listParts s ++ chunkParts s) in
+    let m = length-append (listParts s) (chunkParts s) in
+    omega arith)
+    (λ t. omega arith)
+
+larger-most : (a b n : ℕ) → a < n → b < n → larger a b < n
+larger-most a b n h k = choose-elim (λ (x : ℕ). x < n) (ltb a b) b a (λ t. k) (λ t. h)
+
+free-least : (s : Site) → Sound s → freeblksOf (packFree (closedFree s)) < 2 ^ 32
+free-least s ok =
+    let l = ok .length-most in
+    let c = ok .chunk-ends in
+    rw (free-is s) (choose-elim (λ (x : ℕ). x < 2 ^ 32) (isFirst s) _ _ (λ t. omega arith) (λ t. omega arith))
+
+longest-least : (s : Site) → Sound s → longestOf (packFree (closedFree s)) < 2 ^ 32
+longest-least s ok =
+    let l = ok .length-most in
+    let c = ok .chunk-ends in
+    rw (longest-is s) (choose-elim (λ (x : ℕ). x < 2 ^ 32) (isFirst s) _ _
+    (λ t. larger-most (beforeChunk s) (afterChunk s) (2 ^ 32) (omega arith) (omega arith)) (λ t. omega arith))
+
+-- the chunk's first inode, for at most 32 inodes a block
+ino-least : (s : Site) (log : ℕ) → Sound s → 2 ^ log ≤ 32 → chunkIno log (choose (isFirst s) (Given (s .«chunk_at»)) Absent) < 2 ^ 32
+unfolding chunkIno
+ino-least s log ok h =
+    choose-elim (λ (x : OptU64). chunkIno log x < 2 ^ 32) (isFirst s) _ _
+    (λ t. let c = ok .chunk-ends in let b : s .«chunk_at» ≤ 80 = omega arith in let m : s .«chunk_at» * 2 ^ log ≤ 80 * 32 = mul-le-mul b h in omega arith)
+    (λ t. omega arith)
+
+-- ---- a plan of the planner
+
+-- what the casts of the frame need
+pub record Narrow (g : Geometry) (p : AgPlan) : Type 0 where
+  pub group : p .agno < 2 ^ 32
+  pub blocks : p .length < 2 ^ 32
+  pub header : headerOf (g .sectsize) (g .blocksize) < 2 ^ 32
+  pub shift : g .inopblog < 64
+  pub inode : chunkIno (g .inopblog) (p .chunk) < 2 ^ 32
+
+module _ (g : Geometry) (p : AgPlan) (l : length (g .label) ≡ 12) (h : isPlan g p ≡ true) where
+  abbrev its : Site
+  its = siteOf g (p .agno)
+
+  pub plan-answer : (isAnswer g ≡ true) × (p .agno < g .agcount)
+  plan-answer = a-group g (p .agno) (planned-there g (p .agno) (is-plan-number g p h))
+
+  pub plan-closed : p ≡ closedAgPlan its
+  unfolding closedPlan
+  plan-closed =
+      let e = closed-plan g l (plan-answer .0) (p .agno) (plan-answer .1) in
+      is-plan-same g p h ∙ ap (λ (x : Planned). x .plan) e
+      ∙ plan-at (short its) (closedAgPlan its) (sym (ap (λ (x : Planned). x .number) e) ∙ is-plan-number g p h)
+
+  bounds : Bounds g
+  bounds = answer-bounds g l (plan-answer .0)
+
+  sound : Sound its
+  sound = site-sound g (p .agno) l (plan-answer .0)
+
+  pub plan-narrow : Narrow g p
+  unfolding siteOf
+  plan-narrow =
+      let n = bounds .groups .count-most in
+      let k = plan-answer .1 in
+      let b = sound .length-most in
+      let h = bounds .places .header-most in
+      let e = bounds .sizes .inodes-log in
+      let m = bounds .sizes .block-most in
+      record {
+        group = omega arith;
+        blocks = rw plan-closed (omega arith);
+        header = omega arith;
+        shift = omega arith;
+        inode = rw plan-closed (ino-least its (g .inopblog) sound (inodes-most g bounds));
+      }
+
+  -- THE LISTS ARE SHORT
+  pub plan-few : Few p
+  plan-few =
+      let n = sound .need-most in
+      record {
+        free-most = rw plan-closed (free-few its);
+        list-most = rw plan-closed (rw (list-is its) n);
+        rmap-most = rw plan-closed (rmap-few its);
+        blocks-most = rw plan-closed (free-least its sound);
+        longest-most = rw plan-closed (longest-least its sound);
+      }
+
+  -- THE FRAME IS FINE
+  pub plan-fine : Fine (frameOf g p)
+  unfolding frameOf isSector isBlock headerOf
+  plan-fine =
+      let s = bounds .sizes in
+      let low : 2 ^ 9 ≤ 2 ^ g .sectlog = pow-le-pow-right (lit< tt) (s .sector-least) in
+      let mid : 2 ^ g .sectlog ≤ 2 ^ g .blocklog = pow-le-pow-right (lit< tt) (s .sector-block) in
+      let high : 2 ^ g .blocklog ≤ 2 ^ 14 = pow-le-pow-right (lit< tt) (s .block-most) in
+      let sp = s .sector-power in
+      let bp = s .block-power in
+      let c = counted (4 * g .sectsize) (g .blocksize) (omega arith) (omega arith) in
+      let bl = s .block-least in
+      let bm = s .block-most in
+      let sl = s .sector-least in
+      let sb = s .sector-block in
+      record {
+        header-least = c .some;
+        header-most = bounds .places .header-most;
+        sector-is = rw sp (is-power 9 6 (g .sectlog) sl (omega arith));
+        sector-most = omega arith;
+        block-is = rw bp (is-power 10 4 (g .blocklog) bl (omega arith));
+        block-most = omega arith;
+        sectors-fit = c .enough;
+        addresses = λ b le. room-at g bounds (p .agno) b (plan-answer .1) (let w = blocks-least g bounds (p .agno) in omega arith) .daddr;
+      }
+
+-- ---- what an answer of `frame_of` says
+
+answered-at : (t : Bool) (w : Frame) → choose {A = Framed} t (record { number = 0; frame = w }) (record { number = 31; frame = noFrame }) .number ≡ choose t 0 31
+answered-at true w = refl
+answered-at false w = refl
+
+pub framed-number : (g : Geometry) (p : AgPlan) → framed g p .number ≡ choose (isPlan g p) 0 31
+unfolding framed
+framed-number g p = answered-at (isPlan g p) (frameOf g p)
+
+pub framed-frame : (g : Geometry) (p : AgPlan) → isPlan g p ≡ true → framed g p .frame ≡ frameOf g p
+unfolding framed
+framed-frame g p h = rw h
+
+-- a number of 0 is a plan of the planner
+told-at : (t : Bool) → choose {A = ℕ} t 0 31 ≡ 0 → t ≡ true
+told-at true e = refl
+told-at false e = absurd (omega arith)
+
+pub framed-plan : (g : Geometry) (p : AgPlan) → framed g p .number ≡ 0 → isPlan g p ≡ true
+framed-plan g p e = told-at (isPlan g p) (sym (framed-number g p) ∙ e)

@@ -1,0 +1,73 @@
+-- What the parts of a group's head have in common.
+-- Assumes nothing.
+use mathlib.Core.Path.{_≡_}
+use mathlib.Core.Bool.{Bool, true, false}
+use Prim.Native.Nat.{ℕ, _+_, _*_, _/_, _^_, _≤_, _<_}
+use Rattle.seqs.specs.Lists.{choose}
+use Rattle.params.specs.declared.OptU64.{OptU64}
+use Rattle.params.specs.declared.OptU64.the-variants.{Absent, Given}
+use Rattle.params.specs.declared.Features.{Features}
+use Rattle.geometry.specs.declared.Geometry.{Geometry}
+use Rattle.geometry_log.specs.Log.{headerOf}
+use Rattle.structs.specs.Sizes.{isSector, isBlock}
+use Rattle.structs.specs.Written.{null32}
+use Rattle.plan.specs.declared.AgPlan.{AgPlan}
+use Rattle.plan_same.specs.Same.{isPlan}
+use Rattle.plan_totals.specs.Totals.{freeblksOf, longestOf}
+use Rattle.head_frame.specs.declared.Frame.{Frame}
+use Rattle.head_frame.specs.declared.Framed.{Framed}
+
+-- the root chunk lies in this group
+unfoldable pub hasChunk : OptU64 → Bool
+hasChunk Absent = false
+hasChunk (Given c) = true
+
+-- its first inode within the group: the block shifted by the logarithm of inodes per block; null where there is none
+unfoldable pub chunkIno : ℕ → OptU64 → ℕ
+chunkIno log Absent = null32
+chunkIno log (Given c) = c * 2 ^ log
+
+unfoldable pub frameOf : Geometry → AgPlan → Frame
+frameOf g p =
+    record {
+      agno = p .agno;
+      length = p .length;
+      header = headerOf (g .sectsize) (g .blocksize);
+      sector = g .sectsize;
+      block = g .blocksize;
+      agsize = g .agsize;
+      «has_chunk» = hasChunk (p .chunk);
+      newino = chunkIno (g .inopblog) (p .chunk);
+      features = g .features;
+    }
+
+abbrev pub noFeatures : Features
+noFeatures = record { finobt = false; rmapbt = false; reflink = false; inobtcount = false; bigtime = false; nrext64 = false; sparse = false }
+
+abbrev pub noFrame : Frame
+noFrame = record { agno = 0; length = 0; header = 0; sector = 0; block = 0; agsize = 0; «has_chunk» = false; newino = 0; features = noFeatures }
+
+-- `frame_of`: 31, or the frame
+unfoldable pub framed : Geometry → AgPlan → Framed
+framed g p = choose (isPlan g p) (record { number = 0; frame = frameOf g p }) (record { number = 31; frame = noFrame })
+
+-- what holds of the frame of every plan of the planner
+pub record Fine (w : Frame) : Type 0 where
+  pub header-least : 0 < w .header
+  pub header-most : w .header ≤ 4
+  pub sector-is : isSector (w .sector) ≡ true
+  pub sector-most : w .sector ≤ w .block
+  pub block-is : isBlock (w .block) ≡ true
+  pub block-most : w .block ≤ 16384
+  -- the four sectors lie in the header blocks
+  pub sectors-fit : 4 * w .sector ≤ w .header * w .block
+  -- the head's blocks have addresses
+  pub addresses : (b : ℕ) → b ≤ 10 → (w .agno * w .agsize + b < 2 ^ 64) × ((w .agno * w .agsize + b) * (w .block / 512) < 2 ^ 64)
+
+-- and of the plan's lists: few records, and few blocks
+pub record Few (p : AgPlan) : Type 0 where
+  pub free-most : p .free .len ≤ 2
+  pub list-most : p .agfl .len ≤ 6
+  pub rmap-most : p .rmap .len ≤ 8
+  pub blocks-most : freeblksOf (p .free) < 2 ^ 32
+  pub longest-most : longestOf (p .free) < 2 ^ 32

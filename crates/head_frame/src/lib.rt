@@ -1,0 +1,124 @@
+// What the parts of a group's head have in common, in plain numbers, once the plan is known to be the planner's.
+ghost use mathlib.Core.Path.{_≡_};
+ghost use mathlib.Core.Bool.{true};
+ghost use Prim.Native.Nat.{_*_, _<_, _^_};
+ghost use Rattle.plan_same.specs.Same.{isPlan};
+ghost use Rattle.head_frame.specs.Frames.{hasChunk, chunkIno, frameOf, noFrame, framed};
+use geometry::Geometry;
+use geometry_log::header_of;
+use params::Features;
+use params::OptU64;
+use plan::AgPlan;
+use plan_same::is_plan;
+
+// The refusal of a geometry that is no answer of the geometry step, and of a plan that is not the planner's.
+pub const NO_PLAN: u32 = 31;
+
+// A group, its head and its root chunk.
+pub struct Frame {
+    pub agno: u32,
+    pub length: u32, // blocks of the group
+    pub header: u32, // blocks of the four header sectors
+    pub sector: u32, // bytes
+    pub block: u32, // bytes
+    pub agsize: u64, // blocks of a whole group
+    pub has_chunk: bool,
+    pub newino: u32, // the chunk's first inode within the group, or NULL32
+    pub features: Features,
+}
+
+// The number is 0 for a plan of the planner; a refusal has the frame of zeros.
+pub struct Framed {
+    pub number: u32,
+    pub frame: Frame,
+}
+
+fn has_chunk(chunk: OptU64) -> bool
+    ensures { λ r. ⌜ r ≡ hasChunk chunk ⌝ }
+{
+    match chunk {
+        OptU64::Absent => false,
+        OptU64::Given(_) => true,
+    }
+}
+
+// A block's first inode within the group.
+fn first_ino(block: u64, log: u8) -> u32
+    requires { ⌜ (log < 64) × (block * 2 ^ log < 2 ^ 32) ⌝ }
+    ensures { λ r. ⌜ r ≡ block * 2 ^ log ⌝ }
+{
+    (block << log) as u32
+}
+
+// The first inode of the chunk within its group.
+fn chunk_ino(chunk: OptU64, log: u8) -> u32
+    requires { ⌜ (log < 64) × (chunkIno log chunk < 2 ^ 32) ⌝ }
+    ensures { λ r. ⌜ r ≡ chunkIno log chunk ⌝ }
+{
+    match chunk {
+        OptU64::Absent => structs::NULL32,
+        OptU64::Given(c) => first_ino(c, log),
+    }
+}
+
+fn no_frame() -> Framed
+    ensures { λ r. ⌜ r ≡ record { number = 31; frame = noFrame } ⌝ }
+{
+    let features = Features {
+        finobt: false,
+        rmapbt: false,
+        reflink: false,
+        inobtcount: false,
+        bigtime: false,
+        nrext64: false,
+        sparse: false,
+    };
+    let frame = Frame {
+        agno: 0,
+        length: 0,
+        header: 0,
+        sector: 0,
+        block: 0,
+        agsize: 0,
+        has_chunk: false,
+        newino: 0,
+        features,
+    };
+    Framed {
+        number: NO_PLAN,
+        frame,
+    }
+}
+
+fn frame_with(g: Geometry, p: AgPlan) -> Frame
+    requires { ⌜ isPlan g p ≡ true ⌝ }
+    ensures { λ r. ⌜ r ≡ frameOf g p ⌝ }
+{
+    let features = g.features;
+    let header = header_of(g.sectsize, g.blocksize as u64);
+    let chunk = p.chunk;
+    let there = has_chunk(chunk);
+    let newino = chunk_ino(chunk, g.inopblog);
+    Frame {
+        agno: p.agno as u32,
+        length: p.length as u32,
+        header: header as u32,
+        sector: g.sectsize,
+        block: g.blocksize,
+        agsize: g.agsize,
+        has_chunk: there,
+        newino,
+        features,
+    }
+}
+
+// 31 unless the plan is the planner's for its group, else what its head's parts have in common.
+pub fn frame_of(g: Geometry, p: AgPlan) -> Framed
+    ensures { λ r. ⌜ r ≡ framed g p ⌝ }
+{
+    if !is_plan(g, p) {
+        return no_frame();
+    }
+    let frame = frame_with(g, p);
+    Framed { number: 0, frame }
+}

@@ -1,0 +1,169 @@
+// The root blocks of a group's trees, each one leaf with its records: free space, inodes, reverse mappings.
+// 27 unless the block is one; 34 for a list of more than 64 records, or for records that don't fit.
+ghost use mathlib.Core.Path.{_≡_};
+ghost use Prim.Native.Nat.{_*_, _≤_};
+ghost use lib.ListN.{length, take};
+ghost use Rattle.arith.specs.Choice.{bit};
+ghost use Rattle.structs.specs.Written.{Written};
+ghost use Rattle.btree.specs.Records.{listed, allocBytes, inobtBytes, rmapBytes};
+ghost use Rattle.btree.specs.Leaf.{leafNumber, leafBytes};
+ghost use Rattle.head_leaves.specs.Leaves.{listNumber, few, chunkRec};
+use arith::choice::bit_of;
+use btree::InobtRec;
+use btree::leaf_block;
+use btree::records::ALLOC_REC;
+use btree::records::INOBT_REC;
+use btree::records::RMAP_REC;
+use btree::records::TOO_MANY_RECORDS;
+use plan_free::FreeList;
+use plan_rmap::RmapList;
+use structs::is_block;
+
+// Room for 64 records of the largest size.
+fn record_room() -> [u8; 1536]
+    ensures { λ r. ⌜ length r ≡ 1536 ⌝ }
+{
+    [0u8; 1536]
+}
+
+fn put_free(
+    magic: u32,
+    daddr: u64,
+    agno: u32,
+    uuid: &[u8; 16],
+    l: FreeList,
+    room: &mut [u8],
+    block: &mut [u8],
+) -> u32
+    requires { ⌜ (l .len ≤ 64) × (length (now room) ≡ 1536) ⌝ }
+    ensures { λ r. ⌜ Written (leafNumber (8 * l .len) (length (now (block .entry)))) (leafBytes magic daddr agno (now (uuid .entry)) (listed allocBytes (take (l .len) (l .recs))) (l .len) (length (now (block .entry)))) (now (block .entry)) r (now (block .exit)) ⌝ }
+{
+    let n = l.len;
+    let used = ALLOC_REC * n;
+    let recs = l.recs;
+    btree_records::alloc_recs_64(recs, n, &mut room[0..used]);
+    leaf_block(magic, daddr, agno, uuid, &room[0..used], n as u16, block)
+}
+
+// A leaf of free extents, in the order of the list.
+pub fn free_leaf(
+    magic: u32,
+    daddr: u64,
+    agno: u32,
+    uuid: &[u8; 16],
+    l: FreeList,
+    block: &mut [u8],
+) -> u32
+    ensures { λ r. ⌜ Written (listNumber 8 (l .len) (length (now (block .entry)))) (leafBytes magic daddr agno (now (uuid .entry)) (listed allocBytes (take (l .len) (l .recs))) (l .len) (length (now (block .entry)))) (now (block .entry)) r (now (block .exit)) ⌝ }
+{
+    if !is_block(block.len()) {
+        return endian::WRONG_LENGTH;
+    }
+    if 64 < l.len {
+        return TOO_MANY_RECORDS;
+    }
+    let mut room = record_room();
+    put_free(magic, daddr, agno, uuid, l, &mut room, block)
+}
+
+fn put_maps(
+    magic: u32,
+    daddr: u64,
+    agno: u32,
+    uuid: &[u8; 16],
+    l: RmapList,
+    room: &mut [u8],
+    block: &mut [u8],
+) -> u32
+    requires { ⌜ (l .len ≤ 64) × (length (now room) ≡ 1536) ⌝ }
+    ensures { λ r. ⌜ Written (leafNumber (24 * l .len) (length (now (block .entry)))) (leafBytes magic daddr agno (now (uuid .entry)) (listed rmapBytes (take (l .len) (l .recs))) (l .len) (length (now (block .entry)))) (now (block .entry)) r (now (block .exit)) ⌝ }
+{
+    let n = l.len;
+    let used = RMAP_REC * n;
+    let recs = l.recs;
+    btree_records::rmap_recs_64(recs, n, &mut room[0..used]);
+    leaf_block(magic, daddr, agno, uuid, &room[0..used], n as u16, block)
+}
+
+// A leaf of reverse mappings.
+pub fn rmap_leaf(
+    magic: u32,
+    daddr: u64,
+    agno: u32,
+    uuid: &[u8; 16],
+    l: RmapList,
+    block: &mut [u8],
+) -> u32
+    ensures { λ r. ⌜ Written (listNumber 24 (l .len) (length (now (block .entry)))) (leafBytes magic daddr agno (now (uuid .entry)) (listed rmapBytes (take (l .len) (l .recs))) (l .len) (length (now (block .entry)))) (now (block .entry)) r (now (block .exit)) ⌝ }
+{
+    if !is_block(block.len()) {
+        return endian::WRONG_LENGTH;
+    }
+    if 64 < l.len {
+        return TOO_MANY_RECORDS;
+    }
+    let mut room = record_room();
+    put_maps(magic, daddr, agno, uuid, l, &mut room, block)
+}
+
+// The root chunk's record: 64 inodes from startino on, of which the first three are in use.
+fn chunk_rec(startino: u32) -> InobtRec
+    ensures { λ r. ⌜ r ≡ chunkRec startino ⌝ }
+{
+    InobtRec {
+        startino,
+        holemask: 0,
+        count: 64,
+        freecount: 61,
+        free: 0xffff_ffff_ffff_fff8,
+    }
+}
+
+fn put_chunk(
+    magic: u32,
+    daddr: u64,
+    agno: u32,
+    uuid: &[u8; 16],
+    startino: u32,
+    n: usize,
+    sparse: bool,
+    room: &mut [u8],
+    block: &mut [u8],
+) -> u32
+    requires { ⌜ (n ≤ 64) × (length (now room) ≡ 1536) ⌝ }
+    ensures { λ r. ⌜ Written (leafNumber (16 * n) (length (now (block .entry)))) (leafBytes magic daddr agno (now (uuid .entry)) (listed (inobtBytes sparse) (few n (chunkRec startino))) n (length (now (block .entry)))) (now (block .entry)) r (now (block .exit)) ⌝ }
+{
+    let used = INOBT_REC * n;
+    let rec = chunk_rec(startino);
+    let recs = [rec; 64];
+    btree_records::inobt_recs_64(recs, n, sparse, &mut room[0..used]);
+    leaf_block(magic, daddr, agno, uuid, &room[0..used], n as u16, block)
+}
+
+// A leaf with the root chunk's record, or with none.
+pub fn chunk_leaf(
+    magic: u32,
+    daddr: u64,
+    agno: u32,
+    uuid: &[u8; 16],
+    startino: u32,
+    there: bool,
+    sparse: bool,
+    block: &mut [u8],
+) -> u32
+    ensures { λ r. ⌜ Written (leafNumber (16 * bit there) (length (now (block .entry)))) (leafBytes magic daddr agno (now (uuid .entry)) (listed (inobtBytes sparse) (few (bit there) (chunkRec startino))) (bit there) (length (now (block .entry)))) (now (block .entry)) r (now (block .exit)) ⌝ }
+{
+    let n = bit_of(there) as usize;
+    let mut room = record_room();
+    put_chunk(
+        magic,
+        daddr,
+        agno,
+        uuid,
+        startino,
+        n,
+        sparse,
+        &mut room,
+        block,
+    )
+}

@@ -1,0 +1,150 @@
+-- What is written for an accepted run, chunk by chunk, and read again is the run's list.
+-- Assumes nothing.
+use mathlib.Core.Path.{_≡_, refl, sym, ap, _∙_}
+use mathlib.Core.List.{List, [], _∷_, _++_}
+use Prim.Native.Nat.{ℕ, zero, suc, _+_, _-_, _<_, _≤_, _^_}
+use native.Mathlib.Omega.{arith}
+use lib.ListN.{length, getD}
+use Rattle.structs.specs.Written.{Written}
+use Rattle.structs.proofs.Written.{written-in}
+use Rattle.list_records.specs.Records.{Record, WZ, WB, FL, All, listBytes}
+use Rattle.list_read.specs.Records.{fits}
+use Rattle.list_read.specs.Whole.{readAll, allFit}
+use Rattle.list_read.specs.Flushes.{ruled}
+use Rattle.list_read.proofs.WholeList.{list-back}
+use Rattle.list_read.proofs.Ending.{whole-list, cut-list}
+use Rattle.list_device.specs.Device.{Fits}
+use Rattle.request.specs.declared.Request.{Request}
+use Rattle.request.specs.Parse.{parseDef}
+use Rattle.run.specs.declared.Run.{Run}
+use Rattle.run.specs.Runs.{runOf, accepted}
+use Rattle.list_spec.specs.Listing.{listOf, chunkCount, listChunk, chunksTo, recordCount, listLength}
+use Rattle.list_spec.proofs.Chunks.{by-chunks}
+use Rattle.list_spec.proofs.Parts.{butLast, list-last}
+use Rattle.list_spec.proofs.Cut.{told}
+use Rattle.list_accepted.specs.Accepted.{AcceptedRun}
+use Rattle.list_accepted.proofs.Runs.{run-plans, run-timely, run-bounds}
+use Rattle.list_accepted.proofs.Sound.{sound}
+use Rattle.list_accepted.proofs.Heads.{run-ordered}
+use Rattle.list_accepted.proofs.Parsed.{accepted-run}
+use Rattle.group_bytes.proofs.Accepted.{or-second}
+use Rattle.list_lengths.specs.declared.Counted.{Counted}
+use Rattle.list_lengths.specs.Chunks.{noChunk, formatNumber, placeNumber, writeNumber, countAnswer, lengthAnswer, partAnswer}
+use Rattle.list_lengths.proofs.Numbers.{place-there, place-none, write-fits}
+use Rattle.list_write.proofs.Splitting.{list-append}
+use Rattle.list_laws.specs.Whole.{largestHead, sent, sentTo, sentAll, WrittenWhole}
+use Rattle.list_laws.proofs.Long.{chunk-long}
+use Rattle.list_laws.proofs.Room.{part-most}
+
+-- ---- a record that lies inside a device of 64 bits is read back
+
+record-fits : (bs device : ℕ) → device < 2 ^ 64 → (w : Record) → Fits bs device w → fits w
+record-fits bs device h (WZ offset n) f = (omega (arith, f .1), omega (arith, f .1))
+record-fits bs device h (WB offset bytes) f = (omega (arith, f .1), omega (arith, f .1))
+record-fits bs device h FL f = (omega arith, omega arith)
+
+all-fit : (bs device : ℕ) → device < 2 ^ 64 → (ws : List Record) → All (Fits bs device) ws → allFit ws
+all-fit bs device h [] f = tt
+all-fit bs device h (w ∷ ws) f = (record-fits bs device h w (f .0), all-fit bs device h ws (f .1))
+
+-- ---- the chunks one after the other
+
+sent-is : (run : Run) (device n : ℕ) → sentTo run device n ≡ listBytes (chunksTo run device n)
+unfolding sentTo chunksTo listBytes
+sent-is run device zero = refl
+sent-is run device (suc n) = ap (λ (l : List ℕ). l ++ sent run device n) (sent-is run device n) ∙ sym (list-append (chunksTo run device n) (listChunk run device n))
+
+sent-whole : (run : Run) (device : ℕ) → sentAll run device ≡ listBytes (listOf run device)
+sent-whole run device = sent-is run device (chunkCount run) ∙ ap listBytes (by-chunks run device)
+
+-- ---- where it ends: its second flush is its last record, and a prefix of it has fewer
+
+list-ends : (run : Run) (device : ℕ) → ruled 0 (listOf run device) ≡ 0
+list-ends run device = whole-list (listOf run device) .1 (record { two = told run device .whole-flushes; front = butLast run device; last = list-last run device })
+
+a-front-refused : (run : Run) (device : ℕ) (front rest : List Record) (w : Record) → front ++ (w ∷ rest) ≡ listOf run device → ruled 0 front ≡ 28
+a-front-refused run device front rest w e = sym (cut-list front (told run device .cut-noticed front rest w e))
+
+-- ---- an accepted run
+
+module _ (r : Request) (a : AcceptedRun r) where
+  abbrev run : Run
+  run = runOf r
+
+  format : formatNumber run ≡ 0
+  unfolding formatNumber
+  format = sym (or-second _ _ 0 (run-plans r a) (sym (run-timely r a)))
+
+  -- chunk k is there, or not
+  pub there : (k : ℕ) → k < chunkCount run → placeNumber run k ≡ 0
+  unfolding chunkCount
+  there k h = sym (place-there run k format (omega arith))
+
+  not-there : (k : ℕ) → chunkCount run ≤ k → placeNumber run k ≡ noChunk
+  unfolding chunkCount
+  not-there k h = sym (place-none run k format (omega arith))
+
+  -- ---- what the functions answer
+
+  count-is : countAnswer run ≡ record { number = 0; value = chunkCount run }
+  unfolding countAnswer
+  count-is = rw format refl
+
+  length-is : (k : ℕ) → k < chunkCount run → lengthAnswer run k ≡ record { number = 0; value = length (sent run (r .device) k) }
+  unfolding lengthAnswer
+  length-is k h = rw (there k h, chunk-long run (r .device) (sound r a) k) refl
+
+  part-is : (k : ℕ) → k < chunkCount run → (partAnswer run k .number ≡ 0) × (partAnswer run k .value ≤ largestHead)
+  unfolding partAnswer
+  part-is k h = rw (there k h) (refl, part-most (run .geometry) (run-bounds r a) k)
+
+  write-is : (k room : ℕ) → k < chunkCount run → partAnswer run k .value ≤ room → writeNumber run k (length (sent run (r .device) k)) room ≡ 0
+  unfolding partAnswer
+  write-is k room h m = sym (write-fits run k _ room (there k h) (chunk-long run (r .device) (sound r a) k) (rw (there k h) at m))
+
+  accept-is : (k room : ℕ) → k < chunkCount run → largestHead ≤ room → writeNumber run k (length (sent run (r .device) k)) room ≡ 0
+  accept-is k room h m = let p = part-is k h .1 in write-is k room h (omega arith)
+
+  left-is : (k room n : ℕ) (old left : List ℕ) → k < chunkCount run → partAnswer run k .value ≤ room → length old ≡ lengthAnswer run k .value
+      → Written (writeNumber run k (length old) room) (sent run (r .device) k) old n left → (n ≡ 0) × (left ≡ sent run (r .device) k)
+  left-is k room n old left h m e w =
+      let l : length old ≡ length (sent run (r .device) k) = e ∙ ap (λ (c : Counted). c .value) (length-is k h) in
+      let z : writeNumber run k (length old) room ≡ 0 = rw l (write-is k room h m) in
+      (w .number ∙ z, written-in w z)
+
+  none-is : (k len room : ℕ) → chunkCount run ≤ k → (placeNumber run k ≡ noChunk) × (writeNumber run k len room ≡ noChunk)
+  unfolding writeNumber
+  none-is k len room h = let n = not-there k h in (n, rw n refl)
+
+  -- ---- the bytes that are sent
+
+  bytes-is : length (sentAll run (r .device)) ≡ listLength (run .geometry)
+  bytes-is = ap length (sent-whole run (r .device)) ∙ run-ordered r a .bytes
+
+  read-is : readAll (recordCount (run .geometry)) (sentAll run (r .device)) ≡ listOf run (r .device)
+  read-is =
+      let o = run-ordered r a in
+      let f = all-fit (run .geometry .blocksize) (r .device) (a .typed .device) (listOf run (r .device)) (o .fits) in
+      rw (sent-whole run (r .device), ← o .count) (list-back (listOf run (r .device)) f)
+
+  -- WHAT IS WRITTEN FOR AN ACCEPTED RUN, AND READ AGAIN, IS ITS LIST
+  pub written-whole : WrittenWhole (runOf r) (r .device)
+  written-whole =
+      record {
+        counted = count-is;
+        long = length-is;
+        part = part-is;
+        accepts = accept-is;
+        leaves = left-is;
+        none = none-is;
+        whole = sent-whole run (r .device);
+        bytes = bytes-is;
+        back = read-is;
+        ends = list-ends run (r .device);
+        front-refused = a-front-refused run (r .device);
+      }
+
+-- THE SAME FOR EVERY INPUT THAT `accept` ACCEPTS
+pub input-whole : (xs : List ℕ) → ((i : ℕ) → getD xs i 0 < 256) → accepted xs .number ≡ 0 → WrittenWhole (accepted xs) (parseDef xs .device)
+unfolding accepted
+input-whole xs bytes e = written-whole (parseDef xs) (accepted-run xs bytes e)

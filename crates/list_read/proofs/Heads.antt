@@ -1,0 +1,75 @@
+-- The head of a record by its mark, where its write ends, and the part of its bytes that is here.
+-- Assumes nothing.
+use mathlib.Core.Path.{_≡_, refl, sym}
+use mathlib.Core.Bool.{Bool, true, false}
+use mathlib.Core.List.{List}
+use Prim.Native.Nat.{ℕ, _+_, _-_, _≤_, _<_}
+use lib.ListN.{length}
+use borrow.Author.Tests.{leb-true, le-leb, lt-leb, ne-eqb}
+use Rattle.endian.specs.Bytes.{beAt}
+use Rattle.list_read.specs.Records.{flushMark, zerosMark, bytesMark, flush, zeros, bytes, head, more, refused, cut, write, decodeDef, largest, withinDef, part, noBody, bodyDef}
+
+-- ---- too few bytes
+pub cut-more : (last : Bool) → last ≡ false → more ≡ cut last
+cut-more last e = rw e refl
+
+-- ---- a write's head
+module _ (last : Bool) (kind : ℕ) (xs : List ℕ) where
+  pub write-cut : length xs < 18 → cut last ≡ write last kind xs
+  unfolding write
+  write-cut h = rw (lt-leb 18 (length xs) h) refl
+
+  pub write-held : (at len : ℕ) → 18 ≤ length xs → at ≡ beAt 8 2 xs → len ≡ beAt 8 10 xs → head kind at len 18 ≡ write last kind xs
+  unfolding write
+  write-held at len h d e = rw (le-leb 18 (length xs) h, d, e) refl
+
+-- ---- by the mark
+module _ (last : Bool) (xs : List ℕ) where
+  pub no-mark : length xs < 2 → cut last ≡ decodeDef last xs
+  unfolding decodeDef
+  no-mark h = rw (lt-leb 2 (length xs) h) refl
+
+  module _ (m : ℕ) (room : 2 ≤ length xs) (mark : m ≡ beAt 2 0 xs) where
+    pub flush-at : m ≡ flushMark → head flush 0 0 2 ≡ decodeDef last xs
+    unfolding decodeDef
+    flush-at e = rw (le-leb 2 (length xs) room, ← mark, e) refl
+
+    pub zeros-at : m ≡ zerosMark → write last zeros xs ≡ decodeDef last xs
+    unfolding decodeDef
+    zeros-at e = rw (le-leb 2 (length xs) room, ← mark, e) refl
+
+    pub bytes-at : m ≡ bytesMark → write last bytes xs ≡ decodeDef last xs
+    unfolding decodeDef
+    bytes-at e = rw (le-leb 2 (length xs) room, ← mark, e) refl
+
+    pub unknown-at : (m ≡ flushMark → ⊥) → (m ≡ zerosMark → ⊥) → (m ≡ bytesMark → ⊥) → refused ≡ decodeDef last xs
+    unfolding decodeDef
+    unknown-at a b c = rw (le-leb 2 (length xs) room, ← mark, ne-eqb m flushMark a, ne-eqb m zerosMark b, ne-eqb m bytesMark c) refl
+
+-- ---- where a write ends
+module _ (at len : ℕ) where
+  pub ends-within : at + len ≤ largest → true ≡ withinDef at len
+  unfolding withinDef
+  ends-within h = sym (le-leb (at + len) largest h)
+
+  pub ends-past : largest < at + len → false ≡ withinDef at len
+  unfolding withinDef
+  ends-past h = sym (lt-leb (at + len) largest h)
+
+  pub within-end : withinDef at len ≡ true → at + len ≤ largest
+  unfolding withinDef
+  within-end e = leb-true (at + len) largest e
+
+-- ---- the bytes behind a head
+module _ (last : Bool) (len have : ℕ) where
+  pub all-here : len ≤ have → part len 0 ≡ bodyDef last len have
+  unfolding bodyDef
+  all-here h = rw (le-leb len have h) refl
+
+  pub lacking : have < len → last ≡ true → noBody ≡ bodyDef last len have
+  unfolding bodyDef
+  lacking h e = rw (lt-leb len have h, e) refl
+
+  pub some-here : have < len → last ≡ false → part have (len - have) ≡ bodyDef last len have
+  unfolding bodyDef
+  some-here h e = rw (lt-leb len have h, e) refl

@@ -1,0 +1,41 @@
+-- Where a list of written records ends: with its second flush.
+-- Assumes nothing.
+use mathlib.Core.Path.{_≡_}
+use mathlib.Core.List.{List, [], _∷_, _++_}
+use Prim.Native.Nat.{ℕ, _+_}
+use lib.Dec.{leb, eqb}
+use Rattle.seqs.specs.Lists.{choose}
+use Rattle.list_records.specs.Records.{Record, FL, flushes}
+use Rattle.list_read.specs.declared.Passed.{Passed}
+use Rattle.list_read.specs.Records.{flush, headOf}
+
+-- ---- record by record
+
+abbrev pub passed : ℕ → Passed
+passed n = record { number = 0; flushes = n }
+
+abbrev pub behind : Passed
+behind = record { number = 28; flushes = 0 }
+
+-- A record of a list of which `n` flushes are past: a flush is one more; a record behind the second is malformed.
+unfoldable pub nextDef : ℕ → ℕ → Passed
+nextDef n kind = choose (leb 2 n) behind (passed (choose (eqb kind flush) (n + 1) n))
+
+-- The list ends, and is cut unless two flushes are past.
+unfoldable pub endedDef : ℕ → ℕ
+endedDef n = choose (eqb n 2) 0 28
+
+-- What the rest of a list gets, `n` flushes being past: the number of the first record that is refused, or that of its end.
+unfoldable pub ruled : ℕ → List Record → ℕ
+ruled n [] = endedDef n
+ruled n (w ∷ ws) =
+    let p = nextDef n (headOf w .kind) in
+    choose (eqb (p .number) 0) (ruled (p .flushes) ws) (p .number)
+
+-- ---- of a whole list
+
+-- A whole list has two flushes, and its last record is one.
+pub record WholeList (ws : List Record) : Type 0 where
+  pub two : flushes ws ≡ 2
+  pub front : List Record
+  pub last : ws ≡ front ++ (FL ∷ [])

@@ -1,0 +1,17 @@
+-- `list_write::chunks::byte_of` meets its contract.
+-- Assumes nothing.
+use Rattle.geometry_layout.specs.Places.{byteOf, before}
+use mathlib.Core.Path.{refl}
+use borrow.Author.Needs.{needs}
+use Rattle.list_write.proofs.chunks.byte_of.Statement.{statement}
+use Rattle.list_write.proofs.chunks.byte_of.Tie as tie
+
+returns : tie.Need-returns
+unfolding byteOf before
+returns c = refl
+
+pub byte-of-spec : {M : Type 1} → statement M
+byte-of-spec =
+    tie.close
+    (tie.spec
+    (λ c. search needs) (λ c. search needs) (λ c. search needs) returns)

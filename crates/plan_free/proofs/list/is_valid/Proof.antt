@@ -1,0 +1,80 @@
+-- `plan_free::list::is_valid` meets its contract.
+-- Assumes nothing.
+use mathlib.Core.Path.{_≡_, sym, _∙_}
+use Prim.Native.Nat.{_-_, _≤_}
+use borrow.Author.Needs.{needs}
+use native.Mathlib.Omega.{arith}
+use lib.ListN.{length, length-map}
+use lib.Seq.{slice}
+use borrow.Author.Tests.{not-true, not-false}
+use Rattle.seqs.specs.Runs.{valid}
+use Rattle.plan_free.specs.Free.{freeOf, startOf, countOf, zeroRec}
+use Rattle.seqs.proofs.Validity.{valid-step, valid-no, valid-end}
+use Rattle.plan_free.proofs.list.is_valid.Statement.{statement}
+use Rattle.plan_free.proofs.list.is_valid.Tie as tie
+
+abbrev Inv-loop : tie.InvT-loop
+Inv-loop l n lo₀ i₀ lo i = (i ≤ n) × (valid startOf countOf 0 (freeOf l) ≡ valid startOf countOf lo (slice i n (l .recs)))
+
+abbrev μ-loop : tie.MeasureT-loop
+μ-loop l n lo₀ i₀ lo i = n - i
+
+loop-holds : tie.Need-loop-holds Inv-loop μ-loop
+loop-holds c = search needs
+
+mul-r : tie.Need-mul-r Inv-loop μ-loop
+mul-r c = omega arith
+
+element-copy-out-r : tie.Need-element-copy-out-r Inv-loop μ-loop
+element-copy-out-r c = omega arith
+
+may-follow-requires : tie.Need-may-follow-requires Inv-loop μ-loop
+may-follow-requires c κs = omega arith
+
+returns : tie.Need-returns Inv-loop μ-loop
+returns c =
+    let s = c .before .before .before .before .before in
+    let l = c .before .before .before .before .loop in
+    let k : length (s .args .t1 .recs) ≡ 64 = simp length-map at (s .good .0 .1 .1 .0 .1 .0 .1) in
+    sym (l .inv .1 ∙ valid-no startOf countOf zeroRec (l .lo) (s .args .t1 .recs) (s .args .t1 .len) (l .i) (search needs) (omega arith) (sym (c .before .may-follow .ensures) ∙ not-true _ (c .if1 .taken)))
+
+end-of-requires : tie.Need-end-of-requires Inv-loop μ-loop
+end-of-requires c κs = omega arith
+
+add-i : tie.Need-add-i Inv-loop μ-loop
+add-i c = omega arith
+
+loop-less : tie.Need-loop-less Inv-loop μ-loop
+loop-less c = omega arith
+
+loop-again : tie.Need-loop-again Inv-loop μ-loop
+loop-again c =
+    let s = c .before .before .before .before .before .before in
+    let l = c .before .before .before .before .before .loop in
+    let k : length (s .args .t1 .recs) ≡ 64 = simp length-map at (s .good .0 .1 .1 .0 .1 .0 .1) in (
+      search needs,
+      rw (c .end-of .ensures) (l .inv .1
+          ∙ valid-step startOf countOf zeroRec (l .lo) (s .args .t1 .recs) (s .args .t1 .len) (l .i) (search needs) (omega arith) (sym (c .before .before .may-follow .ensures) ∙ not-false _ (c .before .if1 .left))),
+    )
+
+returns-2 : tie.Need-returns-2 Inv-loop μ-loop
+returns-2 c =
+    let e : c .before .loop .i ≡ c .before .before .args .t1 .len = omega arith in
+    sym (c .before .loop .inv .1 ∙ valid-end startOf countOf zeroRec _ (c .before .before .args .t1 .recs) _ _ e)
+
+pub is-valid-spec : {M : Type 1} → statement M
+is-valid-spec =
+    tie.close
+    (tie.spec
+    Inv-loop
+    μ-loop
+    loop-holds
+    mul-r
+    element-copy-out-r
+    may-follow-requires
+    returns
+    end-of-requires
+    add-i
+    loop-less
+    loop-again
+    returns-2)

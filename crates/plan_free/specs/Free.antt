@@ -1,0 +1,126 @@
+-- The free extents of a group: a run taken out of them, and the record that the free list is filled from.
+-- Assumes nothing.
+use mathlib.Core.Bool.{Bool, true, false}
+use mathlib.Core.List.{List, [], _∷_, _++_}
+use Prim.Native.Nat.{ℕ, _+_, _-_, _^_}
+use lib.Dec.{leb, ltb, eqb}
+use lib.ListN.{length, getD}
+use Rattle.seqs.specs.Lists.{both, choose, firstIndex, spliced, Store, live, packed, fold}
+use Rattle.seqs.specs.Runs.{notValid, valid}
+use Rattle.btree.specs.declared.records.AllocRec.{AllocRec}
+use Rattle.btree.specs.Records.{tooMany}
+use Rattle.plan_free.specs.declared.FreeList.{FreeList}
+use Rattle.plan_free.specs.declared.Taken.{Taken}
+use Rattle.plan_free.specs.declared.Choice.{Choice}
+
+-- the refusal of a run that no record holds
+abbrev pub notFree : ℕ
+notFree = 33
+
+-- what stands in a slot past the count
+abbrev pub zeroRec : AllocRec
+zeroRec = record { start = 0; count = 0 }
+
+-- a struct of the code as an array with a count, and back
+abbrev pub ofFree : FreeList → Store AllocRec
+ofFree l = record { recs = l .recs; len = l .len }
+
+abbrev pub toFree : Store AllocRec → FreeList
+toFree s = record { recs = s .recs; len = s .len }
+
+-- the list that a struct holds
+abbrev pub freeOf : FreeList → List AllocRec
+freeOf l = live (ofFree l)
+
+-- a list as a struct: the slots past the count are zero records
+abbrev pub packFree : List AllocRec → FreeList
+packFree xs = toFree (packed zeroRec xs)
+
+-- the first block of a record, and how many there are
+abbrev pub startOf : AllocRec → ℕ
+startOf r = r .start
+
+abbrev pub countOf : AllocRec → ℕ
+countOf r = r .count
+
+-- the first block past a record
+abbrev pub endOf : AllocRec → ℕ
+endOf r = r .start + r .count
+
+-- the run from s up to, not including, e lies within the record
+abbrev pub holdsRun : ℕ → ℕ → AllocRec → Bool
+holdsRun s e r = both (leb (r .start) s) (leb e (endOf r))
+
+-- what the run leaves of the record before it, and after it
+abbrev pub before : ℕ → AllocRec → List AllocRec
+before s r = choose (ltb (r .start) s) (record { start = r .start; count = s - r .start } ∷ []) []
+
+abbrev pub after : ℕ → AllocRec → List AllocRec
+after e r = choose (ltb e (endOf r)) (record { start = e; count = endOf r - e } ∷ []) []
+
+-- both
+unfoldable pub cut : ℕ → ℕ → AllocRec → List AllocRec
+cut s e r = before s r ++ after e r
+
+-- an answer of `take`: a number and no record, or 0 and the records left
+abbrev pub refusal : ℕ → Taken
+refusal n = record { number = n; list = packFree [] }
+
+-- the records left, if they are at most 64
+abbrev pub kept : List AllocRec → Taken
+kept xs = choose (leb (length xs) 64) (record { number = 0; list = packFree xs }) (refusal tooMany)
+
+-- the run taken out of the record at index i
+unfoldable pub takenAt : List AllocRec → ℕ → ℕ → ℕ → Taken
+takenAt xs i s e = kept (spliced xs i (i + 1) (cut s e (getD xs i zeroRec)))
+
+-- out of the first record that holds it; 33 where none does
+unfoldable pub takenFrom : List AllocRec → ℕ → ℕ → Taken
+takenFrom xs s e = choose (ltb (firstIndex (holdsRun s e) xs) (length xs)) (takenAt xs (firstIndex (holdsRun s e) xs) s e) (refusal notFree)
+
+-- `take`: the run of len blocks from start taken out of the free extents. 34 above 64 records, 32 unless they are valid, 33 where
+-- start plus len is above 2^64 − 1
+unfoldable pub taken : FreeList → ℕ → ℕ → Taken
+taken l start len =
+    choose (ltb 64 (l .len)) (refusal tooMany)
+    (choose (valid startOf countOf 0 (freeOf l))
+    (choose (ltb (start + len) (2 ^ 64)) (takenFrom (freeOf l) start (start + len)) (refusal notFree))
+    (refusal notValid))
+
+-- ---- the record that the free list is taken from: none, or one
+abbrev pub noChoice : Choice
+noChoice = record { found = false; rec = zeroRec }
+
+abbrev pub chosen : AllocRec → Choice
+chosen r = record { found = true; rec = r }
+
+-- size p is less than size q, or they are equal and start s is lower than start t
+abbrev pub ahead : ℕ → ℕ → ℕ → ℕ → Bool
+ahead p q s t = choose (eqb p q) (ltb s t) (ltb p q)
+
+-- a record with fewer blocks, or more, and the lower start where they have as many
+abbrev pub smaller : AllocRec → AllocRec → Bool
+smaller a b = ahead (a .count) (b .count) (a .start) (b .start)
+
+abbrev pub larger : AllocRec → AllocRec → Bool
+larger a b = ahead (b .count) (a .count) (a .start) (b .start)
+
+-- r in the place of c where it passes a test, and wins over c or nothing is there
+abbrev pub next : Bool → Bool → Choice → AllocRec → Choice
+next passes wins c r = choose (both passes (choose (c .found) wins true)) (chosen r) c
+
+-- the better fit: a record that holds all still wanted, and is smaller
+unfoldable pub fitter : ℕ → Choice → AllocRec → Choice
+fitter want c r = next (leb want (r .count)) (smaller r (c .rec)) c r
+
+-- the larger record
+unfoldable pub bigger : Choice → AllocRec → Choice
+bigger c r = next true (larger r (c .rec)) c r
+
+-- the smallest record that holds all still wanted, else the largest; the lowest start on a tie
+unfoldable pub pickedFrom : ℕ → List AllocRec → Choice
+pickedFrom want xs = choose (fold (fitter want) noChoice xs .found) (fold (fitter want) noChoice xs) (fold bigger noChoice xs)
+
+-- `pick`: nothing of a list of more than 64
+unfoldable pub picked : FreeList → ℕ → Choice
+picked l want = choose (ltb 64 (l .len)) noChoice (pickedFrom want (freeOf l))

@@ -1,0 +1,21 @@
+-- `plan_rmap::inserting::joined` meets its contract.
+-- Assumes nothing.
+use borrow.Author.Needs.{needs}
+use borrow.Author.Tests.{eq-eqb, ne-eqb}
+use Rattle.plan_rmap.proofs.inserting.joined.Statement.{statement}
+use Rattle.plan_rmap.proofs.inserting.joined.Tie as tie
+
+end-of-requires : tie.Need-end-of-requires
+end-of-requires c κs = search needs
+
+cast-result : tie.Need-cast-result
+cast-result c = search needs
+
+returns : tie.Need-returns
+returns c = simp (eq-eqb _ _ (c .before .before .if1 .taken), c .before .end-of .ensures)
+
+returns-2 : tie.Need-returns-2
+returns-2 c = simp (ne-eqb _ _ (c .if1 .left))
+
+pub joined-spec : {M : Type 1} → statement M
+joined-spec = tie.close (tie.spec end-of-requires cast-result returns returns-2)

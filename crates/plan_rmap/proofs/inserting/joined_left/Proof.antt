@@ -1,0 +1,37 @@
+-- `plan_rmap::inserting::joined_left` meets its contract.
+-- Assumes nothing.
+use native.Mathlib.Omega.{arith}
+use borrow.Author.Needs.{needs}
+use mathlib.Core.Path.{_∙_}
+use Prim.Native.Nat.{_-_}
+use borrow.Author.Tests.{lt-ltb, le-ltb}
+use lib.Seq.{getD-take}
+use Rattle.plan_rmap.specs.Rmap.{zeroRec, joinsLeft}
+use Rattle.plan_rmap.proofs.inserting.joined_left.Statement.{statement}
+use Rattle.plan_rmap.proofs.inserting.joined_left.Tie as tie
+
+sub-q : tie.Need-sub-q
+sub-q c = search needs
+
+mul-a : tie.Need-mul-a
+mul-a c = search needs
+
+element-copy-out-a : tie.Need-element-copy-out-a
+element-copy-out-a c = search needs
+
+joined-requires : tie.Need-joined-requires
+joined-requires c κs = search needs
+
+returns : tie.Need-returns
+unfolding joinsLeft
+returns c =
+    let s = c .before .before .before in
+    c .joined .ensures ∙ rw (lt-ltb 0 (s .args .p) (search needs), getD-take (s .args .t1 .len) (s .args .t1 .recs) (s .args .p - 1) zeroRec (omega arith))
+
+returns-2 : tie.Need-returns-2
+unfolding joinsLeft
+returns-2 c = simp (le-ltb _ _ (c .if1 .left))
+
+pub joined-left-spec : {M : Type 1} → statement M
+joined-left-spec =
+    tie.close (tie.spec sub-q mul-a element-copy-out-a joined-requires returns returns-2)

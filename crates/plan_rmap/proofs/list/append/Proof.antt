@@ -1,0 +1,65 @@
+-- `plan_rmap::list::append` meets its contract.
+-- Assumes nothing.
+use mathlib.Core.Path.{_≡_, sym, ap, _∙_}
+use Prim.Native.Nat.{_-_, _≤_}
+use borrow.Author.Needs.{needs}
+use native.Mathlib.Omega.{arith}
+use lib.ListN.{length, length-map}
+use lib.Seq.{slice}
+use Rattle.seqs.specs.Lists.{appended}
+use Rattle.plan_rmap.specs.Rmap.{ofRmap, toRmap, zeroRec}
+use Rattle.seqs.proofs.Laws.{appended-step, appended-end}
+use Rattle.plan_rmap.proofs.list.append.Statement.{statement}
+use Rattle.plan_rmap.proofs.list.append.Tie as tie
+
+abbrev Inv-loop : tie.InvT-loop
+Inv-loop from to src out₀ i₀ out i =
+    (i ≤ to) × (appended (ofRmap out₀) (slice i₀ to (src .recs)) ≡ appended (ofRmap out) (slice i to (src .recs)))
+
+abbrev μ-loop : tie.MeasureT-loop
+μ-loop from to src out₀ i₀ out i = to - i
+
+loop-holds : tie.Need-loop-holds Inv-loop μ-loop
+loop-holds c = search needs
+
+mul-r : tie.Need-mul-r Inv-loop μ-loop
+mul-r c = search needs
+
+element-copy-out-r : tie.Need-element-copy-out-r Inv-loop μ-loop
+element-copy-out-r c = search needs
+
+push-requires : tie.Need-push-requires Inv-loop μ-loop
+push-requires c κs = search needs
+
+add-i : tie.Need-add-i Inv-loop μ-loop
+add-i c = search needs
+
+loop-less : tie.Need-loop-less Inv-loop μ-loop
+loop-less c = search needs
+
+loop-again : tie.Need-loop-again Inv-loop μ-loop
+loop-again c =
+    let s = c .before .before .before .before in
+    let l = c .before .before .before .loop in
+    let k : length (s .args .t2 .recs) ≡ 64 = simp length-map at (s .good .1 .0 .1 .1 .0 .1 .0 .1) in
+    rw (c .push .ensures) (search needs, l .inv .1 ∙ appended-step zeroRec (ofRmap (l .out)) (s .args .t2 .recs) (s .args .to) (l .i) (search needs) (omega arith))
+
+returns : tie.Need-returns Inv-loop μ-loop
+returns c =
+    let e : c .before .loop .i ≡ c .before .before .args .to = omega arith in
+    ap toRmap (sym (c .before .loop .inv .1 ∙ appended-end zeroRec _ (c .before .before .args .t2 .recs) _ _ e))
+
+pub append-spec : {M : Type 1} → statement M
+append-spec =
+    tie.close
+    (tie.spec
+    Inv-loop
+    μ-loop
+    loop-holds
+    mul-r
+    element-copy-out-r
+    push-requires
+    add-i
+    loop-less
+    loop-again
+    returns)

@@ -1,0 +1,56 @@
+-- `plan_same::same_blocks` meets its contract.
+-- Assumes nothing.
+use Rattle.plan_same.proofs.Laws.{agree, differ, ended}
+use Rattle.plan_same.specs.Same.{eqList}
+use lib.Dec.{eqb}
+use lib.ListN.{length, drop}
+use native.Mathlib.Omega.{arith}
+use borrow.Author.Tests.{eq-eqb, ne-eqb}
+use borrow.Author.Needs.{needs}
+use Prim.Native.Nat.{_-_, _≤_}
+use mathlib.Core.Path.{_≡_, refl, sym, _∙_}
+use Rattle.plan_same.proofs.same_blocks.Statement.{statement}
+use Rattle.plan_same.proofs.same_blocks.Tie as tie
+
+abbrev Inv-loop : tie.InvT-loop
+Inv-loop a b i₀ i = (i ≤ 64) × (eqList eqb a b ≡ eqList eqb (drop i a) (drop i b))
+
+abbrev μ-loop : tie.MeasureT-loop
+μ-loop a b i₀ i = 64 - i
+
+loop-holds : tie.Need-loop-holds Inv-loop μ-loop
+loop-holds c = (omega arith, refl)
+
+mul-if1 : tie.Need-mul-if1 Inv-loop μ-loop
+mul-if1 c = search needs
+
+array-read-if1 : tie.Need-array-read-if1 Inv-loop μ-loop
+array-read-if1 c = search needs
+
+mul-if1-2 : tie.Need-mul-if1-2 Inv-loop μ-loop
+mul-if1-2 c = search needs
+
+array-read-if1-2 : tie.Need-array-read-if1-2 Inv-loop μ-loop
+array-read-if1-2 c = search needs
+
+returns : tie.Need-returns Inv-loop μ-loop
+returns c = let k : length (c .before .before .before .args .t1) ≡ 64 = search needs in let m : length (c .before .before .before .args .t2) ≡ 64 = search needs in sym (c .before .before .loop .inv .1 ∙ differ eqb 0 (c .before .before .before .args .t1) (c .before .before .before .args .t2) (c .before .before .loop .i) (omega arith) (omega arith) (ne-eqb _ _ (c .if1 .taken)))
+
+add-i : tie.Need-add-i Inv-loop μ-loop
+add-i c = omega arith
+
+loop-less : tie.Need-loop-less Inv-loop μ-loop
+loop-less c = omega arith
+
+loop-again : tie.Need-loop-again Inv-loop μ-loop
+loop-again c = let k : length (c .before .before .before .args .t1) ≡ 64 = search needs in let m : length (c .before .before .before .args .t2) ≡ 64 = search needs in (omega arith, c .before .before .loop .inv .1 ∙ agree eqb 0 (c .before .before .before .args .t1) (c .before .before .before .args .t2) (c .before .before .loop .i) (omega arith) (omega arith) (eq-eqb _ _ (c .if1 .left)))
+
+returns-2 : tie.Need-returns-2 Inv-loop μ-loop
+returns-2 c = let k : length (c .before .before .args .t1) ≡ 64 = search needs in let m : length (c .before .before .args .t2) ≡ 64 = search needs in sym (c .before .loop .inv .1 ∙ ended eqb 0 (c .before .before .args .t1) (c .before .before .args .t2) (c .before .loop .i) (omega arith) (omega arith))
+
+pub same-blocks-spec : {M : Type 1} → statement M
+same-blocks-spec =
+    tie.close
+    (tie.spec
+    Inv-loop μ-loop loop-holds mul-if1 array-read-if1 mul-if1-2 array-read-if1-2 returns add-i loop-less
+    loop-again returns-2)

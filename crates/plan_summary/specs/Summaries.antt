@@ -1,0 +1,88 @@
+-- The plans of all groups in a few numbers: from them each group's row of the table, in constant time.
+-- Assumes nothing.
+use Prim.Native.Nat.{ℕ, _*_, _-_, max}
+use lib.Dec.{ltb, eqb}
+use Rattle.arith.specs.Choice.{when}
+use Rattle.seqs.specs.Lists.{choose}
+use Rattle.geometry.specs.declared.Geometry.{Geometry}
+use Rattle.geometry_log.specs.Log.{preallocOf}
+use Rattle.geometry_layout.specs.Places.{freelistOf, chunkOf, rootChunkOf}
+use Rattle.plan_totals.specs.declared.Row.{Row}
+use Rattle.plan_totals.specs.Totals.{plansNumber, constCount, noRow, closedTotal}
+use Rattle.plan_summary.specs.declared.Summary.{Summary}
+use Rattle.plan_summary.specs.declared.Summarised.{Summarised}
+
+-- ---- the numbers of a geometry
+
+unfoldable pub summaryOf : Geometry → Summary
+summaryOf g =
+    record {
+      agcount = g .agcount;
+      agsize = g .agsize;
+      last = g .dblocks - (g .agcount - 1) * g .agsize;
+      logagno = g .logagno;
+      logblocks = g .logblocks;
+      head = preallocOf (g .features) (g .sectsize) (g .blocksize);
+      list = freelistOf (g .features);
+      «chunk_at» = rootChunkOf (g .features) (g .sectsize) (g .inodesize) (g .blocksize);
+      chunk = chunkOf (g .inodesize) (g .blocksize);
+      count = constCount g;
+      total = closedTotal g;
+    }
+
+abbrev pub noSummary : Summary
+noSummary =
+    record {
+      agcount = 0;
+      agsize = 0;
+      last = 0;
+      logagno = 0;
+      logblocks = 0;
+      head = 0;
+      list = 0;
+      «chunk_at» = 0;
+      chunk = 0;
+      count = 0;
+      total = record { length = 0; log = 0; list = 0; chunk = 0; free = 0 };
+    }
+
+-- `summary_of`: 31, 25, or the summary
+unfoldable pub summarised : Geometry → Summarised
+summarised g =
+    choose (eqb (plansNumber g) 0) (record { number = 0; summary = summaryOf g })
+    (record { number = plansNumber g; summary = noSummary })
+
+-- ---- a row of it
+
+unfoldable pub lengthIn : Summary → ℕ → ℕ
+lengthIn s k = when (eqb k (s .agcount - 1)) (s .last) (s .agsize)
+
+unfoldable pub logIn : Summary → ℕ → ℕ
+logIn s k = when (eqb k (s .logagno)) (s .logblocks) 0
+
+unfoldable pub chunkIn : Summary → ℕ → ℕ
+chunkIn s k = when (eqb k 0) (s .chunk) 0
+
+-- all but head, log, free list and chunk is free
+unfoldable pub freeIn : Summary → ℕ → ℕ
+freeIn s k = lengthIn s k - s .head - logIn s k - s .list - chunkIn s k
+
+-- in one record, but in group 0 before and after the chunk
+unfoldable pub longestIn : Summary → ℕ → ℕ
+longestIn s k = when (eqb k 0) (max (s .«chunk_at» - s .head - s .list) (lengthIn s k - s .«chunk_at» - s .chunk)) (freeIn s k)
+
+-- `row_at`: 29, or the row of group k
+unfoldable pub rowIn : Summary → ℕ → Row
+rowIn s k =
+    choose (ltb k (s .agcount))
+    (record {
+      number = 0;
+      group = k;
+      length = lengthIn s k;
+      log = logIn s k;
+      list = s .list;
+      chunk = chunkIn s k;
+      free = freeIn s k;
+      longest = longestIn s k;
+    })
+    (noRow 29)

@@ -1,0 +1,233 @@
+// The plans of all groups in a few numbers: whether all are accepted, and each group's row of the table, in constant time.
+ghost use mathlib.Core.Path.{_≡_};
+ghost use mathlib.Core.Bool.{true};
+ghost use Prim.Native.Nat.{_*_, _≤_, _<_, _^_};
+ghost use Rattle.geometry_answers.specs.Named.{isAnswer};
+ghost use Rattle.plan_site.specs.Sites.{siteOf, Sound};
+ghost use Rattle.plan_closed.specs.Closed.{short};
+ghost use Rattle.plan_totals.specs.Totals.{plansNumber, freeCountAnswer, constCount, closedTotal};
+ghost use Rattle.plan_summary.specs.Summaries.{summaryOf, noSummary, summarised, lengthIn, logIn, chunkIn, freeIn, longestIn, rowIn};
+
+pub mod records; // records.rt: the free records of one plan
+
+use arith::choice::pick_u64;
+use arith::numbers::max_u64;
+use arith::numbers::minus;
+use geometry::Geometry;
+use geometry_counts::Value64;
+use plan_site::Site;
+use plan_site::site_of;
+use plan_totals::Row;
+use plan_totals::Total;
+
+// Blocks; `chunk_at` is a place in group 0.
+pub struct Summary {
+    pub agcount: u64, // groups
+    pub agsize: u64,
+    pub last: u64, // of the last group
+    pub logagno: u64, // the log's group
+    pub logblocks: u64,
+    pub head: u64, // preallocated in each group
+    pub list: u64, // on each free list
+    pub chunk_at: u64,
+    pub chunk: u64,
+    pub count: u64, // free and on free lists, in all groups
+    pub total: Total,
+}
+
+// The number is 0 where every plan of an answer is accepted; a refusal has the summary of zeros.
+pub struct Summarised {
+    pub number: u32,
+    pub summary: Summary,
+}
+
+fn refused(n: u32) -> Summarised
+    ensures { λ r. ⌜ r ≡ record { number = n; summary = noSummary } ⌝ }
+{
+    let total = Total {
+        length: 0,
+        log: 0,
+        list: 0,
+        chunk: 0,
+        free: 0,
+    };
+    let summary = Summary {
+        agcount: 0,
+        agsize: 0,
+        last: 0,
+        logagno: 0,
+        logblocks: 0,
+        head: 0,
+        list: 0,
+        chunk_at: 0,
+        chunk: 0,
+        count: 0,
+        total,
+    };
+    Summarised { number: n, summary }
+}
+
+// The log group at this site is short of blocks for its free list.
+fn is_short(s: Site) -> bool
+    requires { ⌜ (Sound s) × (s .«has_log» ≡ true) ⌝ }
+    ensures { λ r. ⌜ r ≡ short s ⌝ }
+{
+    let after = (s.log_at as u64) + (s.log_blocks as u64);
+    minus(s.length as u64, after) < (s.need as u64)
+}
+
+// A few blocks of each group.
+fn of_each(groups: u64, blocks: u32) -> u64
+    requires { ⌜ (groups < 2 ^ 32) × (blocks ≤ 10) ⌝ }
+    ensures { λ r. ⌜ r ≡ groups * blocks ⌝ }
+{
+    groups * (blocks as u64)
+}
+
+// All blocks but heads, log and chunk.
+fn count_with(g: Geometry, s: Site) -> u64
+    requires { ⌜ (isAnswer g ≡ true) × (s ≡ siteOf g (g .logagno)) ⌝ }
+    ensures { λ r. ⌜ r ≡ constCount g ⌝ }
+{
+    let heads = of_each(g.agcount, s.head);
+    let after = minus(minus(g.dblocks, heads), g.logblocks);
+    minus(after, s.chunk_blocks as u64)
+}
+
+// Sums over all groups, of an answer whose log group has this site.
+fn total_with(g: Geometry, s: Site, count: u64) -> Total
+    requires { ⌜ (isAnswer g ≡ true) × (s ≡ siteOf g (g .logagno)) × (count ≡ constCount g) ⌝ }
+    ensures { λ r. ⌜ r ≡ closedTotal g ⌝ }
+{
+    let list = of_each(g.agcount, s.need);
+    Total {
+        length: g.dblocks,
+        log: g.logblocks,
+        list,
+        chunk: s.chunk_blocks as u64,
+        free: minus(count, list),
+    }
+}
+
+// The numbers of an answer, whose log group has this site.
+fn summary_with(g: Geometry, s: Site) -> Summary
+    requires { ⌜ (isAnswer g ≡ true) × (s ≡ siteOf g (g .logagno)) ⌝ }
+    ensures { λ r. ⌜ r ≡ summaryOf g ⌝ }
+{
+    let before = minus(g.agcount, 1) * g.agsize;
+    let count = count_with(g, s);
+    let total = total_with(g, s, count);
+    Summary {
+        agcount: g.agcount,
+        agsize: g.agsize,
+        last: minus(g.dblocks, before),
+        logagno: g.logagno,
+        logblocks: g.logblocks,
+        head: s.head as u64,
+        list: s.need as u64,
+        chunk_at: s.chunk_at as u64,
+        chunk: s.chunk_blocks as u64,
+        count,
+        total,
+    }
+}
+
+// The summary of a geometry: 31, 25 where a plan is refused.
+pub fn summary_of(g: Geometry) -> Summarised
+    ensures { λ r. ⌜ r ≡ summarised g ⌝ }
+{
+    let at = site_of(g, g.logagno);
+    let number = at.number;
+    if number != 0 {
+        return refused(number as u32);
+    }
+    let s = at.site;
+    if is_short(s) {
+        return refused(25);
+    }
+    let summary = summary_with(g, s);
+    Summarised { number: 0, summary }
+}
+
+fn length_in(s: Summary, k: u64) -> u64
+    ensures { λ r. ⌜ r ≡ lengthIn s k ⌝ }
+{
+    pick_u64(k == minus(s.agcount, 1), s.last, s.agsize)
+}
+
+fn log_in(s: Summary, k: u64) -> u64
+    ensures { λ r. ⌜ r ≡ logIn s k ⌝ }
+{
+    pick_u64(k == s.logagno, s.logblocks, 0)
+}
+
+fn chunk_in(s: Summary, k: u64) -> u64
+    ensures { λ r. ⌜ r ≡ chunkIn s k ⌝ }
+{
+    pick_u64(k == 0, s.chunk, 0)
+}
+
+fn free_in(s: Summary, k: u64) -> u64
+    ensures { λ r. ⌜ r ≡ freeIn s k ⌝ }
+{
+    let after = minus(minus(length_in(s, k), s.head), log_in(s, k));
+    minus(minus(after, s.list), chunk_in(s, k))
+}
+
+// Before or after the chunk in group 0.
+fn longest_in(s: Summary, k: u64) -> u64
+    ensures { λ r. ⌜ r ≡ longestIn s k ⌝ }
+{
+    let before = minus(minus(s.chunk_at, s.head), s.list);
+    let after = minus(minus(length_in(s, k), s.chunk_at), s.chunk);
+    pick_u64(k == 0, max_u64(before, after), free_in(s, k))
+}
+
+// The row of group k, or 29.
+pub fn row_at(s: Summary, k: u64) -> Row
+    ensures { λ r. ⌜ r ≡ rowIn s k ⌝ }
+{
+    if k < s.agcount {
+        return Row {
+            number: 0,
+            group: k,
+            length: length_in(s, k),
+            log: log_in(s, k),
+            list: s.list,
+            chunk: chunk_in(s, k),
+            free: free_in(s, k),
+            longest: longest_in(s, k),
+        };
+    }
+    Row {
+        number: 29,
+        group: 0,
+        length: 0,
+        log: 0,
+        list: 0,
+        chunk: 0,
+        free: 0,
+        longest: 0,
+    }
+}
+
+// Whether every plan of the geometry is accepted: 0, 31, or 25.
+pub fn plans_number(g: Geometry) -> u32
+    ensures { λ r. ⌜ r ≡ plansNumber g ⌝ }
+{
+    let s = summary_of(g);
+    s.number
+}
+
+// The free count of the whole disk: 31, 25, or free and free-list blocks of all groups.
+pub fn free_count(g: Geometry) -> Value64
+    ensures { λ r. ⌜ r ≡ freeCountAnswer g ⌝ }
+{
+    let s = summary_of(g);
+    let number = s.number;
+    if number != 0 {
+        return Value64::Refused(number as u8);
+    }
+    let t = s.summary;
+    Value64::Of(t.count)
+}

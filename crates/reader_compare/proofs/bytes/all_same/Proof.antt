@@ -1,0 +1,64 @@
+-- `reader_compare::bytes::all_same` meets its contract.
+-- Assumes nothing.
+use mathlib.Core.Path.{_≡_, refl, sym, _∙_}
+use mathlib.Core.Bool.{_&&_}
+use Prim.Native.Nat.{_≤_, _-_}
+use native.Mathlib.Omega.{arith}
+use lib.Dec.{eqb}
+use lib.ListN.{length, drop}
+use borrow.Author.Needs.{needs}
+use Rattle.plan_same.specs.Same.{eqList}
+use Rattle.reader_compare.proofs.Laws.{turn, all}
+use Rattle.reader_compare.proofs.bytes.all_same.Statement.{statement}
+use Rattle.reader_compare.proofs.bytes.all_same.Tie as tie
+
+abbrev Inv-loop : tie.InvT-loop
+Inv-loop a b ok₀ i₀ ok i = (i ≤ length a) × (eqList eqb a b ≡ (ok && eqList eqb (drop i a) (drop i b)))
+
+abbrev μ-loop : tie.MeasureT-loop
+μ-loop a b ok₀ i₀ ok i = length a - i
+
+loop-holds : tie.Need-loop-holds Inv-loop μ-loop
+loop-holds c = (omega arith, refl)
+
+shared-slice-read-both : tie.Need-shared-slice-read-both Inv-loop μ-loop
+shared-slice-read-both c = omega arith
+
+shared-slice-read-both-2 : tie.Need-shared-slice-read-both-2 Inv-loop μ-loop
+shared-slice-read-both-2 c = omega arith
+
+both-requires : tie.Need-both-requires Inv-loop μ-loop
+both-requires c κs = search needs
+
+add-i : tie.Need-add-i Inv-loop μ-loop
+add-i c = omega arith
+
+loop-less : tie.Need-loop-less Inv-loop μ-loop
+loop-less c = omega arith
+
+loop-again : tie.Need-loop-again Inv-loop μ-loop
+loop-again c =
+    let l = c .before .before .before .before in
+    let a = l .before .before .before .args in
+    (omega arith, l .loop .inv .1 ∙ turn (a .a .now) (a .b .now) (l .loop .i) (l .loop .ok) (c .both .result) (omega arith) (omega arith) (c .both .ensures))
+
+returns : tie.Need-returns Inv-loop μ-loop
+returns c =
+    let l = c .before in
+    let a = l .before .before .before .args in
+    sym (l .loop .inv .1 ∙ all (a .a .now) (a .b .now) (l .loop .i) (l .loop .ok) (omega arith) (omega arith))
+
+pub all-same-spec : {M : Type 1} → statement M
+all-same-spec =
+    tie.close
+    (tie.spec
+    Inv-loop
+    μ-loop
+    loop-holds
+    shared-slice-read-both
+    shared-slice-read-both-2
+    both-requires
+    add-i
+    loop-less
+    loop-again
+    returns)

@@ -1,0 +1,136 @@
+-- A disk of 1 GiB without options is accepted and read back, so that no statement of this crate is about nothing; and for each number bytes that get it.
+-- Assumes nothing.
+use mathlib.Core.Path.{_≡_, refl}
+use mathlib.Core.Bool.{true, false}
+use mathlib.Core.List.{List, []}
+use Prim.Native.Nat.{ℕ, _*_, _<_}
+use native.Mathlib.Nat.{le-refl}
+use native.Mathlib.Omega.{arith}
+use lib.Dec.{lit<}
+use lib.ListN.{length, replicate}
+use Rattle.arith.specs.Choice.{when, bit}
+use Rattle.arith.specs.Numbers.{ceilDiv}
+use Rattle.arith.specs.Powers.{powerIn, powerLog, leastFrom, log2Up}
+use Rattle.params.specs.Params.{noOptions, withAgcount}
+use Rattle.geometry_sizes.specs.Sizes.{defaultSector, sizesOf, sizesRefusals}
+use Rattle.geometry.specs.declared.Geometry.{Geometry}
+use Rattle.geometry_groups.specs.Groups.{askedBlocks, defaultSize, initialGroups, isShort, trim, optionsRefusals, groupsRefusals}
+use Rattle.geometry_log.specs.Log.{headerOf, preallocOf, logLimit, logBlocks, defaultImaxpct, lastRefusals}
+use Rattle.geometry.specs.Compute.{withGroups, withSizes, chosenOf, refusals, refusalOf, labelOf, geometryOf, zeroGeometry, computeDef}
+use Rattle.geometry.specs.Compute as compute
+use Rattle.geometry_answers.specs.Same.{sameFeatures, numbersOf, sameFrom, sameGeometry}
+use Rattle.geometry_answers.specs.Named.{namedOptions, namedOn, namedFits, namedAnswer, namesOf, isAnswer}
+use Rattle.geometry_layout.specs.Places.{ibtBlock, rmapBlock, refcBlock, freelistOf, chunkOf, clusterOf, alignOf, roundUp, aligned, rootChunkOf, groupBlocks, fsbOf, inoOf}
+use Rattle.geometry_places.specs.Answers.{groupRefusal}
+use Rattle.plan_site.specs.Sites.{siteOf}
+use Rattle.seqs.specs.Lists.{firstIndex, pushed, appended, fold, turns, upFrom}
+use Rattle.seqs.specs.Runs.{valid, weigh, blocks}
+use Rattle.btree.specs.Owners.{negative}
+use Rattle.plan_free.specs.Free.{cut, takenAt, takenFrom, taken, fitter, bigger, pickedFrom, picked}
+use Rattle.plan_rmap.specs.Rmap.{joinsLeft, joinsRight, insertedAt, takes, inserted}
+use Rattle.plan.specs.Plan.{freeAtFirst, rmapAtFirst, atFirst, failed, noted, moved, turn, listed, chunked, answer, planOf, planned}
+use Rattle.plan_totals.specs.Totals.{firstTo, plansNumber}
+use Rattle.inode_time.specs.Time.{timeInside, notEarly, shifted}
+use Rattle.request.specs.declared.Request.{Request}
+use Rattle.request.specs.Defaults.{timeOf, seedOf}
+use Rattle.run.specs.Runs.{stepOf, timeRefusal, runNumber, runOf}
+use Rattle.head_bytes.proofs.Below.{below-zeros}
+use Rattle.list_accepted.specs.Accepted.{AcceptedRun}
+use Rattle.list_accepted.proofs.Bytes.{below-at}
+use Rattle.list_accepted.proofs.Runs.{run-answer, source-of}
+use Rattle.head_bytes.specs.Head.{headLength}
+use Rattle.list_spec.specs.Listing.{headWritten}
+use Rattle.reader_exact.specs.Read.{readGroup0, readGroup}
+use Rattle.reader_exact.proofs.Heads.{head-least, source-bounds, some-group}
+use Rattle.reader_exact.proofs.Recovery.{Recovered, recovered}
+use Rattle.reader_exact.proofs.Refused.{short-refused, unfinished-refused, past-refused, length-refused, stranger-refused, unplanned-refused}
+
+-- planlist's example: a device of 1 GiB with sectors of 512 bytes
+pub disk : Request
+disk = record { number = 0; params = noOptions; device = 1_073_741_824; logical = 512; physical = 512 }
+
+-- K4: 5 groups of 16,396 blocks, which planning refuses
+pub tight : Geometry
+tight = computeDef (withAgcount noOptions 5) (5 * 16_396 * 4096) 512 512 .geometry
+
+-- what the definitions give by computation
+record Computed : Type 0 where
+  pub disk-number : runNumber disk ≡ 0
+  pub tight-answer : isAnswer tight ≡ true
+  pub tight-plans : plansNumber tight ≡ 25
+  pub zero-answer : isAnswer zeroGeometry ≡ false
+
+computed : Computed
+unfolding disk tight when bit ceilDiv powerIn powerLog leastFrom log2Up defaultSector sizesOf sizesRefusals askedBlocks defaultSize initialGroups isShort trim optionsRefusals groupsRefusals headerOf preallocOf logLimit logBlocks defaultImaxpct lastRefusals withGroups withSizes chosenOf refusals refusalOf labelOf geometryOf zeroGeometry compute.answer computeDef sameFeatures numbersOf sameFrom sameGeometry namedOptions namedOn namedFits namedAnswer namesOf isAnswer ibtBlock rmapBlock refcBlock freelistOf chunkOf clusterOf alignOf roundUp aligned rootChunkOf groupBlocks fsbOf inoOf groupRefusal siteOf firstIndex pushed appended fold turns upFrom valid weigh blocks negative cut takenAt takenFrom taken fitter bigger pickedFrom picked joinsLeft joinsRight insertedAt takes inserted freeAtFirst rmapAtFirst atFirst failed noted moved turn listed chunked answer planOf planned firstTo plansNumber timeInside notEarly shifted timeOf stepOf timeRefusal runNumber
+computed = record { disk-number = refl; tight-answer = refl; tight-plans = refl; zero-answer = refl }
+
+pub disk-accepted : AcceptedRun disk
+unfolding disk timeOf seedOf
+disk-accepted =
+    record {
+      typed =
+          record {
+            options =
+                record {
+                  size = lit< tt;
+                  block-size = lit< tt;
+                  sector-size = lit< tt;
+                  inode-size = lit< tt;
+                  agcount = lit< tt;
+                  agsize = lit< tt;
+                  imaxpct = lit< tt;
+                  label-length = lit< tt;
+                  label-size = refl;
+                  label-bytes = below-at 256 (replicate 12 0) (lit< tt) (below-zeros 12);
+                };
+            device = lit< tt;
+            logical = lit< tt;
+            physical = lit< tt;
+            uuid-size = refl;
+            uuid-bytes = below-at 256 (replicate 16 0) (lit< tt) (below-zeros 16);
+            seconds = lit< tt;
+            nanoseconds = lit< tt;
+            seed = lit< tt;
+          };
+      number = computed .disk-number;
+    }
+
+-- IT IS READ BACK
+pub disk-read : Recovered (runOf disk .geometry) (runOf disk .uuid)
+disk-read = recovered disk disk-accepted
+
+-- ---- refused
+
+abbrev g : Geometry
+g = runOf disk .geometry
+
+abbrev u : List ℕ
+u = runOf disk .uuid
+
+-- ONE REFUSED FOR EACH NUMBER
+pub record Refusals : Type 0 where
+  -- no bytes
+  pub short : readGroup0 [] .number ≡ 27
+  -- the disk before it was finished
+  pub unfinished : readGroup0 (headWritten g u 0) .number ≡ 30
+  -- a group behind the last
+  pub past : readGroup g u (g .agcount) [] .number ≡ 29
+  -- group 0's with no byte
+  pub cut : readGroup g u 0 [] .number ≡ 27
+  -- the geometry of zeros
+  pub stranger : readGroup zeroGeometry u 0 [] .number ≡ 31
+  -- any head, where only planning refuses
+  pub unplanned : (k : ℕ) (xs : List ℕ) → k < tight .agcount → length xs ≡ headLength tight → readGroup tight u k xs .number ≡ 30
+
+pub refusals-given : Refusals
+refusals-given =
+    let s = source-of disk disk-accepted in
+    let a = run-answer disk disk-accepted in
+    record {
+      short = short-refused [] (lit< tt);
+      unfinished = unfinished-refused g u s;
+      past = past-refused g u [] (g .agcount) a (le-refl (g .agcount));
+      cut = length-refused g u [] 0 a (some-group g u s) (λ e. let l = head-least g (source-bounds g u s) in omega (arith, e, l));
+      stranger = stranger-refused zeroGeometry u [] 0 (computed .zero-answer);
+      unplanned = λ k xs h l. unplanned-refused tight u xs k (computed .tight-answer) h l (λ z. omega (arith, z, computed .tight-plans));
+    }

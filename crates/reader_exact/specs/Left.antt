@@ -1,0 +1,60 @@
+-- What accepted runs leave, in each place and on the whole disk; and disks that are read whole.
+-- Assumes nothing.
+use mathlib.Core.Path.{_≡_}
+use mathlib.Core.List.{List}
+use Prim.Native.Nat.{ℕ, _<_}
+use lib.ListN.{length, getD}
+use Rattle.geometry.specs.declared.Geometry.{Geometry}
+use Rattle.seqs.specs.Lists.{choose}
+use Rattle.geometry_answers.specs.Named.{isAnswer}
+use Rattle.geometry_answers.specs.Answers.{TypedGeometry}
+use Rattle.request.specs.declared.Request.{Request}
+use Rattle.run.specs.Runs.{runOf}
+use Rattle.list_spec.specs.Listing.{logBlock, headLeft}
+use Rattle.list_accepted.specs.Accepted.{AcceptedRun, Source}
+use Rattle.reader_names.specs.Sizings.{plain}
+use Rattle.reader_exact.specs.Read.{readGroup0, readGroup, readLog}
+
+-- every number is a byte
+abbrev pub Octets : List ℕ → Type 0
+Octets xs = (i : ℕ) → getD xs i 0 < 256
+
+-- a geometry and a UUID of their types
+pub record Handed (g : Geometry) (u : List ℕ) : Type 0 where
+  pub geometry : TypedGeometry g
+  pub uuid-size : length u ≡ 16
+  pub uuid-bytes : Octets u
+
+-- some accepted run with this geometry and UUID leaves these bytes in group k's head
+pub record Left (g : Geometry) (u : List ℕ) (k : ℕ) (xs : List ℕ) : Type 0 where
+  pub source : Source g u
+  pub group : k < g .agcount
+  pub bytes : xs ≡ headLeft g u k
+
+-- some accepted run with them leaves this log block
+pub record LeftLog (g : Geometry) (u xs : List ℕ) : Type 0 where
+  pub source : Source g u
+  pub bytes : xs ≡ logBlock g u
+
+-- some accepted run leaves these bytes in group 0's head, whatever its sizing
+pub record LeftFirst (xs : List ℕ) : Type 0 where
+  pub geometry : Geometry
+  pub uuid : List ℕ
+  pub left : Left geometry uuid 0 xs
+
+-- the geometry as the reader reports it: with plain sizing where this gives the same log
+unfoldable pub reported : Geometry → Geometry
+reported g = choose (isAnswer (plain g)) (plain g) g
+
+-- one accepted run leaves all these heads, by their groups, and this log block
+pub record OneRun (heads : ℕ → List ℕ) (log : List ℕ) : Type 0 where
+  pub request : Request
+  pub accepted : AcceptedRun request
+  pub head : (k : ℕ) → k < runOf request .geometry .agcount → heads k ≡ headLeft (runOf request .geometry) (runOf request .uuid) k
+  pub log-block : log ≡ logBlock (runOf request .geometry) (runOf request .uuid)
+
+-- the reader accepts group 0's head, and the other heads and the log block with what it gave
+pub record ReadWhole (heads : ℕ → List ℕ) (log : List ℕ) : Type 0 where
+  pub first : readGroup0 (heads 0) .number ≡ 0
+  pub others : (k : ℕ) → 0 < k → k < readGroup0 (heads 0) .geometry .agcount → readGroup (readGroup0 (heads 0) .geometry) (readGroup0 (heads 0) .uuid) k (heads k) .number ≡ 0
+  pub log-block : readLog (readGroup0 (heads 0) .geometry) (readGroup0 (heads 0) .uuid) log ≡ 0

@@ -1,0 +1,24 @@
+-- What is read for the name of any bytes: 27 under 512, else what the superblock at their start names.
+-- Assumes nothing.
+use mathlib.Core.Bool.{Bool}
+use mathlib.Core.List.{List}
+use Prim.Native.Nat.{ℕ}
+use lib.Dec.{ltb}
+use lib.ListN.{length, replicate}
+use Rattle.endian.specs.Answer.{wrongLength}
+use Rattle.seqs.specs.Lists.{choose}
+use Rattle.geometry.specs.declared.Computed.{Computed}
+use Rattle.geometry.specs.Compute.{refused}
+use Rattle.reader_names.specs.Named.{namedBy, uuidAt}
+
+-- the least that a superblock needs
+abbrev pub least : ℕ
+least = 512
+
+-- the geometry under a sizing of the log, or its refusal
+unfoldable pub namedRead : Bool → List ℕ → Computed
+namedRead roomy xs = choose (ltb (length xs) least) (refused wrongLength) (namedBy roomy xs)
+
+-- the UUID, or zeros
+unfoldable pub uuidRead : List ℕ → List ℕ
+uuidRead xs = choose (ltb (length xs) least) (replicate 16 0) (uuidAt xs)

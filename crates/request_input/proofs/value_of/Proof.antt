@@ -1,0 +1,39 @@
+-- `request_input::value_of` meets its contract.
+-- Assumes nothing.
+use mathlib.Core.Path.{_≡_, refl, sym, _∙_}
+use Prim.Native.Nat.{_-_}
+use native.Mathlib.Omega.{arith}
+use lib.ListN.{length}
+use Rattle.request_input.specs.Records.{records, lookup}
+use Rattle.request_input.proofs.Splitting.{lookup-here, lookup-later, lookup-end}
+use Rattle.request_input.proofs.value_of.Statement.{statement}
+use Rattle.request_input.proofs.value_of.Tie as tie
+
+abbrev Inv-loop : tie.InvT-loop
+Inv-loop input from key at₀ at = lookup key (records from input) ≡ lookup key (records at input)
+
+abbrev μ-loop : tie.MeasureT-loop
+μ-loop input from key at₀ at = length input - at
+
+loop-holds : tie.Need-loop-holds Inv-loop μ-loop
+loop-holds c = refl
+
+record-at-requires : tie.Need-record-at-requires Inv-loop μ-loop
+record-at-requires c κs = omega arith
+
+returns : tie.Need-returns Inv-loop μ-loop
+returns c = sym (c .before .before .before .before .loop .inv ∙ lookup-here _ _ _ (c .before .before .record-at .ensures .0) (c .before .before .before .loop-test .taken) _ (c .if1 .taken))
+
+loop-less : tie.Need-loop-less Inv-loop μ-loop
+loop-less c = omega arith
+
+loop-again : tie.Need-loop-again Inv-loop μ-loop
+loop-again c = c .before .before .before .before .loop .inv ∙ lookup-later _ _ _ (c .before .before .record-at .ensures .0) (c .before .before .before .loop-test .taken) _ (c .if1 .left)
+
+returns-2 : tie.Need-returns-2 Inv-loop μ-loop
+returns-2 c = sym (c .before .loop .inv ∙ lookup-end _ _ _ (omega arith))
+
+pub value-of-spec : {M : Type 1} → statement M
+value-of-spec =
+    tie.close
+    (tie.spec Inv-loop μ-loop loop-holds record-at-requires returns loop-less loop-again returns-2)

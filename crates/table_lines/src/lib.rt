@@ -1,0 +1,153 @@
+// The lines that planlist prints, written into a lent buffer: 0 and the line's end, or 27 where a line doesn't fit, and then nothing has
+// changed.
+pub mod decimal; // numbers in decimal
+
+ghost use mathlib.Core.Path.{_≡_};
+ghost use mathlib.Core.List.{_++_};
+ghost use Prim.Native.Nat.{_+_, _≤_};
+ghost use lib.ListN.{length};
+ghost use Rattle.endian.specs.Bytes.{patch};
+ghost use Rattle.table_lines.specs.Lines.{line, rowBytes, headerBytes, totalBytes, refusedBytes, PutLine};
+use decimal::decimal_length;
+use decimal::store_number;
+
+// What planlist says of a group: its number, and its blocks.
+pub struct Row {
+    pub group: u64,
+    pub length: u64, // all
+    pub log: u64,
+    pub list: u64, // free list
+    pub chunk: u64,
+    pub free: u64,
+    pub longest: u64, // longest free record
+}
+
+// The sums over all groups.
+pub struct Sums {
+    pub length: u64,
+    pub log: u64,
+    pub list: u64,
+    pub chunk: u64,
+    pub free: u64,
+}
+
+// Where a line ends; `number` is 0, or 27 beside 0.
+pub struct Written {
+    pub number: u32,
+    pub end: usize,
+}
+
+// The bytes of a line of at most seven numbers.
+fn line_length(numbers: &[u64]) -> usize
+    requires { ⌜ length (now numbers) ≤ 7 ⌝ }
+    ensures { λ r. ⌜ (r ≡ length (line (now (numbers .entry)))) × (r ≤ 147) ⌝ }
+{
+    let mut n = 0;
+    let mut i = numbers.len();
+    while 0 < i {
+        i -= 1;
+        n = n + decimal_length(numbers[i]) + 1;
+    }
+    n
+}
+
+// The line that ends at `end`, from its last number to its first.
+fn store_line(numbers: &[u64], buf: &mut [u8], end: usize) -> usize
+    requires { ⌜ (length (line (now numbers)) ≤ end) × (end ≤ length (now buf)) ⌝ }
+    ensures { λ r. ⌜ (r + length (line (now (numbers .entry))) ≡ end) × (now (buf .exit) ≡ patch r (line (now (numbers .entry))) (now (buf .entry))) ⌝ }
+{
+    let mut at = end;
+    let mut behind = b'\n';
+    let mut i = numbers.len();
+    while 0 < i {
+        i -= 1;
+        at = store_number(numbers[i], behind, buf, at);
+        behind = b' ';
+    }
+    at
+}
+
+fn refused() -> Written
+    ensures { λ r. ⌜ (r .number ≡ 27) × (r .end ≡ 0) ⌝ }
+{
+    Written {
+        number: endian::WRONG_LENGTH,
+        end: 0,
+    }
+}
+
+// At most seven numbers, where the line fits.
+fn put_line(numbers: &[u64], buf: &mut [u8], at: usize) -> Written
+    requires { ⌜ length (now numbers) ≤ 7 ⌝ }
+    ensures { λ r. ⌜ PutLine at (line (now (numbers .entry))) (now (buf .entry)) (r .number) (r .end) (now (buf .exit)) ⌝ }
+{
+    let n = line_length(numbers);
+    if endian::inside(buf.len(), at, n) {
+        let end = at + n;
+        store_line(numbers, buf, end);
+        return Written { number: 0, end };
+    }
+    refused()
+}
+
+// A word of at most eight bytes, and behind it the numbers.
+fn put_words(word: &[u8], numbers: &[u64], buf: &mut [u8], at: usize) -> Written
+    requires { ⌜ (length (now word) ≤ 8) × (length (now numbers) ≤ 7) ⌝ }
+    ensures { λ r. ⌜ PutLine at (now (word .entry) ++ line (now (numbers .entry))) (now (buf .entry)) (r .number) (r .end) (now (buf .exit)) ⌝ }
+{
+    let n = word.len() + line_length(numbers);
+    if endian::inside(buf.len(), at, n) {
+        let end = at + n;
+        store_line(numbers, buf, end);
+        endian::put_bytes(buf, at, word);
+        return Written { number: 0, end };
+    }
+    refused()
+}
+
+// A group's line.
+pub fn put_row(row: Row, buf: &mut [u8], at: usize) -> Written
+    ensures { λ r. ⌜ PutLine at (rowBytes row) (now (buf .entry)) (r .number) (r .end) (now (buf .exit)) ⌝ }
+{
+    let numbers = [
+        row.group,
+        row.length,
+        row.log,
+        row.list,
+        row.chunk,
+        row.free,
+        row.longest,
+    ];
+    put_line(&numbers, buf, at)
+}
+
+// The line of the fields' names.
+pub fn put_header(buf: &mut [u8], at: usize) -> Written
+    ensures { λ r. ⌜ PutLine at headerBytes (now (buf .entry)) (r .number) (r .end) (now (buf .exit)) ⌝ }
+{
+    let text = b"group length log list chunk free longest\n";
+    if endian::inside(buf.len(), at, 41) {
+        endian::put_bytes(buf, at, text);
+        return Written {
+            number: 0,
+            end: at + 41,
+        };
+    }
+    refused()
+}
+
+// The line of the sums.
+pub fn put_total(sums: Sums, buf: &mut [u8], at: usize) -> Written
+    ensures { λ r. ⌜ PutLine at (totalBytes sums) (now (buf .entry)) (r .number) (r .end) (now (buf .exit)) ⌝ }
+{
+    let numbers = [sums.length, sums.log, sums.list, sums.chunk, sums.free];
+    put_words(b"total ", &numbers, buf, at)
+}
+
+// The line of a refusal.
+pub fn put_refused(number: u64, buf: &mut [u8], at: usize) -> Written
+    ensures { λ r. ⌜ PutLine at (refusedBytes number) (now (buf .entry)) (r .number) (r .end) (now (buf .exit)) ⌝ }
+{
+    let numbers = [number];
+    put_words(b"refused ", &numbers, buf, at)
+}
