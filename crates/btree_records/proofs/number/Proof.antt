@@ -8,15 +8,9 @@ use borrow.Author.Needs.{needs}
 use Rattle.btree_records.proofs.number.Statement.{statement}
 use Rattle.btree_records.proofs.number.Tie as tie
 
-div-if1 : tie.Need-div-if1
-div-if1 c = search needs
-
 returns : tie.Need-returns
 unfolding recsNumber
 returns c = rw (ne-eqb _ _ (no-multiple (c .before .args .size) (c .before .args .count) (c .before .args .len) (c .before .pre) (c .if1 .taken))) refl
-
-rem-if2 : tie.Need-rem-if2
-rem-if2 c = search needs
 
 returns-2 : tie.Need-returns-2
 unfolding recsNumber
@@ -35,4 +29,7 @@ returns-4 c =
     rw (eq-eqb _ _ (multiple (args .size) (args .count) (args .len) (c .before .before .if1 .left) (c .before .if2 .left)), le-leb _ _ (c .if3 .left)) refl
 
 pub number-spec : {M : Type 1} → statement M
-number-spec = tie.close (tie.spec div-if1 returns rem-if2 returns-2 returns-3 returns-4)
+number-spec =
+    tie.close
+    (tie.spec
+    (λ c. search needs) returns (λ c. search needs) returns-2 returns-3 returns-4)

@@ -8,12 +8,6 @@ use borrow.Author.Needs.{needs}
 use Rattle.crc.proofs.cksum.Statement.{statement}
 use Rattle.crc.proofs.cksum.Tie as tie
 
-inside-requires : tie.Need-inside-requires
-inside-requires c κs = search needs
-
-update-zeroed-requires : tie.Need-update-zeroed-requires
-update-zeroed-requires c κs = search needs
-
 returns : tie.Need-returns
 unfolding cksumOf crc32cOf
 returns c = let e = sym (c .before .before .inside .ensures) ∙ c .before .if1 .taken in read-by e (ap (λ (k : ℕ). 0xffff_ffff - k) (rw e at (c .update-zeroed .ensures)))
@@ -22,4 +16,7 @@ returns-2 : tie.Need-returns-2
 returns-2 c = unread-by (sym (c .before .inside .ensures) ∙ c .if1 .left)
 
 pub cksum-spec : {M : Type 1} → statement M
-cksum-spec = tie.close (tie.spec inside-requires update-zeroed-requires returns returns-2)
+cksum-spec =
+    tie.close
+    (tie.spec
+    (λ c κs. search needs) (λ c κs. search needs) returns returns-2)

@@ -7,12 +7,12 @@ use borrow.Author.Needs.{needs}
 use Rattle.crc.proofs.crc32c.Statement.{statement}
 use Rattle.crc.proofs.crc32c.Tie as tie
 
-update-requires : tie.Need-update-requires
-update-requires c κs = search needs
-
 returns : tie.Need-returns
 unfolding crc32cOf
 returns c = ap (λ (k : ℕ). 0xffff_ffff - k) (c .update .ensures)
 
 pub crc32c-spec : {M : Type 1} → statement M
-crc32c-spec = tie.close (tie.spec update-requires returns)
+crc32c-spec =
+    tie.close
+    (tie.spec
+    (λ c κs. search needs) returns)

@@ -9,9 +9,6 @@ use borrow.Author.Needs.{needs}
 use Rattle.endian_little.proofs.get_le.Statement.{statement}
 use Rattle.endian_little.proofs.get_le.Tie as tie
 
-inside-requires : tie.Need-inside-requires
-inside-requires c κs = search needs
-
 load-le-requires : tie.Need-load-le-requires
 load-le-requires c κs = (leb-true _ _ (sym (c .before .inside .ensures) ∙ c .if1 .taken), c .before .before .before .pre)
 
@@ -22,4 +19,7 @@ returns-2 : tie.Need-returns-2
 returns-2 c = (unread-by (sym (c .before .inside .ensures) ∙ c .if1 .left), one-le-pow (c .before .before .before .args .n) 256 (lit< tt))
 
 pub get-le-spec : {M : Type 1} → statement M
-get-le-spec = tie.close (tie.spec inside-requires load-le-requires returns returns-2)
+get-le-spec =
+    tie.close
+    (tie.spec
+    (λ c κs. search needs) load-le-requires returns returns-2)

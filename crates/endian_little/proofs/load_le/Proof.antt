@@ -19,26 +19,11 @@ loop-holds : tie.Need-loop-holds Inv-loop μ-loop
 unfolding leAt
 loop-holds c = (omega arith, simp sub-self)
 
-sub-i : tie.Need-sub-i Inv-loop μ-loop
-sub-i c = omega arith
-
 mul-x : tie.Need-mul-x Inv-loop μ-loop
 mul-x c = let l = c .before .loop in let s = c .before .before .before in omega (arith, le-read-fits (s .args .n) (s .args .off) (l .i) (l .x) _ (s .args .buf .now) (c .loop-test .taken) (l .inv .0) (l .inv .1) refl (s .pre .1) (λ k. c .before .before .shared-slice-known .given k .fits))
 
-add-wide : tie.Need-add-wide Inv-loop μ-loop
-add-wide c = omega arith
-
-shared-slice-read-wide : tie.Need-shared-slice-read-wide Inv-loop μ-loop
-shared-slice-read-wide c = omega arith
-
-wide-requires : tie.Need-wide-requires Inv-loop μ-loop
-wide-requires c κs = tt
-
 add-x : tie.Need-add-x Inv-loop μ-loop
 add-x c = let l = c .before .before .before .loop in let s = c .before .before .before .before .before in omega (arith, le-read-fits (s .args .n) (s .args .off) (l .i) (l .x) (c .wide .result) (s .args .buf .now) (c .before .before .loop-test .taken) (l .inv .0) (l .inv .1) (c .wide .ensures) (s .pre .1) (λ k. c .before .shared-slice-known2 .given k .fits))
-
-loop-less : tie.Need-loop-less Inv-loop μ-loop
-loop-less c = omega arith
 
 loop-again : tie.Need-loop-again Inv-loop μ-loop
 loop-again c = let l = c .before .before .before .loop in let a = c .before .before .before .before .before .args in (omega arith, le-read-turn (a .n) (a .off) (l .i) (l .x) (c .wide .result) (a .buf .now) (c .before .before .loop-test .taken) (l .inv .0) (l .inv .1) (c .wide .ensures))
@@ -50,15 +35,5 @@ pub load-le-spec : {M : Type 1} → statement M
 load-le-spec =
     tie.close
     (tie.spec
-    Inv-loop
-    μ-loop
-    loop-holds
-    sub-i
-    mul-x
-    add-wide
-    shared-slice-read-wide
-    wide-requires
-    add-x
-    loop-less
-    loop-again
-    returns)
+    Inv-loop μ-loop loop-holds (λ c. omega arith) mul-x (λ c. omega arith) (λ c. omega arith) (λ c κs. tt) add-x
+    (λ c. omega arith) loop-again returns)

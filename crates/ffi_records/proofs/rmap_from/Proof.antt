@@ -16,39 +16,9 @@ Inv-loop n starts counts owners list₀ i₀ list i = (i ≤ 64) × (list ≡ pa
 abbrev μ-loop : tie.MeasureT-loop
 μ-loop n starts counts owners list₀ i₀ list i = 64 - i
 
-empty-requires : tie.Need-empty-requires Inv-loop μ-loop
-empty-requires c κs = search needs
-
 loop-holds : tie.Need-loop-holds Inv-loop μ-loop
 unfolding rows
 loop-holds c = (omega arith, c .empty .ensures)
-
-mul-t13 : tie.Need-mul-t13 Inv-loop μ-loop
-mul-t13 c = search needs
-
-array-read-t16 : tie.Need-array-read-t16 Inv-loop μ-loop
-array-read-t16 c = search needs
-
-mul-t17 : tie.Need-mul-t17 Inv-loop μ-loop
-mul-t17 c = search needs
-
-array-read-t20 : tie.Need-array-read-t20 Inv-loop μ-loop
-array-read-t20 c = search needs
-
-mul-t21 : tie.Need-mul-t21 Inv-loop μ-loop
-mul-t21 c = search needs
-
-array-read-t24 : tie.Need-array-read-t24 Inv-loop μ-loop
-array-read-t24 c = search needs
-
-push-requires : tie.Need-push-requires Inv-loop μ-loop
-push-requires c κs = search needs
-
-add-i : tie.Need-add-i Inv-loop μ-loop
-add-i c = search needs
-
-loop-less : tie.Need-loop-less Inv-loop μ-loop
-loop-less c = search needs
 
 loop-again : tie.Need-loop-again Inv-loop μ-loop
 loop-again c =
@@ -67,18 +37,6 @@ pub rmap-from-spec : {M : Type 1} → statement M
 rmap-from-spec =
     tie.close
     (tie.spec
-    Inv-loop
-    μ-loop
-    empty-requires
-    loop-holds
-    mul-t13
-    array-read-t16
-    mul-t17
-    array-read-t20
-    mul-t21
-    array-read-t24
-    push-requires
-    add-i
-    loop-less
-    loop-again
-    returns)
+    Inv-loop μ-loop (λ c κs. search needs) loop-holds (λ c. search needs) (λ c. search needs) (λ c. search needs)
+    (λ c. search needs) (λ c. search needs) (λ c. search needs) (λ c κs. search needs) (λ c. search needs)
+    (λ c. search needs) loop-again returns)

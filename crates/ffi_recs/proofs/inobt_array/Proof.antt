@@ -18,42 +18,6 @@ abbrev μ-loop : tie.MeasureT-loop
 loop-holds : tie.Need-loop-holds Inv-loop μ-loop
 loop-holds c = (le-refl 64, refl, refl)
 
-sub-i : tie.Need-sub-i Inv-loop μ-loop
-sub-i c = search needs
-
-mul-t10 : tie.Need-mul-t10 Inv-loop μ-loop
-mul-t10 c = omega arith
-
-element-copy-out-t13 : tie.Need-element-copy-out-t13 Inv-loop μ-loop
-element-copy-out-t13 c = omega arith
-
-mul-t14 : tie.Need-mul-t14 Inv-loop μ-loop
-mul-t14 c = omega arith
-
-element-copy-out-t17 : tie.Need-element-copy-out-t17 Inv-loop μ-loop
-element-copy-out-t17 c = omega arith
-
-element-copy-out-t20 : tie.Need-element-copy-out-t20 Inv-loop μ-loop
-element-copy-out-t20 c = omega arith
-
-element-copy-out-t23 : tie.Need-element-copy-out-t23 Inv-loop μ-loop
-element-copy-out-t23 c = omega arith
-
-mul-t24 : tie.Need-mul-t24 Inv-loop μ-loop
-mul-t24 c = omega arith
-
-element-copy-out-t27 : tie.Need-element-copy-out-t27 Inv-loop μ-loop
-element-copy-out-t27 c = omega arith
-
-mul-recs : tie.Need-mul-recs Inv-loop μ-loop
-mul-recs c = omega arith
-
-array-set-from-recs : tie.Need-array-set-from-recs Inv-loop μ-loop
-array-set-from-recs c = omega arith
-
-loop-less : tie.Need-loop-less Inv-loop μ-loop
-loop-less c = omega arith
-
 loop-again : tie.Need-loop-again Inv-loop μ-loop
 loop-again c =
     let l = c .before .before .before .before .before .before .loop in
@@ -67,20 +31,6 @@ pub inobt-array-spec : {M : Type 1} → statement M
 inobt-array-spec =
     tie.close
     (tie.spec
-    Inv-loop
-    μ-loop
-    loop-holds
-    sub-i
-    mul-t10
-    element-copy-out-t13
-    mul-t14
-    element-copy-out-t17
-    element-copy-out-t20
-    element-copy-out-t23
-    mul-t24
-    element-copy-out-t27
-    mul-recs
-    array-set-from-recs
-    loop-less
-    loop-again
-    returns)
+    Inv-loop μ-loop loop-holds (λ c. search needs) (λ c. omega arith) (λ c. omega arith) (λ c. omega arith)
+    (λ c. omega arith) (λ c. omega arith) (λ c. omega arith) (λ c. omega arith) (λ c. omega arith) (λ c. omega arith)
+    (λ c. omega arith) (λ c. omega arith) loop-again returns)

@@ -18,36 +18,6 @@ abbrev μ-loop : tie.MeasureT-loop
 loop-holds : tie.Need-loop-holds Inv-loop μ-loop
 loop-holds c = (le-refl 64, refl, refl)
 
-sub-i : tie.Need-sub-i Inv-loop μ-loop
-sub-i c = search needs
-
-mul-t8 : tie.Need-mul-t8 Inv-loop μ-loop
-mul-t8 c = omega arith
-
-element-copy-out-t11 : tie.Need-element-copy-out-t11 Inv-loop μ-loop
-element-copy-out-t11 c = omega arith
-
-mul-t12 : tie.Need-mul-t12 Inv-loop μ-loop
-mul-t12 c = omega arith
-
-element-copy-out-t15 : tie.Need-element-copy-out-t15 Inv-loop μ-loop
-element-copy-out-t15 c = omega arith
-
-mul-t16 : tie.Need-mul-t16 Inv-loop μ-loop
-mul-t16 c = omega arith
-
-element-copy-out-t19 : tie.Need-element-copy-out-t19 Inv-loop μ-loop
-element-copy-out-t19 c = omega arith
-
-mul-recs : tie.Need-mul-recs Inv-loop μ-loop
-mul-recs c = omega arith
-
-array-set-from-recs : tie.Need-array-set-from-recs Inv-loop μ-loop
-array-set-from-recs c = omega arith
-
-loop-less : tie.Need-loop-less Inv-loop μ-loop
-loop-less c = omega arith
-
 loop-again : tie.Need-loop-again Inv-loop μ-loop
 loop-again c =
     let l = c .before .before .before .before .loop in
@@ -61,18 +31,6 @@ pub rmap-array-spec : {M : Type 1} → statement M
 rmap-array-spec =
     tie.close
     (tie.spec
-    Inv-loop
-    μ-loop
-    loop-holds
-    sub-i
-    mul-t8
-    element-copy-out-t11
-    mul-t12
-    element-copy-out-t15
-    mul-t16
-    element-copy-out-t19
-    mul-recs
-    array-set-from-recs
-    loop-less
-    loop-again
-    returns)
+    Inv-loop μ-loop loop-holds (λ c. search needs) (λ c. omega arith) (λ c. omega arith) (λ c. omega arith)
+    (λ c. omega arith) (λ c. omega arith) (λ c. omega arith) (λ c. omega arith) (λ c. omega arith) (λ c. omega arith)
+    loop-again returns)

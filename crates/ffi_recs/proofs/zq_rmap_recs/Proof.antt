@@ -4,17 +4,11 @@ use borrow.Author.Needs.{needs}
 use Rattle.ffi_recs.proofs.zq_rmap_recs.Statement.{statement}
 use Rattle.ffi_recs.proofs.zq_rmap_recs.Tie as tie
 
-rmap-array-requires : tie.Need-rmap-array-requires
-rmap-array-requires c κs = search needs
-
-rmap-recs-64-requires : tie.Need-rmap-recs-64-requires
-rmap-recs-64-requires c κs = search needs
-
-same-length : tie.Need-same-length
-same-length c = search needs
-
 returns : tie.Need-returns
 returns c = rw (c .before .before .before .before .rmap-array .ensures) at (c .before .before .rmap-recs-64 .ensures)
 
 pub zq-rmap-recs-spec : {M : Type 1} → statement M
-zq-rmap-recs-spec = tie.close (tie.spec rmap-array-requires rmap-recs-64-requires same-length returns)
+zq-rmap-recs-spec =
+    tie.close
+    (tie.spec
+    (λ c κs. search needs) (λ c κs. search needs) (λ c. search needs) returns)

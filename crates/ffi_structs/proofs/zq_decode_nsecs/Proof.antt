@@ -5,11 +5,11 @@ use borrow.Author.Needs.{needs}
 use Rattle.ffi_structs.proofs.zq_decode_nsecs.Statement.{statement}
 use Rattle.ffi_structs.proofs.zq_decode_nsecs.Tie as tie
 
-decode-time-requires : tie.Need-decode-time-requires
-decode-time-requires c κs = search needs
-
 returns : tie.Need-returns
 returns c = rw (c .decode-time .ensures) refl
 
 pub zq-decode-nsecs-spec : {M : Type 1} → statement M
-zq-decode-nsecs-spec = tie.close (tie.spec decode-time-requires returns)
+zq-decode-nsecs-spec =
+    tie.close
+    (tie.spec
+    (λ c κs. search needs) returns)

@@ -9,11 +9,11 @@ use borrow.Author.Needs.{needs}
 use Rattle.ffi_structs.proofs.zq_decode_secs.Statement.{statement}
 use Rattle.ffi_structs.proofs.zq_decode_secs.Tie as tie
 
-decode-time-requires : tie.Need-decode-time-requires
-decode-time-requires c κs = search needs
-
 returns : tie.Need-returns
 returns c = let f : SFits w64 (c .before .decode-time .result .secs) = search needs in toZ-ofZ w64 (c .before .decode-time .result .secs) f ∙ ap (λ (t : Timestamp). t .secs) (c .before .decode-time .ensures)
 
 pub zq-decode-secs-spec : {M : Type 1} → statement M
-zq-decode-secs-spec = tie.close (tie.spec decode-time-requires returns)
+zq-decode-secs-spec =
+    tie.close
+    (tie.spec
+    (λ c κs. search needs) returns)

@@ -6,14 +6,11 @@ use borrow.Author.Needs.{needs}
 use Rattle.ffi_structs.proofs.zq_dinode.Statement.{statement}
 use Rattle.ffi_structs.proofs.zq_dinode.Tie as tie
 
-encode-requires : tie.Need-encode-requires
-encode-requires c κs = search needs
-
-same-length : tie.Need-same-length
-same-length c = search needs
-
 returns : tie.Need-returns
 returns c = rw (toZ-ofZ w64 (c .before .before .before .before .before .before .args .atime-secs) (c .before .before .before .before .before .before .fits .atime-secs), toZ-ofZ w64 (c .before .before .before .before .before .before .args .mtime-secs) (c .before .before .before .before .before .before .fits .mtime-secs), toZ-ofZ w64 (c .before .before .before .before .before .before .args .ctime-secs) (c .before .before .before .before .before .before .fits .ctime-secs), toZ-ofZ w64 (c .before .before .before .before .before .before .args .crtime-secs) (c .before .before .before .before .before .before .fits .crtime-secs)) at (c .before .before .encode .ensures)
 
 pub zq-dinode-spec : {M : Type 1} → statement M
-zq-dinode-spec = tie.close (tie.spec encode-requires same-length returns)
+zq-dinode-spec =
+    tie.close
+    (tie.spec
+    (λ c κs. search needs) (λ c. search needs) returns)

@@ -4,11 +4,8 @@ use borrow.Author.Needs.{needs}
 use Rattle.geometry_groups.proofs.is_zero.Statement.{statement}
 use Rattle.geometry_groups.proofs.is_zero.Tie as tie
 
-returns : tie.Need-returns
-returns c = cc
-
 pub is-zero-spec : {M : Type 1} → statement M
 is-zero-spec =
     tie.close
     (tie.spec
-    (λ c. search needs) (λ c. search needs) returns (λ c. search needs))
+    (λ c. search needs) (λ c. search needs) (λ c. cc) (λ c. search needs))

@@ -8,30 +8,18 @@ use borrow.Author.Needs.{needs}
 use Rattle.inode_time.proofs.encode_big.Statement.{statement}
 use Rattle.inode_time.proofs.encode_big.Tie as tie
 
-mul-t4 : tie.Need-mul-t4
-mul-t4 c = search needs
-
-add-t5 : tie.Need-add-t5
-add-t5 c = search needs
-
 returns : tie.Need-returns
 returns c = rw (lt-ltb (c .before .args .shifted * 1000000000 + c .before .args .nsecs) 18446744073709551616 (omega arith)) (refl, refl)
 
-mul-t6 : tie.Need-mul-t6
-mul-t6 c = search needs
-
-add-t7 : tie.Need-add-t7
-add-t7 c = search needs
-
 returns-2 : tie.Need-returns-2
 returns-2 c = rw (lt-ltb (c .before .before .args .shifted * 1000000000 + c .before .before .args .nsecs) 18446744073709551616 (omega arith)) (refl, refl)
-
-refused-requires : tie.Need-refused-requires
-refused-requires c κs = search needs
 
 returns-3 : tie.Need-returns-3
 returns-3 c = rw (le-ltb (c .before .before .before .args .shifted * 1000000000 + c .before .before .before .args .nsecs) 18446744073709551616 (omega arith)) (c .refused .ensures)
 
 pub encode-big-spec : {M : Type 1} → statement M
 encode-big-spec =
-    tie.close (tie.spec mul-t4 add-t5 returns mul-t6 add-t7 returns-2 refused-requires returns-3)
+    tie.close
+    (tie.spec
+    (λ c. search needs) (λ c. search needs) returns (λ c. search needs) (λ c. search needs) returns-2
+    (λ c κs. search needs) returns-3)

@@ -13,22 +13,10 @@ use borrow.Author.Needs.{needs}
 use Rattle.inode_time.proofs.encode_time.Statement.{statement}
 use Rattle.inode_time.proofs.encode_time.Tie as tie
 
-cast-nsecs : tie.Need-cast-nsecs
-cast-nsecs c = search needs
-
-refused-requires : tie.Need-refused-requires
-refused-requires c κs = search needs
-
 returns : tie.Need-returns
 returns c =
     let args = c .before .before .before .args in
     time-no _ _ _ _ _ (no-nanoseconds (args .bigtime) (args .t .secs) (args .t .nsecs) (c .before .if1 .taken)) (c .refused .ensures .0) (c .refused .ensures .1)
-
-shift-requires : tie.Need-shift-requires
-shift-requires c κs = search needs
-
-refused-requires-2 : tie.Need-refused-requires-2
-refused-requires-2 c κs = search needs
 
 returns-2 : tie.Need-returns-2
 returns-2 c =
@@ -89,13 +77,5 @@ pub encode-time-spec : {M : Type 1} → statement M
 encode-time-spec =
     tie.close
     (tie.spec
-    cast-nsecs
-    refused-requires
-    returns
-    shift-requires
-    refused-requires-2
-    returns-2
-    encode-big-requires
-    returns-3
-    encode-small-requires
-    returns-4)
+    (λ c. search needs) (λ c κs. search needs) returns (λ c κs. search needs) (λ c κs. search needs) returns-2
+    encode-big-requires returns-3 encode-small-requires returns-4)

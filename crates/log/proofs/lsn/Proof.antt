@@ -6,15 +6,12 @@ use Rattle.log.specs.Record.{lsnOf}
 use Rattle.log.proofs.lsn.Statement.{statement}
 use Rattle.log.proofs.lsn.Tie as tie
 
-mul-result : tie.Need-mul-result
-mul-result c = search needs
-
-add-result : tie.Need-add-result
-add-result c = search needs
-
 returns : tie.Need-returns
 unfolding lsnOf
 returns c = refl
 
 pub lsn-spec : {M : Type 1} → statement M
-lsn-spec = tie.close (tie.spec mul-result add-result returns)
+lsn-spec =
+    tie.close
+    (tie.spec
+    (λ c. search needs) (λ c. search needs) returns)

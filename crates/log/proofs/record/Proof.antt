@@ -13,9 +13,6 @@ use borrow.Author.Needs.{needs}
 use Rattle.log.proofs.record.Statement.{statement}
 use Rattle.log.proofs.record.Tie as tie
 
-record-blocks-requires : tie.Need-record-blocks-requires
-record-blocks-requires c κs = search needs
-
 mul-need : tie.Need-mul-need
 mul-need c = omega (arith, c .record-blocks .ensures, blocks-fit (c .before .before .args .sunit) (c .before .before .fits .sunit .fits))
 
@@ -33,23 +30,11 @@ returns-2 c =
     let n : length (args .rec .now) ≡ 512 * blocksOf (args .sunit) = let h = c .before .if1 .left in omega (arith, c .before .before .record-blocks .ensures) in
     refused (rw (eq-eqb _ _ n, lt-leb (args .sunit) 16384 (let h = c .if2 .taken in omega arith)) refl) refl
 
-cast-cycle : tie.Need-cast-cycle
-cast-cycle c = search needs
-
-put-same-requires : tie.Need-put-same-requires
-put-same-requires c κs = search needs
-
 header-requires : tie.Need-header-requires
 header-requires c κs = omega (arith, c .before .before .before .put-same .kept .0, c .before .before .before .before .before .before .if1 .left, c .before .before .before .before .before .before .before .record-blocks .ensures, blocks-least (c .before .before .before .before .before .before .before .before .before .args .sunit))
 
 unmount-requires : tie.Need-unmount-requires
 unmount-requires c κs = omega (arith, c .before .before .before .header .kept .0, c .before .before .before .before .before .before .before .put-same .kept .0, c .before .before .before .before .before .before .before .before .before .before .if1 .left, c .before .before .before .before .before .before .before .before .before .before .before .record-blocks .ensures, blocks-least (c .before .before .before .before .before .before .before .before .before .before .before .before .before .args .sunit))
-
-stamp-blocks-requires : tie.Need-stamp-blocks-requires
-stamp-blocks-requires c κs = search needs
-
-same-length : tie.Need-same-length
-same-length c = search needs
 
 returns-3 : tie.Need-returns-3
 unfolding recordNumber
@@ -64,14 +49,5 @@ pub record-spec : {M : Type 1} → statement M
 record-spec =
     tie.close
     (tie.spec
-    record-blocks-requires
-    mul-need
-    returns
-    returns-2
-    cast-cycle
-    put-same-requires
-    header-requires
-    unmount-requires
-    stamp-blocks-requires
-    same-length
-    returns-3)
+    (λ c κs. search needs) mul-need returns returns-2 (λ c. search needs) (λ c κs. search needs) header-requires
+    unmount-requires (λ c κs. search needs) (λ c. search needs) returns-3)

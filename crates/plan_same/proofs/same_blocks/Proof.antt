@@ -18,29 +18,8 @@ Inv-loop a b i₀ i = (i ≤ 64) × (eqList eqb a b ≡ eqList eqb (drop i a) (d
 abbrev μ-loop : tie.MeasureT-loop
 μ-loop a b i₀ i = 64 - i
 
-loop-holds : tie.Need-loop-holds Inv-loop μ-loop
-loop-holds c = (omega arith, refl)
-
-mul-if1 : tie.Need-mul-if1 Inv-loop μ-loop
-mul-if1 c = search needs
-
-array-read-if1 : tie.Need-array-read-if1 Inv-loop μ-loop
-array-read-if1 c = search needs
-
-mul-if1-2 : tie.Need-mul-if1-2 Inv-loop μ-loop
-mul-if1-2 c = search needs
-
-array-read-if1-2 : tie.Need-array-read-if1-2 Inv-loop μ-loop
-array-read-if1-2 c = search needs
-
 returns : tie.Need-returns Inv-loop μ-loop
 returns c = let k : length (c .before .before .before .args .t1) ≡ 64 = search needs in let m : length (c .before .before .before .args .t2) ≡ 64 = search needs in sym (c .before .before .loop .inv .1 ∙ differ eqb 0 (c .before .before .before .args .t1) (c .before .before .before .args .t2) (c .before .before .loop .i) (omega arith) (omega arith) (ne-eqb _ _ (c .if1 .taken)))
-
-add-i : tie.Need-add-i Inv-loop μ-loop
-add-i c = omega arith
-
-loop-less : tie.Need-loop-less Inv-loop μ-loop
-loop-less c = omega arith
 
 loop-again : tie.Need-loop-again Inv-loop μ-loop
 loop-again c = let k : length (c .before .before .before .args .t1) ≡ 64 = search needs in let m : length (c .before .before .before .args .t2) ≡ 64 = search needs in (omega arith, c .before .before .loop .inv .1 ∙ agree eqb 0 (c .before .before .before .args .t1) (c .before .before .before .args .t2) (c .before .before .loop .i) (omega arith) (omega arith) (eq-eqb _ _ (c .if1 .left)))
@@ -52,5 +31,5 @@ pub same-blocks-spec : {M : Type 1} → statement M
 same-blocks-spec =
     tie.close
     (tie.spec
-    Inv-loop μ-loop loop-holds mul-if1 array-read-if1 mul-if1-2 array-read-if1-2 returns add-i loop-less
-    loop-again returns-2)
+    Inv-loop μ-loop (λ c. (omega arith, refl)) (λ c. search needs) (λ c. search needs) (λ c. search needs)
+    (λ c. search needs) returns (λ c. omega arith) (λ c. omega arith) loop-again returns-2)

@@ -18,32 +18,8 @@ Inv-loop a b i₀ i = (i ≤ 64) × (eqList sameAlloc a b ≡ eqList sameAlloc (
 abbrev μ-loop : tie.MeasureT-loop
 μ-loop a b i₀ i = 64 - i
 
-loop-holds : tie.Need-loop-holds Inv-loop μ-loop
-loop-holds c = (omega arith, refl)
-
-mul-same-alloc : tie.Need-mul-same-alloc Inv-loop μ-loop
-mul-same-alloc c = search needs
-
-array-copy-out-same-alloc : tie.Need-array-copy-out-same-alloc Inv-loop μ-loop
-array-copy-out-same-alloc c = search needs
-
-mul-same-alloc-2 : tie.Need-mul-same-alloc-2 Inv-loop μ-loop
-mul-same-alloc-2 c = search needs
-
-array-copy-out-same-alloc-2 : tie.Need-array-copy-out-same-alloc-2 Inv-loop μ-loop
-array-copy-out-same-alloc-2 c = search needs
-
-same-alloc-requires : tie.Need-same-alloc-requires Inv-loop μ-loop
-same-alloc-requires c κs = search needs
-
 returns : tie.Need-returns Inv-loop μ-loop
 returns c = let k : length (c .before .before .before .before .before .before .args .t1) ≡ 64 = search needs in let m : length (c .before .before .before .before .before .before .args .t2) ≡ 64 = search needs in sym (c .before .before .before .before .before .loop .inv .1 ∙ differ sameAlloc zeroRec (c .before .before .before .before .before .before .args .t1) (c .before .before .before .before .before .before .args .t2) (c .before .before .before .before .before .loop .i) (omega arith) (omega arith) (sym (c .before .same-alloc .ensures) ∙ not-true _ (c .if1 .taken)))
-
-add-i : tie.Need-add-i Inv-loop μ-loop
-add-i c = omega arith
-
-loop-less : tie.Need-loop-less Inv-loop μ-loop
-loop-less c = omega arith
 
 loop-again : tie.Need-loop-again Inv-loop μ-loop
 loop-again c = let k : length (c .before .before .before .before .before .before .args .t1) ≡ 64 = search needs in let m : length (c .before .before .before .before .before .before .args .t2) ≡ 64 = search needs in (omega arith, c .before .before .before .before .before .loop .inv .1 ∙ agree sameAlloc zeroRec (c .before .before .before .before .before .before .args .t1) (c .before .before .before .before .before .before .args .t2) (c .before .before .before .before .before .loop .i) (omega arith) (omega arith) (sym (c .before .same-alloc .ensures) ∙ not-false _ (c .if1 .left)))
@@ -55,5 +31,5 @@ pub same-extents-spec : {M : Type 1} → statement M
 same-extents-spec =
     tie.close
     (tie.spec
-    Inv-loop μ-loop loop-holds mul-same-alloc array-copy-out-same-alloc mul-same-alloc-2
-    array-copy-out-same-alloc-2 same-alloc-requires returns add-i loop-less loop-again returns-2)
+    Inv-loop μ-loop (λ c. (omega arith, refl)) (λ c. search needs) (λ c. search needs) (λ c. search needs)
+    (λ c. search needs) (λ c κs. search needs) returns (λ c. omega arith) (λ c. omega arith) loop-again returns-2)

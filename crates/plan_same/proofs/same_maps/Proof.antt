@@ -18,32 +18,8 @@ Inv-loop a b i₀ i = (i ≤ 64) × (eqList sameMap a b ≡ eqList sameMap (drop
 abbrev μ-loop : tie.MeasureT-loop
 μ-loop a b i₀ i = 64 - i
 
-loop-holds : tie.Need-loop-holds Inv-loop μ-loop
-loop-holds c = (omega arith, refl)
-
-mul-same-map : tie.Need-mul-same-map Inv-loop μ-loop
-mul-same-map c = search needs
-
-array-copy-out-same-map : tie.Need-array-copy-out-same-map Inv-loop μ-loop
-array-copy-out-same-map c = search needs
-
-mul-same-map-2 : tie.Need-mul-same-map-2 Inv-loop μ-loop
-mul-same-map-2 c = search needs
-
-array-copy-out-same-map-2 : tie.Need-array-copy-out-same-map-2 Inv-loop μ-loop
-array-copy-out-same-map-2 c = search needs
-
-same-map-requires : tie.Need-same-map-requires Inv-loop μ-loop
-same-map-requires c κs = search needs
-
 returns : tie.Need-returns Inv-loop μ-loop
 returns c = let k : length (c .before .before .before .before .before .before .args .t1) ≡ 64 = search needs in let m : length (c .before .before .before .before .before .before .args .t2) ≡ 64 = search needs in sym (c .before .before .before .before .before .loop .inv .1 ∙ differ sameMap zeroRec (c .before .before .before .before .before .before .args .t1) (c .before .before .before .before .before .before .args .t2) (c .before .before .before .before .before .loop .i) (omega arith) (omega arith) (sym (c .before .same-map .ensures) ∙ not-true _ (c .if1 .taken)))
-
-add-i : tie.Need-add-i Inv-loop μ-loop
-add-i c = omega arith
-
-loop-less : tie.Need-loop-less Inv-loop μ-loop
-loop-less c = omega arith
 
 loop-again : tie.Need-loop-again Inv-loop μ-loop
 loop-again c = let k : length (c .before .before .before .before .before .before .args .t1) ≡ 64 = search needs in let m : length (c .before .before .before .before .before .before .args .t2) ≡ 64 = search needs in (omega arith, c .before .before .before .before .before .loop .inv .1 ∙ agree sameMap zeroRec (c .before .before .before .before .before .before .args .t1) (c .before .before .before .before .before .before .args .t2) (c .before .before .before .before .before .loop .i) (omega arith) (omega arith) (sym (c .before .same-map .ensures) ∙ not-false _ (c .if1 .left)))
@@ -55,5 +31,5 @@ pub same-maps-spec : {M : Type 1} → statement M
 same-maps-spec =
     tie.close
     (tie.spec
-    Inv-loop μ-loop loop-holds mul-same-map array-copy-out-same-map mul-same-map-2 array-copy-out-same-map-2
-    same-map-requires returns add-i loop-less loop-again returns-2)
+    Inv-loop μ-loop (λ c. (omega arith, refl)) (λ c. search needs) (λ c. search needs) (λ c. search needs)
+    (λ c. search needs) (λ c κs. search needs) returns (λ c. omega arith) (λ c. omega arith) loop-again returns-2)

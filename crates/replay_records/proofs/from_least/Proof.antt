@@ -10,12 +10,6 @@ use borrow.Author.Needs.{needs}
 use Rattle.replay_records.proofs.from_least.Statement.{statement}
 use Rattle.replay_records.proofs.from_least.Tie as tie
 
-returns : tie.Need-returns
-returns c = search needs
-
-returns-2 : tie.Need-returns-2
-returns-2 c = search needs
-
 add-result : tie.Need-add-result
 add-result c =
     let args = c .before .before .args in
@@ -30,8 +24,8 @@ cast-result c =
     let h = shifted-most (args .secs) b in
     rw (sum-read _ (args .secs) e b) (tt, record { fits = let g : shifted (args .secs) < 2 ^ 64 = omega arith in g })
 
-returns-3 : tie.Need-returns-3
-returns-3 c = search needs
-
 pub from-least-spec : {M : Type 1} → statement M
-from-least-spec = tie.close (tie.spec returns returns-2 add-result cast-result returns-3)
+from-least-spec =
+    tie.close
+    (tie.spec
+    (λ c. search needs) (λ c. search needs) add-result cast-result (λ c. search needs))

@@ -17,29 +17,11 @@ Inv-loop input at₀ at = sound (records 0 input) ≡ sound (records at input)
 abbrev μ-loop : tie.MeasureT-loop
 μ-loop input at₀ at = length input - at
 
-loop-holds : tie.Need-loop-holds Inv-loop μ-loop
-loop-holds c = refl
-
-record-at-requires : tie.Need-record-at-requires Inv-loop μ-loop
-record-at-requires c κs = omega arith
-
-is-known-requires : tie.Need-is-known-requires Inv-loop μ-loop
-is-known-requires c κs = tt
-
 returns : tie.Need-returns Inv-loop μ-loop
 returns c = sym (c .before .before .before .before .loop .inv ∙ sound-unknown _ _ _ (c .before .before .record-at .ensures .0) (c .before .before .before .loop-test .taken) (sym (c .before .is-known .ensures) ∙ not-true _ (c .if1 .taken)))
 
-value-of-requires : tie.Need-value-of-requires Inv-loop μ-loop
-value-of-requires c κs = tt
-
-is-given-requires : tie.Need-is-given-requires Inv-loop μ-loop
-is-given-requires c κs = tt
-
 returns-2 : tie.Need-returns-2 Inv-loop μ-loop
 returns-2 c = sym (c .before .before .before .before .before .before .before .loop .inv ∙ sound-twice _ _ _ (c .before .before .before .before .before .record-at .ensures .0) (c .before .before .before .before .before .before .loop-test .taken) (sym (c .before .before .before .before .is-known .ensures) ∙ not-false _ (c .before .before .before .if1 .left)) (ap given64 (sym (c .before .before .value-of .ensures)) ∙ sym (c .before .is-given .ensures) ∙ c .if2 .taken))
-
-loop-less : tie.Need-loop-less Inv-loop μ-loop
-loop-less c = omega arith
 
 loop-again : tie.Need-loop-again Inv-loop μ-loop
 loop-again c = c .before .before .before .before .before .before .before .loop .inv ∙ sound-later _ _ _ (c .before .before .before .before .before .record-at .ensures .0) (c .before .before .before .before .before .before .loop-test .taken) (sym (c .before .before .before .before .is-known .ensures) ∙ not-false _ (c .before .before .before .if1 .left)) (ap given64 (sym (c .before .before .value-of .ensures)) ∙ sym (c .before .is-given .ensures) ∙ c .if2 .left)
@@ -51,15 +33,5 @@ pub all-sound-spec : {M : Type 1} → statement M
 all-sound-spec =
     tie.close
     (tie.spec
-    Inv-loop
-    μ-loop
-    loop-holds
-    record-at-requires
-    is-known-requires
-    returns
-    value-of-requires
-    is-given-requires
-    returns-2
-    loop-less
-    loop-again
-    returns-3)
+    Inv-loop μ-loop (λ c. refl) (λ c κs. omega arith) (λ c κs. tt) returns (λ c κs. tt) (λ c κs. tt) returns-2
+    (λ c. omega arith) loop-again returns-3)

@@ -7,81 +7,6 @@ use borrow.Author.Needs.{needs}
 use Rattle.sb.proofs.all_numbers.Statement.{statement}
 use Rattle.sb.proofs.all_numbers.Tie as tie
 
-wide32-requires : tie.Need-wide32-requires
-wide32-requires c κs = search needs
-
-large-sector-requires : tie.Need-large-sector-requires
-large-sector-requires c κs = search needs
-
-version-of-requires : tie.Need-version-of-requires
-version-of-requires c κs = search needs
-
-rext-of-requires : tie.Need-rext-of-requires
-rext-of-requires c κs = search needs
-
-wide32-requires-2 : tie.Need-wide32-requires-2
-wide32-requires-2 c κs = search needs
-
-align-of-requires : tie.Need-align-of-requires
-align-of-requires c κs = search needs
-
-minus-u8-requires : tie.Need-minus-u8-requires
-minus-u8-requires c κs = search needs
-
-wide8-requires : tie.Need-wide8-requires
-wide8-requires c κs = search needs
-
-lsunit-of-requires : tie.Need-lsunit-of-requires
-lsunit-of-requires c κs = search needs
-
-logsunit-of-requires : tie.Need-logsunit-of-requires
-logsunit-of-requires c κs = search needs
-
-wide32-requires-3 : tie.Need-wide32-requires-3
-wide32-requires-3 c κs = search needs
-
-ro-of-requires : tie.Need-ro-of-requires
-ro-of-requires c κs = search needs
-
-in-of-requires : tie.Need-in-of-requires
-in-of-requires c κs = search needs
-
-spino-of-requires : tie.Need-spino-of-requires
-spino-of-requires c κs = search needs
-
-bit-of-requires : tie.Need-bit-of-requires
-bit-of-requires c κs = search needs
-
-wide32-requires-4 : tie.Need-wide32-requires-4
-wide32-requires-4 c κs = search needs
-
-wide32-requires-5 : tie.Need-wide32-requires-5
-wide32-requires-5 c κs = search needs
-
-wide32-requires-6 : tie.Need-wide32-requires-6
-wide32-requires-6 c κs = search needs
-
-wide32-requires-7 : tie.Need-wide32-requires-7
-wide32-requires-7 c κs = search needs
-
-wide8-requires-2 : tie.Need-wide8-requires-2
-wide8-requires-2 c κs = search needs
-
-wide8-requires-3 : tie.Need-wide8-requires-3
-wide8-requires-3 c κs = search needs
-
-wide8-requires-4 : tie.Need-wide8-requires-4
-wide8-requires-4 c κs = search needs
-
-wide8-requires-5 : tie.Need-wide8-requires-5
-wide8-requires-5 c κs = search needs
-
-wide8-requires-6 : tie.Need-wide8-requires-6
-wide8-requires-6 c κs = search needs
-
-wide8-requires-7 : tie.Need-wide8-requires-7
-wide8-requires-7 c κs = search needs
-
 returns : tie.Need-returns
 returns c =
     let a = c .before .before .before .before .before .before .before .before .before .before .before .before .before .before .before .before .before .before .before .before .before .before .before .before .before .before .args .g in
@@ -111,29 +36,9 @@ pub all-numbers-spec : {M : Type 1} → statement M
 all-numbers-spec =
     tie.close
     (tie.spec
-    wide32-requires
-    large-sector-requires
-    version-of-requires
-    rext-of-requires
-    wide32-requires-2
-    align-of-requires
-    minus-u8-requires
-    wide8-requires
-    lsunit-of-requires
-    logsunit-of-requires
-    wide32-requires-3
-    ro-of-requires
-    in-of-requires
-    spino-of-requires
-    bit-of-requires
-    wide32-requires-4
-    wide32-requires-5
-    wide32-requires-6
-    wide32-requires-7
-    wide8-requires-2
-    wide8-requires-3
-    wide8-requires-4
-    wide8-requires-5
-    wide8-requires-6
-    wide8-requires-7
+    (λ c κs. search needs) (λ c κs. search needs) (λ c κs. search needs) (λ c κs. search needs) (λ c κs. search needs)
+    (λ c κs. search needs) (λ c κs. search needs) (λ c κs. search needs) (λ c κs. search needs) (λ c κs. search needs)
+    (λ c κs. search needs) (λ c κs. search needs) (λ c κs. search needs) (λ c κs. search needs) (λ c κs. search needs)
+    (λ c κs. search needs) (λ c κs. search needs) (λ c κs. search needs) (λ c κs. search needs) (λ c κs. search needs)
+    (λ c κs. search needs) (λ c κs. search needs) (λ c κs. search needs) (λ c κs. search needs) (λ c κs. search needs)
     returns)

@@ -13,17 +13,8 @@ use borrow.Author.Needs.{needs}
 use Rattle.sb.proofs.encode.Statement.{statement}
 use Rattle.sb.proofs.encode.Tie as tie
 
-is-answer-requires : tie.Need-is-answer-requires
-is-answer-requires c κs = search needs
-
-cast-if2 : tie.Need-cast-if2
-cast-if2 c = search needs
-
 fill-requires : tie.Need-fill-requires
 fill-requires c κs = let g = c .before .before .before .before .before .before .args .g in let l : length (g .label) ≡ 12 = search (needs, c .before .before .before .before .before .before .good .0 .1 .1 .1 .1 .1 .1 .1 .1 .1 .1 .1 .1 .1 .1 .1 .1 .1 .1 .1) in let h : isAnswer g ≡ true = sym (c .before .before .before .before .is-answer .ensures) ∙ c .before .before .before .if1 .taken in answer-fits g (length (c .before .before .before .before .before .before .args .sector .now)) (answer-bounds g l h) (c .before .if2 .taken)
-
-same-length : tie.Need-same-length
-same-length c = search needs
 
 returns : tie.Need-returns
 unfolding sbNumber
@@ -40,4 +31,5 @@ returns-3 c = let h = sym (c .before .is-answer .ensures) ∙ c .if1 .left in re
 pub encode-spec : {M : Type 1} → statement M
 encode-spec =
     tie.close
-    (tie.spec is-answer-requires cast-if2 fill-requires same-length returns returns-2 returns-3)
+    (tie.spec
+    (λ c κs. search needs) (λ c. search needs) fill-requires (λ c. search needs) returns returns-2 returns-3)

@@ -5,14 +5,11 @@ use borrow.Author.Needs.{needs}
 use Rattle.sb.proofs.incompat.Statement.{statement}
 use Rattle.sb.proofs.incompat.Tie as tie
 
-in-of-requires : tie.Need-in-of-requires
-in-of-requires c κs = search needs
-
-known-64-requires : tie.Need-known-64-requires
-known-64-requires c κs = search needs
-
 returns : tie.Need-returns
 returns c = c .known-64 .ensures ∙ rw (c .before .in-of .ensures)
 
 pub incompat-spec : {M : Type 1} → statement M
-incompat-spec = tie.close (tie.spec in-of-requires known-64-requires returns)
+incompat-spec =
+    tie.close
+    (tie.spec
+    (λ c κs. search needs) (λ c κs. search needs) returns)

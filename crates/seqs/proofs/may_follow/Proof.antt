@@ -5,9 +5,6 @@ use borrow.Author.Tests.{le-leb, lt-leb, lt-ltb, le-ltb}
 use Rattle.seqs.proofs.may_follow.Statement.{statement}
 use Rattle.seqs.proofs.may_follow.Tie as tie
 
-end-of-requires : tie.Need-end-of-requires
-end-of-requires c κs = search needs
-
 returns : tie.Need-returns
 returns c = simp (le-leb _ _ (c .before .before .if1 .taken), lt-ltb _ _ (c .before .if2 .taken), c .end-of .ensures)
 
@@ -18,4 +15,7 @@ returns-3 : tie.Need-returns-3
 returns-3 c = simp (lt-leb _ _ (c .if1 .left))
 
 pub may-follow-spec : {M : Type 1} → statement M
-may-follow-spec = tie.close (tie.spec end-of-requires returns returns-2 returns-3)
+may-follow-spec =
+    tie.close
+    (tie.spec
+    (λ c κs. search needs) returns returns-2 returns-3)

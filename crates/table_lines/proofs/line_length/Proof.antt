@@ -19,27 +19,6 @@ abbrev μ-loop : tie.MeasureT-loop
 loop-holds : tie.Need-loop-holds Inv-loop μ-loop
 loop-holds c = let e = line-none (c .before .args .numbers .now) in (sym (e .0), omega arith, omega arith)
 
-sub-i : tie.Need-sub-i Inv-loop μ-loop
-sub-i c = omega arith
-
-mul-decimal-length : tie.Need-mul-decimal-length Inv-loop μ-loop
-mul-decimal-length c = search needs
-
-shared-slice-read-decimal-length : tie.Need-shared-slice-read-decimal-length Inv-loop μ-loop
-shared-slice-read-decimal-length c = omega arith
-
-decimal-length-requires : tie.Need-decimal-length-requires Inv-loop μ-loop
-decimal-length-requires c κs = tt
-
-add-n : tie.Need-add-n Inv-loop μ-loop
-add-n c = omega arith
-
-add-n-2 : tie.Need-add-n-2 Inv-loop μ-loop
-add-n-2 c = omega arith
-
-loop-less : tie.Need-loop-less Inv-loop μ-loop
-loop-less c = omega arith
-
 loop-again : tie.Need-loop-again Inv-loop μ-loop
 loop-again c = (omega (arith, length-turn (c .before .before .before .loop .i) (c .before .before .before .before .before .args .numbers .now) (c .before .before .loop-test .taken) (c .before .before .before .loop .inv .2)), omega arith, omega arith)
 
@@ -50,15 +29,5 @@ pub line-length-spec : {M : Type 1} → statement M
 line-length-spec =
     tie.close
     (tie.spec
-    Inv-loop
-    μ-loop
-    loop-holds
-    sub-i
-    mul-decimal-length
-    shared-slice-read-decimal-length
-    decimal-length-requires
-    add-n
-    add-n-2
-    loop-less
-    loop-again
-    returns)
+    Inv-loop μ-loop loop-holds (λ c. omega arith) (λ c. search needs) (λ c. omega arith) (λ c κs. tt)
+    (λ c. omega arith) (λ c. omega arith) (λ c. omega arith) loop-again returns)

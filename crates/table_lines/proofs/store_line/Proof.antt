@@ -20,20 +20,8 @@ abbrev μ-loop : tie.MeasureT-loop
 loop-holds : tie.Need-loop-holds Inv-loop μ-loop
 loop-holds c = let e = line-none (c .before .before .args .numbers .now) in (patch-none _ _ _ (e .2), omega arith, sym (e .1), omega arith, refl)
 
-sub-i : tie.Need-sub-i Inv-loop μ-loop
-sub-i c = omega arith
-
-mul-store-number : tie.Need-mul-store-number Inv-loop μ-loop
-mul-store-number c = search needs
-
-shared-slice-read-store-number : tie.Need-shared-slice-read-store-number Inv-loop μ-loop
-shared-slice-read-store-number c = omega arith
-
 store-number-requires : tie.Need-store-number-requires Inv-loop μ-loop
 store-number-requires c κs = let k = c .before .before .before .loop .i - 1 in (omega (arith, length-turn (c .before .before .before .loop .i) (c .before .before .before .before .before .before .args .numbers .now) (c .before .before .loop-test .taken) (c .before .before .before .loop .inv .3), rest-length (c .before .before .before .loop .i - 1) (c .before .before .before .before .before .before .args .numbers .now)), omega arith)
-
-loop-less : tie.Need-loop-less Inv-loop μ-loop
-loop-less c = omega arith
 
 loop-again : tie.Need-loop-again Inv-loop μ-loop
 loop-again c = (number-turn (c .before .before .before .before .before .before .loop .i) (c .before .before .before .before .before .before .before .before .before .args .numbers .now) (c .before .before .before .before .before .loop-test .taken) (c .before .before .before .before .before .before .loop .inv .3) _ _ _ _ _ _ (c .before .before .before .before .before .before .loop .inv .2) (c .before .before .before .before .before .before .loop .inv .0) (c .before .before .store-number .ensures .0) (c .before .before .store-number .ensures .1), omega (arith, length-turn (c .before .before .before .before .before .before .loop .i) (c .before .before .before .before .before .before .before .before .before .args .numbers .now) (c .before .before .before .before .before .loop-test .taken) (c .before .before .before .before .before .before .loop .inv .3)), behind-turn (c .before .before .before .before .before .before .loop .i) (c .before .before .before .before .before .before .before .before .before .args .numbers .now) (c .before .before .before .before .before .loop-test .taken) (c .before .before .before .before .before .before .loop .inv .3), omega arith, omega arith)
@@ -51,14 +39,5 @@ pub store-line-spec : {M : Type 1} → statement M
 store-line-spec =
     tie.close
     (tie.spec
-    Inv-loop
-    μ-loop
-    loop-holds
-    sub-i
-    mul-store-number
-    shared-slice-read-store-number
-    store-number-requires
-    loop-less
-    loop-again
-    same-length
-    returns)
+    Inv-loop μ-loop loop-holds (λ c. omega arith) (λ c. search needs) (λ c. omega arith) store-number-requires
+    (λ c. omega arith) loop-again same-length returns)

@@ -15,9 +15,6 @@ use borrow.Author.Needs.{needs}
 use Rattle.ag.proofs.agfl.encode_agfl.Statement.{statement}
 use Rattle.ag.proofs.agfl.encode_agfl.Tie as tie
 
-is-sector-requires : tie.Need-is-sector-requires
-is-sector-requires c κs = search needs
-
 returns : tie.Need-returns
 unfolding agflNumber
 returns c =
@@ -38,12 +35,6 @@ put-slots-requires c κs =
     let l = sector-least (length (c .before .before .before .before .before .before .before .before .before .args .sector .now)) (sym (c .before .before .before .before .before .before .before .is-sector .ensures) ∙ not-false _ (c .before .before .before .before .before .before .if1 .left)) in
     (c .before .before .before .before .before .if2 .left, omega (arith, l, c .before .before .before .put-header .kept .0))
 
-stamp-requires : tie.Need-stamp-requires
-stamp-requires c κs = search needs
-
-same-length : tie.Need-same-length
-same-length c = search needs
-
 returns-3 : tie.Need-returns-3
 unfolding agflNumber
 returns-3 c =
@@ -58,11 +49,5 @@ pub encode-agfl-spec : {M : Type 1} → statement M
 encode-agfl-spec =
     tie.close
     (tie.spec
-    is-sector-requires
-    returns
-    returns-2
-    put-header-requires
-    put-slots-requires
-    stamp-requires
-    same-length
-    returns-3)
+    (λ c κs. search needs) returns returns-2 put-header-requires put-slots-requires (λ c κs. search needs)
+    (λ c. search needs) returns-3)

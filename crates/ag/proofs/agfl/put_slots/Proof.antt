@@ -21,25 +21,10 @@ Inv-loop sector₀ first count list slots i₀ sector i = (i ≤ count) × (leng
 abbrev μ-loop : tie.MeasureT-loop
 μ-loop sector₀ first count list slots i₀ sector i = count - i
 
-sub-slots : tie.Need-sub-slots Inv-loop μ-loop
-sub-slots c = search needs
-
-mul-put-same : tie.Need-mul-put-same Inv-loop μ-loop
-mul-put-same c = omega arith
-
-put-same-requires : tie.Need-put-same-requires Inv-loop μ-loop
-put-same-requires c κs = search needs
-
 loop-holds : tie.Need-loop-holds Inv-loop μ-loop
 loop-holds c =
     let args = c .before .before .before .before .before .args in
     (omega arith, refl, slot-start ((length (args .sector .now) - 36) / 4) (args .first) (args .t3) (args .sector .now) _ (put-in (c .before .before .put-same .ensures) (omega arith)))
-
-add-slot : tie.Need-add-slot Inv-loop μ-loop
-add-slot c = omega arith
-
-rem-slot : tie.Need-rem-slot Inv-loop μ-loop
-rem-slot c = omega arith
 
 mul-put32 : tie.Need-mul-put32 Inv-loop μ-loop
 mul-put32 c =
@@ -52,21 +37,6 @@ add-put32 c =
     let args = c .before .before .before .before .before .before .before .before .args in
     let m = mod-lt (args .first + c .before .before .loop .i) (let p : 0 < (length (args .sector .now) - 36) / 4 = omega arith in p) in
     omega (arith, m, c .before .before .before .before .before .put-same .kept .0, c .before .before .before .before .before .before .before .before .good .0 .0)
-
-mul-put32-2 : tie.Need-mul-put32-2 Inv-loop μ-loop
-mul-put32-2 c = omega arith
-
-array-read-put32 : tie.Need-array-read-put32 Inv-loop μ-loop
-array-read-put32 c = omega arith
-
-put32-requires : tie.Need-put32-requires Inv-loop μ-loop
-put32-requires c κs = search needs
-
-add-i : tie.Need-add-i Inv-loop μ-loop
-add-i c = omega arith
-
-loop-less : tie.Need-loop-less Inv-loop μ-loop
-loop-less c = omega arith
 
 loop-again : tie.Need-loop-again Inv-loop μ-loop
 loop-again c =
@@ -88,21 +58,6 @@ pub put-slots-spec : {M : Type 1} → statement M
 put-slots-spec =
     tie.close
     (tie.spec
-    Inv-loop
-    μ-loop
-    sub-slots
-    mul-put-same
-    put-same-requires
-    loop-holds
-    add-slot
-    rem-slot
-    mul-put32
-    add-put32
-    mul-put32-2
-    array-read-put32
-    put32-requires
-    add-i
-    loop-less
-    loop-again
-    same-length
-    returns)
+    Inv-loop μ-loop (λ c. search needs) (λ c. omega arith) (λ c κs. search needs) loop-holds (λ c. omega arith)
+    (λ c. omega arith) mul-put32 add-put32 (λ c. omega arith) (λ c. omega arith) (λ c κs. search needs)
+    (λ c. omega arith) (λ c. omega arith) loop-again same-length returns)

@@ -9,24 +9,6 @@ use borrow.Author.Needs.{needs}
 use Rattle.ag.proofs.agi.put_front.Statement.{statement}
 use Rattle.ag.proofs.agi.put_front.Tie as tie
 
-slice-aggregate-put32-run : tie.Need-slice-aggregate-put32-run
-slice-aggregate-put32-run c = search needs
-
-put32-run-requires : tie.Need-put32-run-requires
-put32-run-requires c κs = search needs
-
-mul-put-same : tie.Need-mul-put-same
-mul-put-same c = search needs
-
-put-same-requires : tie.Need-put-same-requires
-put-same-requires c κs = search needs
-
-put-bytes-requires : tie.Need-put-bytes-requires
-put-bytes-requires c κs = search needs
-
-same-length : tie.Need-same-length
-same-length c = search needs
-
 returns : tie.Need-returns
 returns c =
     let args = c .before .before .before .before .before .before .before .before .before .before .before .before .before .before .before .args in
@@ -41,10 +23,5 @@ pub put-front-spec : {M : Type 1} → statement M
 put-front-spec =
     tie.close
     (tie.spec
-    slice-aggregate-put32-run
-    put32-run-requires
-    mul-put-same
-    put-same-requires
-    put-bytes-requires
-    same-length
-    returns)
+    (λ c. search needs) (λ c κs. search needs) (λ c. search needs) (λ c κs. search needs) (λ c κs. search needs)
+    (λ c. search needs) returns)

@@ -6,14 +6,11 @@ use borrow.Author.Needs.{needs}
 use Rattle.arith.proofs.numbers.remainder.Statement.{statement}
 use Rattle.arith.proofs.numbers.remainder.Tie as tie
 
-rem-result : tie.Need-rem-result
-rem-result c = search needs
-
 returns : tie.Need-returns
 returns c = rw (c .if1 .taken) (sym (mod-zero _))
 
-returns-2 : tie.Need-returns-2
-returns-2 c = search needs
-
 pub remainder-spec : {M : Type 1} → statement M
-remainder-spec = tie.close (tie.spec rem-result returns returns-2)
+remainder-spec =
+    tie.close
+    (tie.spec
+    (λ c. search needs) returns (λ c. search needs))

@@ -10,8 +10,8 @@ mul-result c =
     let a = c .before .args in
     rw (c .quotient .ensures) (fits-le (div-mul-le-self (a .a) (a .b)) (c .before .fits .a))
 
-returns : tie.Need-returns
-returns c = cc
-
 pub round-down-spec : {M : Type 1} → statement M
-round-down-spec = tie.close (tie.spec (λ c κs. tt) mul-result returns)
+round-down-spec =
+    tie.close
+    (tie.spec
+    (λ c κs. tt) mul-result (λ c. cc))

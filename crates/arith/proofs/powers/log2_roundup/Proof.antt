@@ -27,12 +27,6 @@ returns c = let k = c .before .before .loop in sym (least-here (k .l) _ (k .inv 
 mul-p : tie.Need-mul-p Inv-loop μ-loop
 mul-p c = let h : 2 ^ c .before .before .loop .l ≤ 2 ^ 62 = pow-mono {j = 62} (omega arith) in omega arith
 
-add-l : tie.Need-add-l Inv-loop μ-loop
-add-l c = omega arith
-
-loop-less : tie.Need-loop-less Inv-loop μ-loop
-loop-less c = omega arith
-
 loop-again : tie.Need-loop-again Inv-loop μ-loop
 loop-again c =
     let k = c .before .before .loop in
@@ -51,4 +45,5 @@ returns-3 c =
 pub log2-roundup-spec : {M : Type 1} → statement M
 log2-roundup-spec =
     tie.close
-    (tie.spec Inv-loop μ-loop loop-holds returns mul-p add-l loop-less loop-again returns-2 returns-3)
+    (tie.spec
+    Inv-loop μ-loop loop-holds returns mul-p (λ c. omega arith) (λ c. omega arith) loop-again returns-2 returns-3)

@@ -18,17 +18,11 @@ use borrow.Author.Needs.{needs}
 use Rattle.btree.proofs.leaf.leaf_block.Statement.{statement}
 use Rattle.btree.proofs.leaf.leaf_block.Tie as tie
 
-is-block-requires : tie.Need-is-block-requires
-is-block-requires c κs = search needs
-
 returns : tie.Need-returns
 unfolding leafNumber
 returns c =
     let t : isBlock (length (c .before .before .before .before .args .block .now)) ≡ false = sym (c .before .is-block .ensures) ∙ not-true _ (c .if1 .taken) in
     refused (rw t refl) refl
-
-inside-requires : tie.Need-inside-requires
-inside-requires c κs = search needs
 
 returns-2 : tie.Need-returns-2
 unfolding leafNumber
@@ -38,23 +32,11 @@ returns-2 c =
     let f : leb (56 + length (args .recs .now)) (length (args .block .now)) ≡ false = sym (c .before .inside .ensures) ∙ not-true _ (c .if2 .taken) in
     refused (rw (t, f) refl) refl
 
-put-same-requires : tie.Need-put-same-requires
-put-same-requires c κs = search needs
-
 put-header-requires : tie.Need-put-header-requires
 put-header-requires c κs =
     let args = c .before .before .before .before .before .before .before .before .before .before .before .args in
     let t : isBlock (length (args .block .now)) ≡ true = sym (c .before .before .before .before .before .before .before .before .is-block .ensures) ∙ not-false _ (c .before .before .before .before .before .before .before .if1 .left) in
     omega (arith, block-least (length (args .block .now)) t, c .before .before .before .put-same .kept .0)
-
-put-bytes-requires : tie.Need-put-bytes-requires
-put-bytes-requires c κs = search needs
-
-stamp-requires : tie.Need-stamp-requires
-stamp-requires c κs = search needs
-
-same-length : tie.Need-same-length
-same-length c = search needs
 
 returns-3 : tie.Need-returns-3
 unfolding leafNumber
@@ -73,13 +55,5 @@ pub leaf-block-spec : {M : Type 1} → statement M
 leaf-block-spec =
     tie.close
     (tie.spec
-    is-block-requires
-    returns
-    inside-requires
-    returns-2
-    put-same-requires
-    put-header-requires
-    put-bytes-requires
-    stamp-requires
-    same-length
-    returns-3)
+    (λ c κs. search needs) returns (λ c κs. search needs) returns-2 (λ c κs. search needs) put-header-requires
+    (λ c κs. search needs) (λ c κs. search needs) (λ c. search needs) returns-3)

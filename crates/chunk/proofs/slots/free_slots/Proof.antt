@@ -20,17 +20,8 @@ abbrev μ-loop : tie.MeasureT-loop
 loop-holds : tie.Need-loop-holds Inv-loop μ-loop
 loop-holds c = (omega arith, c .before .pre .1, slots-first _ (c .before .args .size) _)
 
-add-free-slot : tie.Need-add-free-slot Inv-loop μ-loop
-add-free-slot c = omega arith
-
 free-slot-requires : tie.Need-free-slot-requires Inv-loop μ-loop
 free-slot-requires c κs = (search needs, slot-room _ 64 _ _ (search needs) (search needs))
-
-add-i : tie.Need-add-i Inv-loop μ-loop
-add-i c = search needs
-
-loop-less : tie.Need-loop-less Inv-loop μ-loop
-loop-less c = omega arith
 
 loop-again : tie.Need-loop-again Inv-loop μ-loop
 loop-again c =
@@ -42,9 +33,6 @@ loop-again c =
       slot-turn _ (s .args .size) (λ i. free-length _ _ _ _ ∙ length-replicate _ _) _ _ _ _ (slot-room _ 64 _ _ (search needs) g) (l .2) (c .before .before .free-slot .ensures),
     )
 
-same-length : tie.Need-same-length Inv-loop μ-loop
-same-length c = search needs
-
 returns : tie.Need-returns Inv-loop μ-loop
 returns c = slots-all _ 64 _ _ _ _ (c .before .loop .inv .0) (c .loop-test .left) (c .before .before .before .pre .1) (c .before .loop .inv .2)
 
@@ -52,4 +40,5 @@ pub free-slots-spec : {M : Type 1} → statement M
 free-slots-spec =
     tie.close
     (tie.spec
-    Inv-loop μ-loop loop-holds add-free-slot free-slot-requires add-i loop-less loop-again same-length returns)
+    Inv-loop μ-loop loop-holds (λ c. omega arith) free-slot-requires (λ c. search needs) (λ c. omega arith) loop-again
+    (λ c. search needs) returns)

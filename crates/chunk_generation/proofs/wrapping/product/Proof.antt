@@ -8,8 +8,8 @@ use Rattle.chunk_generation.proofs.wrapping.product.Tie as tie
 mul-result : tie.Need-mul-result
 mul-result c = record { fits = halves-fit (c .args .a) (c .args .b) (c .pre .0) (c .pre .1) }
 
-returns : tie.Need-returns
-returns c = search needs
-
 pub product-spec : {M : Type 1} → statement M
-product-spec = tie.close (tie.spec mul-result returns)
+product-spec =
+    tie.close
+    (tie.spec
+    mul-result (λ c. search needs))

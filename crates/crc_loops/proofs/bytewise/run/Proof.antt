@@ -16,20 +16,8 @@ Inv-loop t from s c₀ i₀ c i = (i ≤ length s) × (crcBytes c (drop i s) ≡
 abbrev μ-loop : tie.MeasureT-loop
 μ-loop t from s c₀ i₀ c i = length s - i
 
-loop-holds : tie.Need-loop-holds Inv-loop μ-loop
-loop-holds c = (omega arith, refl)
-
-shared-slice-read-step : tie.Need-shared-slice-read-step Inv-loop μ-loop
-shared-slice-read-step c = omega arith
-
 step-requires : tie.Need-step-requires Inv-loop μ-loop
 step-requires c κs = c .before .before .before .before .pre
-
-add-i : tie.Need-add-i Inv-loop μ-loop
-add-i c = omega arith
-
-loop-less : tie.Need-loop-less Inv-loop μ-loop
-loop-less c = omega arith
 
 loop-again : tie.Need-loop-again Inv-loop μ-loop
 loop-again c = (omega arith, byte-more (c .before .before .before .loop .c) (c .step .result) (c .before .before .before .before .before .args .from) (c .before .before .before .loop .i) (c .before .before .before .before .before .args .s .now) (c .before .before .loop-test .taken) (c .step .ensures) (c .before .before .before .loop .inv .1))
@@ -41,12 +29,5 @@ pub run-spec : {M : Type 1} → statement M
 run-spec =
     tie.close
     (tie.spec
-    Inv-loop
-    μ-loop
-    loop-holds
-    shared-slice-read-step
-    step-requires
-    add-i
-    loop-less
-    loop-again
-    returns)
+    Inv-loop μ-loop (λ c. (omega arith, refl)) (λ c. omega arith) step-requires (λ c. omega arith) (λ c. omega arith)
+    loop-again returns)

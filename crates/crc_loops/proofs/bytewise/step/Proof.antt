@@ -10,17 +10,11 @@ use borrow.Author.Needs.{needs}
 use Rattle.crc_loops.proofs.bytewise.step.Statement.{statement}
 use Rattle.crc_loops.proofs.bytewise.step.Tie as tie
 
-cast-i : tie.Need-cast-i
-cast-i c = search needs
-
-mul-result : tie.Need-mul-result
-mul-result c = search needs
-
-element-copy-out-result : tie.Need-element-copy-out-result
-element-copy-out-result c = search needs
-
 returns : tie.Need-returns
 returns c = let a = c .before .args in byte-turn (a .c) (a .b) (getD (a .t .now) (bitXor (a .c) (a .b) % 256) 0) (c .before .fits .b .fits) (ap (λ (l : List ℕ). getD l (bitXor (a .c) (a .b) % 256) 0) (c .before .pre))
 
 pub step-spec : {M : Type 1} → statement M
-step-spec = tie.close (tie.spec cast-i mul-result element-copy-out-result returns)
+step-spec =
+    tie.close
+    (tie.spec
+    (λ c. search needs) (λ c. search needs) (λ c. search needs) returns)

@@ -17,32 +17,11 @@ Inv-loop t from s c₀ i₀ c i = (i ≤ length s) × (crcBytes c (drop i s) ≡
 abbrev μ-loop : tie.MeasureT-loop
 μ-loop t from s c₀ i₀ c i = length s - i
 
-loop-holds : tie.Need-loop-holds Inv-loop μ-loop
-loop-holds c = (omega arith, refl)
-
-sub-loop : tie.Need-sub-loop Inv-loop μ-loop
-sub-loop c = omega arith
-
-word-requires : tie.Need-word-requires Inv-loop μ-loop
-word-requires c κs = omega arith
-
 fold-requires : tie.Need-fold-requires Inv-loop μ-loop
 fold-requires c κs = (c .before .before .before .before .pre, lit< tt)
 
-add-word : tie.Need-add-word Inv-loop μ-loop
-add-word c = omega arith
-
-word-requires-2 : tie.Need-word-requires-2 Inv-loop μ-loop
-word-requires-2 c κs = omega arith
-
 fold-requires-2 : tie.Need-fold-requires-2 Inv-loop μ-loop
 fold-requires-2 c κs = (c .before .before .before .before .before .before .pre, lit< tt)
-
-add-i : tie.Need-add-i Inv-loop μ-loop
-add-i c = omega arith
-
-loop-less : tie.Need-loop-less Inv-loop μ-loop
-loop-less c = omega arith
 
 loop-again : tie.Need-loop-again Inv-loop μ-loop
 loop-again c = let l = c .before .before .before .before .before .loop in let a = c .before .before .before .before .before .before .before .args in let h : l .i + 8 ≤ length (a .s .now) = omega arith in (omega arith, eight-turn (l .c) (l .i) (c .before .before .fold .result) (c .fold2 .result) (a .from) (a .s .now) h (λ k. omega (arith, c .before .before .before .before .before .before .shared-slice-known .given k)) (c .before .before .fold .ensures ∙ ap (λ (k : ℕ). crcBits 64 (bitXor (l .c) k) 0) (c .before .before .before .word .ensures)) (c .fold2 .ensures ∙ ap (λ (k : ℕ). crcBits 32 k 0) (c .before .word2 .ensures)) (l .inv .1))
@@ -57,17 +36,6 @@ pub eights-spec : {M : Type 1} → statement M
 eights-spec =
     tie.close
     (tie.spec
-    Inv-loop
-    μ-loop
-    loop-holds
-    sub-loop
-    word-requires
-    fold-requires
-    add-word
-    word-requires-2
-    fold-requires-2
-    add-i
-    loop-less
-    loop-again
-    tail-requires
-    returns)
+    Inv-loop μ-loop (λ c. (omega arith, refl)) (λ c. omega arith) (λ c κs. omega arith) fold-requires
+    (λ c. omega arith) (λ c κs. omega arith) fold-requires-2 (λ c. omega arith) (λ c. omega arith) loop-again
+    tail-requires returns)

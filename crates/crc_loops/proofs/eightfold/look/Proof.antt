@@ -9,20 +9,11 @@ use borrow.Author.Needs.{needs}
 use Rattle.crc_loops.proofs.eightfold.look.Statement.{statement}
 use Rattle.crc_loops.proofs.eightfold.look.Tie as tie
 
-mul-result : tie.Need-mul-result
-mul-result c = search needs
-
-add-result : tie.Need-add-result
-add-result c = search needs
-
-mul-result-2 : tie.Need-mul-result-2
-mul-result-2 c = search needs
-
-element-copy-out-result : tie.Need-element-copy-out-result
-element-copy-out-result c = search needs
-
 returns : tie.Need-returns
 returns c = let a = c .before .args in ap (λ (l : List ℕ). getD l (a .k * 256 + a .i) 0) (c .before .pre .0) ∙ slice-at (a .k) (a .i) (c .before .pre .1 .0) (c .before .pre .1 .1)
 
 pub look-spec : {M : Type 1} → statement M
-look-spec = tie.close (tie.spec mul-result add-result mul-result-2 element-copy-out-result returns)
+look-spec =
+    tie.close
+    (tie.spec
+    (λ c. search needs) (λ c. search needs) (λ c. search needs) (λ c. search needs) returns)

@@ -19,23 +19,8 @@ Inv-loop t from s at c₀ i₀ c i = (i ≤ length s) × (crcBytes c (drop i s) 
 abbrev μ-loop : tie.MeasureT-loop
 μ-loop t from s at c₀ i₀ c i = length s - i
 
-loop-holds : tie.Need-loop-holds Inv-loop μ-loop
-loop-holds c = (omega arith, refl)
-
-shared-slice-read-wide : tie.Need-shared-slice-read-wide Inv-loop μ-loop
-shared-slice-read-wide c = omega arith
-
-wide-requires : tie.Need-wide-requires Inv-loop μ-loop
-wide-requires c κs = search needs
-
 look-requires : tie.Need-look-requires Inv-loop μ-loop
 look-requires c κs = (c .before .before .before .before .before .pre .0, (lit< tt, mod-lt _ (lit< tt)))
-
-add-i : tie.Need-add-i Inv-loop μ-loop
-add-i c = omega arith
-
-loop-less : tie.Need-loop-less Inv-loop μ-loop
-loop-less c = omega arith
 
 loop-again : tie.Need-loop-again Inv-loop μ-loop
 loop-again c = let l = c .before .before .before .before .loop in let a = c .before .before .before .before .before .before .args in (omega arith, turn-to (l .c) (bitXor (c .look .result) (l .c / 256)) (l .i) (crcBytes (a .from) (drop (a .at) (a .s .now))) (a .s .now) (c .before .before .before .loop-test .taken) (look-turn (l .c) (getD (a .s .now) (l .i) 0) (c .before .wide .result) (c .look .result) (c .before .wide .ensures .0) (c .before .wide .ensures .1) (c .look .ensures)) (l .inv .1))
@@ -47,13 +32,5 @@ pub tail-spec : {M : Type 1} → statement M
 tail-spec =
     tie.close
     (tie.spec
-    Inv-loop
-    μ-loop
-    loop-holds
-    shared-slice-read-wide
-    wide-requires
-    look-requires
-    add-i
-    loop-less
-    loop-again
-    returns)
+    Inv-loop μ-loop (λ c. (omega arith, refl)) (λ c. omega arith) (λ c κs. search needs) look-requires
+    (λ c. omega arith) (λ c. omega arith) loop-again returns)

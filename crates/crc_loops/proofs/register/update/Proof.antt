@@ -10,29 +10,8 @@ use borrow.Author.Needs.{needs}
 use Rattle.crc_loops.proofs.register.update.Statement.{statement}
 use Rattle.crc_loops.proofs.register.update.Tie as tie
 
-trim-requires : tie.Need-trim-requires
-trim-requires c κs = search needs
-
-body-requires : tie.Need-body-requires
-body-requires c κs = search needs
-
-returns : tie.Need-returns
-returns c = search needs
-
-mul-end : tie.Need-mul-end
-mul-end c = search needs
-
-sub-end : tie.Need-sub-end
-sub-end c = search needs
-
 slice-aggregate-body : tie.Need-slice-aggregate-body
 slice-aggregate-body c = let a = c .before .before .before .before .args in let n = c .before .before .trim .result in let h : length (a .s .now) - n * 64 ≤ length (a .s .now) = omega arith in sym (length-take-le (length (a .s .now) - n * 64) (a .s .now) h)
-
-body-requires-2 : tie.Need-body-requires-2
-body-requires-2 c κs = search needs
-
-jumped-requires : tie.Need-jumped-requires
-jumped-requires c κs = search needs
 
 returns-2 : tie.Need-returns-2
 returns-2 c = let a = c .before .before .before .before .before .before .args in let n = c .before .before .before .before .trim .result in in-two (length (a .s .now) - n * 64) n (a .from) (c .before .body2 .result) (c .jumped .result) (a .s .now) (c .before .before .before .before .trim .ensures .1 .1) (c .before .body2 .ensures) (c .jumped .ensures)
@@ -41,12 +20,5 @@ pub update-spec : {M : Type 1} → statement M
 update-spec =
     tie.close
     (tie.spec
-    trim-requires
-    body-requires
-    returns
-    mul-end
-    sub-end
-    slice-aggregate-body
-    body-requires-2
-    jumped-requires
-    returns-2)
+    (λ c κs. search needs) (λ c κs. search needs) (λ c. search needs) (λ c. search needs) (λ c. search needs)
+    slice-aggregate-body (λ c κs. search needs) (λ c κs. search needs) returns-2)

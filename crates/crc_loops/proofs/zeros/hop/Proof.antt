@@ -8,9 +8,6 @@ use borrow.Author.Needs.{needs}
 use Rattle.crc_loops.proofs.zeros.hop.Statement.{statement}
 use Rattle.crc_loops.proofs.zeros.hop.Tie as tie
 
-jump-requires : tie.Need-jump-requires
-jump-requires c κs = search needs
-
 returns : tie.Need-returns
 returns c = let a = c .before .before .args in let e : a .left % 2 ≡ 1 = omega arith in hop-on (512 * 2 ^ a .k) (a .left % 2) (a .c) (c .jump .result) e (c .jump .ensures)
 
@@ -18,4 +15,7 @@ returns-2 : tie.Need-returns-2
 returns-2 c = let a = c .before .args in let e : a .left % 2 ≡ 0 = omega arith in hop-off (512 * 2 ^ a .k) (a .left % 2) (a .c) e
 
 pub hop-spec : {M : Type 1} → statement M
-hop-spec = tie.close (tie.spec jump-requires returns returns-2)
+hop-spec =
+    tie.close
+    (tie.spec
+    (λ c κs. search needs) returns returns-2)

@@ -18,29 +18,8 @@ Inv-loop t k c at r₀ x₀ i₀ r x i = (i ≤ 32) × ((x < 2 ^ (32 - i)) × (b
 abbrev μ-loop : tie.MeasureT-loop
 μ-loop t k c at r₀ x₀ i₀ r x i = 32 - i
 
-mul-at : tie.Need-mul-at Inv-loop μ-loop
-mul-at c = search needs
-
 loop-holds : tie.Need-loop-holds Inv-loop μ-loop
 loop-holds c = (omega arith, (c .fits .c .fits, leap-starts (512 * 2 ^ c .args .k) (c .args .c)))
-
-add-when : tie.Need-add-when Inv-loop μ-loop
-add-when c = search needs
-
-mul-when : tie.Need-mul-when Inv-loop μ-loop
-mul-when c = search needs
-
-element-copy-out-when : tie.Need-element-copy-out-when Inv-loop μ-loop
-element-copy-out-when c = search needs
-
-when-requires : tie.Need-when-requires Inv-loop μ-loop
-when-requires c κs = omega arith
-
-add-i : tie.Need-add-i Inv-loop μ-loop
-add-i c = omega arith
-
-loop-less : tie.Need-loop-less Inv-loop μ-loop
-loop-less c = omega arith
 
 loop-again : tie.Need-loop-again Inv-loop μ-loop
 loop-again c = let a = c .before .before .before .before .args in let l = c .before .before .before .loop in (omega arith, (half-less (l .i) (l .x) (c .before .before .loop-test .taken) (l .inv .1 .0), leap-bit (a .k) (l .i) (l .x) (l .r) (getD (a .t .now) (a .k * 32 + l .i) 0) (c .when .result) (crcBits (512 * 2 ^ a .k) (a .c) 0) (c .before .before .before .before .pre .1) (c .before .before .loop-test .taken) (ap (λ (t : List ℕ). getD t (a .k * 32 + l .i) 0) (c .before .before .before .before .pre .0)) (c .when .ensures) (l .inv .1 .1)))
@@ -52,15 +31,5 @@ pub jump-spec : {M : Type 1} → statement M
 jump-spec =
     tie.close
     (tie.spec
-    Inv-loop
-    μ-loop
-    mul-at
-    loop-holds
-    add-when
-    mul-when
-    element-copy-out-when
-    when-requires
-    add-i
-    loop-less
-    loop-again
-    returns)
+    Inv-loop μ-loop (λ c. search needs) loop-holds (λ c. search needs) (λ c. search needs) (λ c. search needs)
+    (λ c κs. omega arith) (λ c. omega arith) (λ c. omega arith) loop-again returns)

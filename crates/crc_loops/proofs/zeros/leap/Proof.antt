@@ -23,9 +23,6 @@ hop-requires c κs = (c .before .before .pre .0, leap-few (c .before .loop .k) (
 add-k : tie.Need-add-k Inv-loop μ-loop
 add-k c = omega (arith, leap-few (c .before .before .loop .k) (c .before .before .loop .left) (c .before .loop-test .taken) (c .before .before .loop .inv .0))
 
-loop-less : tie.Need-loop-less Inv-loop μ-loop
-loop-less c = omega arith
-
 loop-again : tie.Need-loop-again Inv-loop μ-loop
 loop-again c = let l = c .before .before .loop in let f = leap-few (l .k) (l .left) (c .before .loop-test .taken) (l .inv .0) in (leap-fewer (l .k) (l .left) f (l .inv .0), leaps-turn (l .k) (l .left) (l .x) (c .hop .result) (crcBits (512 * c .before .before .before .args .n) (c .before .before .before .args .c) 0) (c .hop .ensures) (l .inv .1))
 
@@ -34,4 +31,6 @@ returns c = let l = c .before .loop in leaps-end (l .k) (l .left) (l .x) (crcBit
 
 pub leap-spec : {M : Type 1} → statement M
 leap-spec =
-    tie.close (tie.spec Inv-loop μ-loop loop-holds hop-requires add-k loop-less loop-again returns)
+    tie.close
+    (tie.spec
+    Inv-loop μ-loop loop-holds hop-requires add-k (λ c. omega arith) loop-again returns)

@@ -21,17 +21,8 @@ loop-holds c = (omega arith, (omega arith, λ i h l. absurd (omega arith)))
 returns : tie.Need-returns Inv-loop μ-loop
 returns c = let l = c .before .before .loop in trim-ends (l .at) (l .n) (c .before .before .before .before .args .s .now) (l .inv .0) (l .inv .1 .0) (l .inv .1 .1)
 
-is-zero-requires : tie.Need-is-zero-requires Inv-loop μ-loop
-is-zero-requires c κs = omega arith
-
 returns-2 : tie.Need-returns-2 Inv-loop μ-loop
 returns-2 c = let l = c .before .before .before .before .loop in trim-ends (l .at) (l .n) (c .before .before .before .before .before .before .args .s .now) (l .inv .0) (l .inv .1 .0) (l .inv .1 .1)
-
-add-n : tie.Need-add-n Inv-loop μ-loop
-add-n c = omega arith
-
-loop-less : tie.Need-loop-less Inv-loop μ-loop
-loop-less c = omega arith
 
 loop-again : tie.Need-loop-again Inv-loop μ-loop
 loop-again c = let l = c .before .before .before .before .loop in (omega arith, (omega arith, zero-more (l .at) (c .before .before .before .before .before .before .args .s .now) (c .before .before .if1 .left) (c .before .is-zero .ensures (not-false _ (c .if2 .left))) (l .inv .1 .1)))
@@ -43,13 +34,5 @@ pub trim-spec : {M : Type 1} → statement M
 trim-spec =
     tie.close
     (tie.spec
-    Inv-loop
-    μ-loop
-    loop-holds
-    returns
-    is-zero-requires
-    returns-2
-    add-n
-    loop-less
-    loop-again
+    Inv-loop μ-loop loop-holds returns (λ c κs. omega arith) returns-2 (λ c. omega arith) (λ c. omega arith) loop-again
     returns-3)

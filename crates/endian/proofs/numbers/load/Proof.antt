@@ -24,26 +24,11 @@ mul-x c =
     let a = c .before .before .before .args in
     omega (arith, read-fits (a .n) (a .off) (l .i) (l .x) _ (a .buf .now) (l .inv .1) refl (c .loop-test .taken) (c .before .before .before .pre .1) (λ k. c .before .before .shared-slice-known .given k .fits))
 
-add-wide : tie.Need-add-wide Inv-loop μ-loop
-add-wide c = omega arith
-
-shared-slice-read-wide : tie.Need-shared-slice-read-wide Inv-loop μ-loop
-shared-slice-read-wide c = omega arith
-
-wide-requires : tie.Need-wide-requires Inv-loop μ-loop
-wide-requires c κs = tt
-
 add-x : tie.Need-add-x Inv-loop μ-loop
 add-x c =
     let l = c .before .before .before .loop in
     let p = c .before .before .before .before .before in
     omega (arith, read-fits (p .args .n) (p .args .off) (l .i) (l .x) (c .wide .result) (p .args .buf .now) (l .inv .1) (c .wide .ensures) (c .before .before .loop-test .taken) (p .pre .1) (λ k. c .before .shared-slice-known2 .given k .fits))
-
-add-i : tie.Need-add-i Inv-loop μ-loop
-add-i c = omega arith
-
-loop-less : tie.Need-loop-less Inv-loop μ-loop
-loop-less c = omega arith
 
 loop-again : tie.Need-loop-again Inv-loop μ-loop
 loop-again c =
@@ -62,15 +47,5 @@ pub load-spec : {M : Type 1} → statement M
 load-spec =
     tie.close
     (tie.spec
-    Inv-loop
-    μ-loop
-    loop-holds
-    mul-x
-    add-wide
-    shared-slice-read-wide
-    wide-requires
-    add-x
-    add-i
-    loop-less
-    loop-again
-    returns)
+    Inv-loop μ-loop loop-holds mul-x (λ c. omega arith) (λ c. omega arith) (λ c κs. tt) add-x (λ c. omega arith)
+    (λ c. omega arith) loop-again returns)

@@ -7,14 +7,8 @@ use Rattle.endian.proofs.Laws.{refused-by, done-by}
 use Rattle.endian.proofs.numbers.put.Statement.{statement}
 use Rattle.endian.proofs.numbers.put.Tie as tie
 
-inside-requires : tie.Need-inside-requires
-inside-requires c κs = search needs
-
 store-requires : tie.Need-store-requires
 store-requires c κs = leb-true _ _ (sym (c .before .before .inside .ensures) ∙ c .before .if1 .taken)
-
-same-length : tie.Need-same-length
-same-length c = search needs
 
 returns : tie.Need-returns
 returns c =
@@ -25,4 +19,7 @@ returns-2 : tie.Need-returns-2
 returns-2 c = refused-by (sym (c .before .inside .ensures) ∙ c .if1 .left)
 
 pub put-spec : {M : Type 1} → statement M
-put-spec = tie.close (tie.spec inside-requires store-requires same-length returns returns-2)
+put-spec =
+    tie.close
+    (tie.spec
+    (λ c κs. search needs) store-requires (λ c. search needs) returns returns-2)

@@ -10,17 +10,8 @@ use borrow.Author.Needs.{needs}
 use Rattle.endian.proofs.runs.put32_run.Statement.{statement}
 use Rattle.endian.proofs.runs.put32_run.Tie as tie
 
-mul-inside : tie.Need-mul-inside
-mul-inside c = search needs
-
-inside-requires : tie.Need-inside-requires
-inside-requires c κs = search needs
-
 store32-run-requires : tie.Need-store32-run-requires
 store32-run-requires c κs = leb-true _ _ (sym (c .before .before .inside .ensures) ∙ c .before .if2 .taken)
-
-same-length : tie.Need-same-length
-same-length c = search needs
 
 returns : tie.Need-returns
 returns c = done-by (sym (c .before .before .before .before .before .inside .ensures) ∙ c .before .before .before .before .if2 .taken) (c .before .before .store32-run .ensures)
@@ -35,10 +26,4 @@ pub put32-run-spec : {M : Type 1} → statement M
 put32-run-spec =
     tie.close
     (tie.spec
-    mul-inside
-    inside-requires
-    store32-run-requires
-    same-length
-    returns
-    returns-2
-    returns-3)
+    (λ c. search needs) (λ c κs. search needs) store32-run-requires (λ c. search needs) returns returns-2 returns-3)

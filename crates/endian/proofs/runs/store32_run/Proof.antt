@@ -21,35 +21,11 @@ loop-holds : tie.Need-loop-holds Inv-loop μ-loop
 unfolding patch runBytes
 loop-holds c = let a = c .before .before .args in (omega arith, sym (ap (λ l. patch (a .off + 4 * length (a .v .now)) (runBytes 4 l) (a .buf .now)) (drop-length (a .v .now))), refl)
 
-sub-i : tie.Need-sub-i Inv-loop μ-loop
-sub-i c = omega arith
-
-mul-store : tie.Need-mul-store Inv-loop μ-loop
-mul-store c = omega arith
-
-add-store : tie.Need-add-store Inv-loop μ-loop
-add-store c = omega arith
-
-mul-store-2 : tie.Need-mul-store-2 Inv-loop μ-loop
-mul-store-2 c = omega arith
-
-shared-slice-read-store : tie.Need-shared-slice-read-store Inv-loop μ-loop
-shared-slice-read-store c = omega arith
-
 cast-store : tie.Need-cast-store Inv-loop μ-loop
 cast-store c = omega (arith, c .shared-slice-known2 .given (c .before .before .before .loop .i - 1))
 
-store-requires : tie.Need-store-requires Inv-loop μ-loop
-store-requires c κs = omega arith
-
-loop-less : tie.Need-loop-less Inv-loop μ-loop
-loop-less c = omega arith
-
 loop-again : tie.Need-loop-again Inv-loop μ-loop
 loop-again c = let a = c .before .before .before .before .before .before .before .before .before .args in let l = c .before .before .before .before .before .before .loop in let put = c .before .before .store in (omega (arith, l .inv .0), run-turn 4 (a .off) (l .i) (a .v .now) (a .buf .now) (l .buf) (put .last .0) (c .before .before .before .before .before .loop-test .taken) (l .inv .0) (l .inv .1) (put .ensures), put .kept .0 ∙ l .inv .2)
-
-same-length : tie.Need-same-length Inv-loop μ-loop
-same-length c = omega arith
 
 returns : tie.Need-returns Inv-loop μ-loop
 returns c = let l = c .before .loop in let z : l .i ≡ 0 = omega arith in l .inv .1 ∙ rw (z, add-zero)
@@ -58,17 +34,5 @@ pub store32-run-spec : {M : Type 1} → statement M
 store32-run-spec =
     tie.close
     (tie.spec
-    Inv-loop
-    μ-loop
-    loop-holds
-    sub-i
-    mul-store
-    add-store
-    mul-store-2
-    shared-slice-read-store
-    cast-store
-    store-requires
-    loop-less
-    loop-again
-    same-length
-    returns)
+    Inv-loop μ-loop loop-holds (λ c. omega arith) (λ c. omega arith) (λ c. omega arith) (λ c. omega arith)
+    (λ c. omega arith) cast-store (λ c κs. omega arith) (λ c. omega arith) loop-again (λ c. omega arith) returns)

@@ -20,44 +20,11 @@ abbrev μ-loop : tie.MeasureT-loop
 loop-holds : tie.Need-loop-holds Inv-loop μ-loop
 loop-holds c = (omega arith, c .before .before .before .pre .1, refl, refl)
 
-mul-store : tie.Need-mul-store Inv-loop μ-loop
-mul-store c = omega arith
-
-mul-store-2 : tie.Need-mul-store-2 Inv-loop μ-loop
-mul-store-2 c = omega arith
-
-shared-slice-read-store : tie.Need-shared-slice-read-store Inv-loop μ-loop
-shared-slice-read-store c = omega arith
-
-mul-store-3 : tie.Need-mul-store-3 Inv-loop μ-loop
-mul-store-3 c = omega arith
-
-add-store : tie.Need-add-store Inv-loop μ-loop
-add-store c = omega arith
-
-mul-store-4 : tie.Need-mul-store-4 Inv-loop μ-loop
-mul-store-4 c = omega arith
-
-shared-slice-read-store-2 : tie.Need-shared-slice-read-store-2 Inv-loop μ-loop
-shared-slice-read-store-2 c = omega arith
-
-mul-store-5 : tie.Need-mul-store-5 Inv-loop μ-loop
-mul-store-5 c = omega arith
-
-shared-slice-read-store-3 : tie.Need-shared-slice-read-store-3 Inv-loop μ-loop
-shared-slice-read-store-3 c = omega arith
-
 store-requires : tie.Need-store-requires Inv-loop μ-loop
 store-requires c κs =
     let p = c .before .before .before .before .before .before .before .before .before in
     let l = c .before .before .before .before .before .loop in
     omega (arith, all-fits (p .args .end) (l .i) (p .args .at .now) (p .args .v .now) (c .before .before .before .before .loop-test .taken) (p .pre .2) (l .inv .1), l .inv .3, p .pre .0)
-
-add-i : tie.Need-add-i Inv-loop μ-loop
-add-i c = omega arith
-
-loop-less : tie.Need-loop-less Inv-loop μ-loop
-loop-less c = omega arith
 
 loop-again : tie.Need-loop-again Inv-loop μ-loop
 loop-again c =
@@ -71,9 +38,6 @@ loop-again c =
       st .kept .0 ∙ l .inv .3,
     )
 
-same-length : tie.Need-same-length Inv-loop μ-loop
-same-length c = omega arith
-
 returns : tie.Need-returns Inv-loop μ-loop
 returns c =
     let p = c .before .before .before .before .before in
@@ -83,4 +47,7 @@ returns c =
 pub store-all-spec : {M : Type 1} → statement M
 store-all-spec =
     tie.close
-    (tie.spec Inv-loop μ-loop loop-holds mul-store mul-store-2 shared-slice-read-store mul-store-3 add-store mul-store-4 shared-slice-read-store-2 mul-store-5 shared-slice-read-store-3 store-requires add-i loop-less loop-again same-length returns)
+    (tie.spec
+    Inv-loop μ-loop loop-holds (λ c. omega arith) (λ c. omega arith) (λ c. omega arith) (λ c. omega arith)
+    (λ c. omega arith) (λ c. omega arith) (λ c. omega arith) (λ c. omega arith) (λ c. omega arith) store-requires
+    (λ c. omega arith) (λ c. omega arith) loop-again (λ c. omega arith) returns)

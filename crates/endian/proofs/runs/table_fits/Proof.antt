@@ -22,39 +22,6 @@ returns c = let a = c .before .before .args in no-table (a .len) (a .n) (a .at .
 returns-2 : tie.Need-returns-2 Inv-loop μ-loop
 returns-2 c = let a = c .before .before .before .args in no-table (a .len) (a .n) (a .at .now) (λ e. c .if2 .taken (omega (arith, e)))
 
-loop-holds : tie.Need-loop-holds Inv-loop μ-loop
-loop-holds c = (omega arith, omega arith, refl)
-
-mul-inside : tie.Need-mul-inside Inv-loop μ-loop
-mul-inside c = omega arith
-
-mul-inside-2 : tie.Need-mul-inside-2 Inv-loop μ-loop
-mul-inside-2 c = omega arith
-
-shared-slice-read-inside : tie.Need-shared-slice-read-inside Inv-loop μ-loop
-shared-slice-read-inside c = omega arith
-
-mul-inside-3 : tie.Need-mul-inside-3 Inv-loop μ-loop
-mul-inside-3 c = omega arith
-
-add-inside : tie.Need-add-inside Inv-loop μ-loop
-add-inside c = omega arith
-
-mul-inside-4 : tie.Need-mul-inside-4 Inv-loop μ-loop
-mul-inside-4 c = omega arith
-
-shared-slice-read-inside-2 : tie.Need-shared-slice-read-inside-2 Inv-loop μ-loop
-shared-slice-read-inside-2 c = omega arith
-
-inside-requires : tie.Need-inside-requires Inv-loop μ-loop
-inside-requires c κs = search needs
-
-add-i : tie.Need-add-i Inv-loop μ-loop
-add-i c = omega arith
-
-loop-less : tie.Need-loop-less Inv-loop μ-loop
-loop-less c = omega arith
-
 loop-again : tie.Need-loop-again Inv-loop μ-loop
 loop-again c =
     let w = c .before .before .before .before in
@@ -81,4 +48,7 @@ returns-4 c =
 pub table-fits-spec : {M : Type 1} → statement M
 table-fits-spec =
     tie.close
-    (tie.spec Inv-loop μ-loop returns returns-2 loop-holds mul-inside mul-inside-2 shared-slice-read-inside mul-inside-3 add-inside mul-inside-4 shared-slice-read-inside-2 inside-requires add-i loop-less loop-again returns-3 returns-4)
+    (tie.spec
+    Inv-loop μ-loop returns returns-2 (λ c. (omega arith, omega arith, refl)) (λ c. omega arith) (λ c. omega arith)
+    (λ c. omega arith) (λ c. omega arith) (λ c. omega arith) (λ c. omega arith) (λ c. omega arith)
+    (λ c κs. search needs) (λ c. omega arith) (λ c. omega arith) loop-again returns-3 returns-4)

@@ -17,24 +17,6 @@ Inv-loop length bytes n out₀ i₀ out i = (i ≤ n) × (n ≤ 12) × (out ≡ 
 abbrev μ-loop : tie.MeasureT-loop
 μ-loop length bytes n out₀ i₀ out i = n - i
 
-min-usize-requires : tie.Need-min-usize-requires Inv-loop μ-loop
-min-usize-requires c κs = tt
-
-loop-holds : tie.Need-loop-holds Inv-loop μ-loop
-loop-holds c = (omega arith, omega arith, refl)
-
-array-read-out : tie.Need-array-read-out Inv-loop μ-loop
-array-read-out c = omega arith
-
-array-write-out : tie.Need-array-write-out Inv-loop μ-loop
-array-write-out c = omega arith
-
-add-i : tie.Need-add-i Inv-loop μ-loop
-add-i c = omega arith
-
-loop-less : tie.Need-loop-less Inv-loop μ-loop
-loop-less c = omega arith
-
 loop-again : tie.Need-loop-again Inv-loop μ-loop
 loop-again c =
     let k = c .before .loop in
@@ -52,5 +34,5 @@ pub padded-spec : {M : Type 1} → statement M
 padded-spec =
     tie.close
     (tie.spec
-    Inv-loop μ-loop min-usize-requires loop-holds array-read-out array-write-out add-i loop-less loop-again
-    returns)
+    Inv-loop μ-loop (λ c κs. tt) (λ c. (omega arith, omega arith, refl)) (λ c. omega arith) (λ c. omega arith)
+    (λ c. omega arith) (λ c. omega arith) loop-again returns)

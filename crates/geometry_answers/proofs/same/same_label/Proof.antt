@@ -15,23 +15,8 @@ Inv-loop a b i₀ i = (i ≤ 12) × (sameFrom (12 - i) i a b ≡ sameFrom 12 0 a
 abbrev μ-loop : tie.MeasureT-loop
 μ-loop a b i₀ i = 12 - i
 
-loop-holds : tie.Need-loop-holds Inv-loop μ-loop
-loop-holds c = (omega arith, refl)
-
-array-read-if1 : tie.Need-array-read-if1 Inv-loop μ-loop
-array-read-if1 c = search needs
-
-array-read-if1-2 : tie.Need-array-read-if1-2 Inv-loop μ-loop
-array-read-if1-2 c = search needs
-
 returns : tie.Need-returns Inv-loop μ-loop
 returns c = let k = c .before .before .loop in sym (differ 12 _ _ (k .i) (omega arith) (c .if1 .taken)) ∙ k .inv .1
-
-add-i : tie.Need-add-i Inv-loop μ-loop
-add-i c = omega arith
-
-loop-less : tie.Need-loop-less Inv-loop μ-loop
-loop-less c = omega arith
 
 loop-again : tie.Need-loop-again Inv-loop μ-loop
 loop-again c =
@@ -45,4 +30,5 @@ pub same-label-spec : {M : Type 1} → statement M
 same-label-spec =
     tie.close
     (tie.spec
-    Inv-loop μ-loop loop-holds array-read-if1 array-read-if1-2 returns add-i loop-less loop-again returns-2)
+    Inv-loop μ-loop (λ c. (omega arith, refl)) (λ c. search needs) (λ c. search needs) returns (λ c. omega arith)
+    (λ c. omega arith) loop-again returns-2)

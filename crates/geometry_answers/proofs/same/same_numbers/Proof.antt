@@ -15,29 +15,8 @@ Inv-loop a b i₀ i = (i ≤ 19) × (sameFrom (19 - i) i a b ≡ sameFrom 19 0 a
 abbrev μ-loop : tie.MeasureT-loop
 μ-loop a b i₀ i = 19 - i
 
-loop-holds : tie.Need-loop-holds Inv-loop μ-loop
-loop-holds c = (omega arith, refl)
-
-mul-if1 : tie.Need-mul-if1 Inv-loop μ-loop
-mul-if1 c = omega arith
-
-mul-if1-2 : tie.Need-mul-if1-2 Inv-loop μ-loop
-mul-if1-2 c = omega arith
-
-array-read-if1 : tie.Need-array-read-if1 Inv-loop μ-loop
-array-read-if1 c = search needs
-
-array-read-if1-2 : tie.Need-array-read-if1-2 Inv-loop μ-loop
-array-read-if1-2 c = search needs
-
 returns : tie.Need-returns Inv-loop μ-loop
 returns c = let k = c .before .before .loop in sym (differ 19 _ _ (k .i) (omega arith) (c .if1 .taken)) ∙ k .inv .1
-
-add-i : tie.Need-add-i Inv-loop μ-loop
-add-i c = omega arith
-
-loop-less : tie.Need-loop-less Inv-loop μ-loop
-loop-less c = omega arith
 
 loop-again : tie.Need-loop-again Inv-loop μ-loop
 loop-again c =
@@ -51,5 +30,5 @@ pub same-numbers-spec : {M : Type 1} → statement M
 same-numbers-spec =
     tie.close
     (tie.spec
-    Inv-loop μ-loop loop-holds mul-if1 array-read-if1 mul-if1-2 array-read-if1-2 returns add-i loop-less
-    loop-again returns-2)
+    Inv-loop μ-loop (λ c. (omega arith, refl)) (λ c. omega arith) (λ c. search needs) (λ c. omega arith)
+    (λ c. search needs) returns (λ c. omega arith) (λ c. omega arith) loop-again returns-2)

@@ -8,11 +8,8 @@ use Rattle.geometry_counts.proofs.head.after_header.Tie as tie
 add-result : tie.Need-add-result
 add-result c = let a = c .before .args in omega (arith, header-le (a .sector) (a .bs))
 
-returns : tie.Need-returns
-returns c = cc
-
 pub after-header-spec : {M : Type 1} → statement M
 after-header-spec =
     tie.close
     (tie.spec
-    (λ c κs. tt) add-result returns)
+    (λ c κs. tt) add-result (λ c. cc))

@@ -15,11 +15,8 @@ returns-2 : tie.Need-returns-2
 unfolding aligned when
 returns-2 c = rw (le-ltb _ _ (c .if1 .left))
 
-round-up-requires : tie.Need-round-up-requires
-round-up-requires c κs = search needs
-
 pub align-to-spec : {M : Type 1} → statement M
 align-to-spec =
     tie.close
     (tie.spec
-    round-up-requires returns returns-2)
+    (λ c κs. search needs) returns returns-2)

@@ -7,18 +7,11 @@ use Rattle.geometry_counts.specs.Known.{known32}
 use Rattle.geometry_counts.proofs.stripes.logsunit.Statement.{statement}
 use Rattle.geometry_counts.proofs.stripes.logsunit.Tie as tie
 
-lsunit-of-requires : tie.Need-lsunit-of-requires
-lsunit-of-requires c κs = search needs
-
-logsunit-of-requires : tie.Need-logsunit-of-requires
-logsunit-of-requires c κs = search needs
-
-known-32-requires : tie.Need-known-32-requires
-known-32-requires c κs = search needs
-
 returns : tie.Need-returns
 returns c = c .known-32 .ensures ∙ ap (known32 _) (c .before .logsunit-of .ensures ∙ ap logsunitOf (c .before .before .lsunit-of .ensures))
 
 pub logsunit-spec : {M : Type 1} → statement M
 logsunit-spec =
-    tie.close (tie.spec lsunit-of-requires logsunit-of-requires known-32-requires returns)
+    tie.close
+    (tie.spec
+    (λ c κs. search needs) (λ c κs. search needs) (λ c κs. search needs) returns)

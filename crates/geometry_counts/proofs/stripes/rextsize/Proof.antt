@@ -6,14 +6,11 @@ use Rattle.geometry_counts.specs.Known.{known32}
 use Rattle.geometry_counts.proofs.stripes.rextsize.Statement.{statement}
 use Rattle.geometry_counts.proofs.stripes.rextsize.Tie as tie
 
-rext-of-requires : tie.Need-rext-of-requires
-rext-of-requires c κs = search needs
-
-known-32-requires : tie.Need-known-32-requires
-known-32-requires c κs = search needs
-
 returns : tie.Need-returns
 returns c = c .known-32 .ensures ∙ ap (known32 _) (c .before .rext-of .ensures)
 
 pub rextsize-spec : {M : Type 1} → statement M
-rextsize-spec = tie.close (tie.spec rext-of-requires known-32-requires returns)
+rextsize-spec =
+    tie.close
+    (tie.spec
+    (λ c κs. search needs) (λ c κs. search needs) returns)

@@ -9,12 +9,6 @@ use lib.Pow.{pow-mono}
 use Rattle.geometry_places.proofs.units.low.Statement.{statement}
 use Rattle.geometry_places.proofs.units.low.Tie as tie
 
-power-requires : tie.Need-power-requires
-power-requires c κs = search needs
-
-returns : tie.Need-returns
-returns c = cc
-
 returns-2 : tie.Need-returns-2
 returns-2 c =
     let h : 2 ^ 64 ≤ 2 ^ c .before .args .log = pow-mono {i = 64} (omega arith) in
@@ -24,4 +18,4 @@ pub low-spec : {M : Type 1} → statement M
 low-spec =
     tie.close
     (tie.spec
-    power-requires (λ c κs. tt) returns returns-2)
+    (λ c κs. search needs) (λ c κs. tt) (λ c. cc) returns-2)

@@ -19,31 +19,10 @@ use borrow.Author.Needs.{needs}
 use Rattle.inode.proofs.dinode.encode_free.Statement.{statement}
 use Rattle.inode.proofs.dinode.encode_free.Tie as tie
 
-is-inode-requires : tie.Need-is-inode-requires
-is-inode-requires c κs = search needs
-
 returns : tie.Need-returns
 returns c =
     let t : isInode (length (c .before .before .before .args .slot .now)) ≡ false = sym (c .before .is-inode .ensures) ∙ not-true _ (c .if1 .taken) in
     refused (rw t refl) refl
-
-slice-aggregate-put-all : tie.Need-slice-aggregate-put-all
-slice-aggregate-put-all c = search needs
-
-slice-aggregate-put-all-2 : tie.Need-slice-aggregate-put-all-2
-slice-aggregate-put-all-2 c = search needs
-
-put-all-requires : tie.Need-put-all-requires
-put-all-requires c κs = search needs
-
-put-bytes-requires : tie.Need-put-bytes-requires
-put-bytes-requires c κs = search needs
-
-stamp-requires : tie.Need-stamp-requires
-stamp-requires c κs = search needs
-
-same-length : tie.Need-same-length
-same-length c = search needs
 
 returns-2 : tie.Need-returns-2
 unfolding freeBytes freeFields
@@ -60,12 +39,5 @@ pub encode-free-spec : {M : Type 1} → statement M
 encode-free-spec =
     tie.close
     (tie.spec
-    is-inode-requires
-    returns
-    slice-aggregate-put-all
-    slice-aggregate-put-all-2
-    put-all-requires
-    put-bytes-requires
-    stamp-requires
-    same-length
-    returns-2)
+    (λ c κs. search needs) returns (λ c. search needs) (λ c. search needs) (λ c κs. search needs)
+    (λ c κs. search needs) (λ c κs. search needs) (λ c. search needs) returns-2)

@@ -7,12 +7,6 @@ use borrow.Author.Needs.{needs}
 use Rattle.inode.proofs.dinode.has_room.Statement.{statement}
 use Rattle.inode.proofs.dinode.has_room.Tie as tie
 
-is-inode-requires : tie.Need-is-inode-requires
-is-inode-requires c κs = search needs
-
-inside-requires : tie.Need-inside-requires
-inside-requires c κs = search needs
-
 returns : tie.Need-returns
 returns c =
     let t : isInode (c .before .before .before .args .len) ≡ true = sym (c .before .before .is-inode .ensures) ∙ c .before .if1 .taken in
@@ -22,4 +16,7 @@ returns-2 : tie.Need-returns-2
 returns-2 c = let t : isInode (c .before .before .args .len) ≡ false = sym (c .before .is-inode .ensures) ∙ c .if1 .left in rw t refl
 
 pub has-room-spec : {M : Type 1} → statement M
-has-room-spec = tie.close (tie.spec is-inode-requires inside-requires returns returns-2)
+has-room-spec =
+    tie.close
+    (tie.spec
+    (λ c κs. search needs) (λ c κs. search needs) returns returns-2)

@@ -8,15 +8,12 @@ use borrow.Author.Needs.{needs}
 use Rattle.inode.proofs.directory.short.Statement.{statement}
 use Rattle.inode.proofs.directory.short.Tie as tie
 
-slice-aggregate-put32 : tie.Need-slice-aggregate-put32
-slice-aggregate-put32 c = search needs
-
-put32-requires : tie.Need-put32-requires
-put32-requires c κs = search needs
-
 returns : tie.Need-returns
 unfolding patch beBytes
 returns c = (put-in (c .before .put32 .ensures) (lit≤ tt), refl)
 
 pub short-spec : {M : Type 1} → statement M
-short-spec = tie.close (tie.spec slice-aggregate-put32 put32-requires returns)
+short-spec =
+    tie.close
+    (tie.spec
+    (λ c. search needs) (λ c κs. search needs) returns)

@@ -23,17 +23,8 @@ loop-holds c = (omega arith, refl, blocks-start _ _ _ _ _ _)
 put-nth-requires : tie.Need-put-nth-requires Inv-loop μ-loop
 put-nth-requires c κs = let p = c .before .before .before .before .before .pre in let a = c .before .before .before .before .before .args in nth-room (a .bs) (a .offset) (a .n) (a .at) (c .before .before .loop .j) (length (a .src .now)) (length (c .before .before .loop .buf)) (c .before .loop-test .taken) (p .0) (p .1) (p .2) (omega arith)
 
-add-j : tie.Need-add-j Inv-loop μ-loop
-add-j c = omega arith
-
-loop-less : tie.Need-loop-less Inv-loop μ-loop
-loop-less c = omega arith
-
 loop-again : tie.Need-loop-again Inv-loop μ-loop
 loop-again c = let s = c .before .before .before .before .before .before .before .before in let a = s .args in let l = c .before .before .before .before .before .loop in (omega arith, c .before .before .put-nth .kept .1 .1 .1 .1 .1 .0 ∙ l .inv .1, blocks-turn (a .bs) (a .offset) (a .n) (a .at) (a .src .now) (l .j) (a .buf .now) _ _ (c .before .before .before .before .loop-test .taken) (s .pre .2) (l .inv .2) (c .before .before .put-nth .ensures))
-
-same-length : tie.Need-same-length Inv-loop μ-loop
-same-length c = search needs
 
 returns : tie.Need-returns Inv-loop μ-loop
 returns c = blocks-end _ _ _ _ _ _ _ _ (c .loop-test .left) (c .before .loop .inv .2)
@@ -42,4 +33,5 @@ pub put-blocks-spec : {M : Type 1} → statement M
 put-blocks-spec =
     tie.close
     (tie.spec
-    Inv-loop μ-loop loop-holds put-nth-requires add-j loop-less loop-again same-length returns)
+    Inv-loop μ-loop loop-holds put-nth-requires (λ c. omega arith) (λ c. omega arith) loop-again (λ c. search needs)
+    returns)

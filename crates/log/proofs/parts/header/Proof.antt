@@ -12,26 +12,8 @@ use borrow.Author.Needs.{needs}
 use Rattle.log.proofs.parts.header.Statement.{statement}
 use Rattle.log.proofs.parts.header.Tie as tie
 
-larger-requires : tie.Need-larger-requires
-larger-requires c κs = search needs
-
 sub-len : tie.Need-sub-len
 sub-len c = omega (arith, c .larger .ensures)
-
-slice-aggregate-put-all : tie.Need-slice-aggregate-put-all
-slice-aggregate-put-all c = search needs
-
-slice-aggregate-put-all-2 : tie.Need-slice-aggregate-put-all-2
-slice-aggregate-put-all-2 c = search needs
-
-put-all-requires : tie.Need-put-all-requires
-put-all-requires c κs = search needs
-
-put-bytes-requires : tie.Need-put-bytes-requires
-put-bytes-requires c κs = search needs
-
-same-length : tie.Need-same-length
-same-length c = search needs
 
 returns : tie.Need-returns
 returns c =
@@ -45,11 +27,5 @@ pub header-spec : {M : Type 1} → statement M
 header-spec =
     tie.close
     (tie.spec
-    larger-requires
-    sub-len
-    slice-aggregate-put-all
-    slice-aggregate-put-all-2
-    put-all-requires
-    put-bytes-requires
-    same-length
-    returns)
+    (λ c κs. search needs) sub-len (λ c. search needs) (λ c. search needs) (λ c κs. search needs)
+    (λ c κs. search needs) (λ c. search needs) returns)

@@ -5,15 +5,12 @@ use Rattle.log.specs.Record.{blocksOf, roundedUp}
 use Rattle.log.proofs.parts.record_blocks.Statement.{statement}
 use Rattle.log.proofs.parts.record_blocks.Tie as tie
 
-add-larger : tie.Need-add-larger
-add-larger c = search needs
-
-larger-requires : tie.Need-larger-requires
-larger-requires c κs = search needs
-
 returns : tie.Need-returns
 unfolding blocksOf roundedUp
 returns c = c .larger .ensures
 
 pub record-blocks-spec : {M : Type 1} → statement M
-record-blocks-spec = tie.close (tie.spec add-larger larger-requires returns)
+record-blocks-spec =
+    tie.close
+    (tie.spec
+    (λ c. search needs) (λ c κs. search needs) returns)

@@ -18,21 +18,6 @@ Inv-loop rec₀ blocks cycle i₀ rec i = (length rec ≡ length rec₀) × (wri
 abbrev μ-loop : tie.MeasureT-loop
 μ-loop rec₀ blocks cycle i₀ rec i = blocks - i
 
-loop-holds : tie.Need-loop-holds Inv-loop μ-loop
-loop-holds c = (refl, refl)
-
-mul-put32 : tie.Need-mul-put32 Inv-loop μ-loop
-mul-put32 c = omega arith
-
-put32-requires : tie.Need-put32-requires Inv-loop μ-loop
-put32-requires c κs = search needs
-
-add-i : tie.Need-add-i Inv-loop μ-loop
-add-i c = omega arith
-
-loop-less : tie.Need-loop-less Inv-loop μ-loop
-loop-less c = omega arith
-
 loop-again : tie.Need-loop-again Inv-loop μ-loop
 loop-again c = (c .before .before .put32 .kept .0 ∙ c .before .before .before .before .before .loop .inv .0, stamp-turn _ _ _ _ _ _ (c .before .before .before .before .loop-test .taken) (c .before .before .before .before .before .loop .inv .1) (put-in (c .before .before .put32 .ensures) (omega arith)))
 
@@ -46,13 +31,5 @@ pub stamp-blocks-spec : {M : Type 1} → statement M
 stamp-blocks-spec =
     tie.close
     (tie.spec
-    Inv-loop
-    μ-loop
-    loop-holds
-    mul-put32
-    put32-requires
-    add-i
-    loop-less
-    loop-again
-    same-length
-    returns)
+    Inv-loop μ-loop (λ c. (refl, refl)) (λ c. omega arith) (λ c κs. search needs) (λ c. omega arith) (λ c. omega arith)
+    loop-again same-length returns)

@@ -3,11 +3,8 @@
 use Rattle.params.proofs.Params.new.Statement.{statement}
 use Rattle.params.proofs.Params.new.Tie as tie
 
-returns : tie.Need-returns
-returns c = cc
-
 pub new-spec : {M : Type 1} → statement M
 new-spec =
     tie.close
     (tie.spec
-    (λ c κs. tt) returns)
+    (λ c κs. tt) (λ c. cc))

@@ -16,23 +16,8 @@ Inv-loop start n out₀ at₀ left₀ out at left = (at + left ≡ start + n) ×
 abbrev μ-loop : tie.MeasureT-loop
 μ-loop start n out₀ at₀ left₀ out at left = left
 
-loop-holds : tie.Need-loop-holds Inv-loop μ-loop
-loop-holds c = search needs
-
 cast-push-block : tie.Need-cast-push-block Inv-loop μ-loop
 cast-push-block c = omega (arith, c .before .before .pre)
-
-push-block-requires : tie.Need-push-block-requires Inv-loop μ-loop
-push-block-requires c κs = search needs
-
-add-at : tie.Need-add-at Inv-loop μ-loop
-add-at c = search needs
-
-sub-left : tie.Need-sub-left Inv-loop μ-loop
-sub-left c = search needs
-
-loop-less : tie.Need-loop-less Inv-loop μ-loop
-loop-less c = search needs
 
 loop-again : tie.Need-loop-again Inv-loop μ-loop
 loop-again c = let l = c .before .before .loop in rw (c .push-block .ensures) (omega arith, l .inv .1 ∙ appended-up (ofAgfl (l .out)) (l .at) (l .left) (search needs))
@@ -44,5 +29,5 @@ pub extend-spec : {M : Type 1} → statement M
 extend-spec =
     tie.close
     (tie.spec
-    Inv-loop μ-loop loop-holds cast-push-block push-block-requires add-at sub-left loop-less loop-again
-    returns)
+    Inv-loop μ-loop (λ c. search needs) cast-push-block (λ c κs. search needs) (λ c. search needs) (λ c. search needs)
+    (λ c. search needs) loop-again returns)

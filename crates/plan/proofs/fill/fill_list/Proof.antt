@@ -15,18 +15,6 @@ Inv-loop need out₀ k₀ out k = turns turn need out₀ ≡ turns turn k out
 abbrev μ-loop : tie.MeasureT-loop
 μ-loop need out₀ k₀ out k = k
 
-loop-holds : tie.Need-loop-holds Inv-loop μ-loop
-loop-holds c = search needs
-
-one-turn-requires : tie.Need-one-turn-requires Inv-loop μ-loop
-one-turn-requires c κs = search needs
-
-sub-k : tie.Need-sub-k Inv-loop μ-loop
-sub-k c = search needs
-
-loop-less : tie.Need-loop-less Inv-loop μ-loop
-loop-less c = search needs
-
 loop-again : tie.Need-loop-again Inv-loop μ-loop
 loop-again c = let l = c .before .before .loop in rw (c .one-turn .ensures) (l .inv ∙ turns-step turn (l .k) (l .out) (search needs))
 
@@ -37,4 +25,5 @@ pub fill-list-spec : {M : Type 1} → statement M
 fill-list-spec =
     tie.close
     (tie.spec
-    Inv-loop μ-loop loop-holds one-turn-requires sub-k loop-less loop-again returns)
+    Inv-loop μ-loop (λ c. search needs) (λ c κs. search needs) (λ c. search needs) (λ c. search needs) loop-again
+    returns)

@@ -6,15 +6,6 @@ use Rattle.seqs.specs.Lists.{pushed}
 use Rattle.plan_free.proofs.list.push.Statement.{statement}
 use Rattle.plan_free.proofs.list.push.Tie as tie
 
-mul-r : tie.Need-mul-r
-mul-r c = omega arith
-
-element-set-from-r : tie.Need-element-set-from-r
-element-set-from-r c = omega arith
-
-add-out : tie.Need-add-out
-add-out c = omega arith
-
 returns : tie.Need-returns
 unfolding pushed
 returns c = simp (lt-ltb _ _ (c .if1 .taken))
@@ -24,4 +15,7 @@ unfolding pushed
 returns-2 c = simp (le-ltb _ _ (c .if1 .left))
 
 pub push-spec : {M : Type 1} → statement M
-push-spec = tie.close (tie.spec mul-r element-set-from-r add-out returns returns-2)
+push-spec =
+    tie.close
+    (tie.spec
+    (λ c. omega arith) (λ c. omega arith) (λ c. omega arith) returns returns-2)

@@ -5,18 +5,12 @@ use Rattle.plan_free.specs.Free.{fitter}
 use Rattle.plan_free.proofs.picking.better_fit.Statement.{statement}
 use Rattle.plan_free.proofs.picking.better_fit.Tie as tie
 
-is-ahead-requires : tie.Need-is-ahead-requires
-is-ahead-requires c κs = omega arith
-
-cast-keep : tie.Need-cast-keep
-cast-keep c = omega arith
-
-keep-requires : tie.Need-keep-requires
-keep-requires c κs = omega arith
-
 returns : tie.Need-returns
 unfolding fitter
 returns c = rw (c .keep .ensures, c .before .before .is-ahead .ensures)
 
 pub better-fit-spec : {M : Type 1} → statement M
-better-fit-spec = tie.close (tie.spec is-ahead-requires cast-keep keep-requires returns)
+better-fit-spec =
+    tie.close
+    (tie.spec
+    (λ c κs. omega arith) (λ c. omega arith) (λ c κs. omega arith) returns)

@@ -7,26 +7,20 @@ use Rattle.plan_free.specs.Free.{picked, pickedFrom}
 use Rattle.plan_free.proofs.picking.pick.Statement.{statement}
 use Rattle.plan_free.proofs.picking.pick.Tie as tie
 
-nothing-requires : tie.Need-nothing-requires
-nothing-requires c κs = omega arith
-
 returns : tie.Need-returns
 unfolding picked pickedFrom
 returns c = c .nothing .ensures ∙ simp (lt-ltb _ _ (c .before .if1 .taken))
 
-best-fit-requires : tie.Need-best-fit-requires
-best-fit-requires c κs = omega arith
-
 returns-2 : tie.Need-returns-2
 unfolding picked pickedFrom
 returns-2 c = rw (le-ltb _ _ (c .before .before .if1 .left), ← c .before .best-fit .ensures, c .if2 .taken)
-
-largest-requires : tie.Need-largest-requires
-largest-requires c κs = omega arith
 
 returns-3 : tie.Need-returns-3
 unfolding picked pickedFrom
 returns-3 c = c .largest .ensures ∙ rw (le-ltb _ _ (c .before .before .before .if1 .left), ← c .before .before .best-fit .ensures, c .before .if2 .left)
 
 pub pick-spec : {M : Type 1} → statement M
-pick-spec = tie.close (tie.spec nothing-requires returns best-fit-requires returns-2 largest-requires returns-3)
+pick-spec =
+    tie.close
+    (tie.spec
+    (λ c κs. omega arith) returns (λ c κs. omega arith) returns-2 (λ c κs. omega arith) returns-3)

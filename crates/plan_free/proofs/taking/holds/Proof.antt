@@ -5,12 +5,6 @@ use borrow.Author.Tests.{le-leb, lt-leb}
 use Rattle.plan_free.proofs.taking.holds.Statement.{statement}
 use Rattle.plan_free.proofs.taking.holds.Tie as tie
 
-cast-if1 : tie.Need-cast-if1
-cast-if1 c = omega arith
-
-end-of-requires : tie.Need-end-of-requires
-end-of-requires c κs = omega arith
-
 returns : tie.Need-returns
 returns c = simp (le-leb _ _ (c .before .if1 .taken), c .end-of .ensures)
 
@@ -18,4 +12,7 @@ returns-2 : tie.Need-returns-2
 returns-2 c = simp (lt-leb _ _ (c .if1 .left))
 
 pub holds-spec : {M : Type 1} → statement M
-holds-spec = tie.close (tie.spec cast-if1 end-of-requires returns returns-2)
+holds-spec =
+    tie.close
+    (tie.spec
+    (λ c. omega arith) (λ c κs. omega arith) returns returns-2)

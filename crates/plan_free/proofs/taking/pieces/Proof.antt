@@ -6,12 +6,6 @@ use Rattle.plan_free.specs.Free.{cut}
 use Rattle.plan_free.proofs.taking.pieces.Statement.{statement}
 use Rattle.plan_free.proofs.taking.pieces.Tie as tie
 
-end-of-requires : tie.Need-end-of-requires
-end-of-requires c κs = omega arith
-
-cast-if1 : tie.Need-cast-if1
-cast-if1 c = omega arith
-
 returns : tie.Need-returns
 unfolding cut
 returns c = simp (lt-ltb _ _ (c .before .if1 .taken), lt-ltb _ _ (rw (c .before .before .before .end-of .ensures) at (c .if2 .taken)))
@@ -29,4 +23,7 @@ unfolding cut
 returns-4 c = simp (le-ltb _ _ (c .before .if1 .left), le-ltb _ _ (rw (c .before .before .before .end-of .ensures) at (c .if3 .left)))
 
 pub pieces-spec : {M : Type 1} → statement M
-pieces-spec = tie.close (tie.spec end-of-requires cast-if1 returns returns-2 returns-3 returns-4)
+pieces-spec =
+    tie.close
+    (tie.spec
+    (λ c κs. omega arith) (λ c. omega arith) returns returns-2 returns-3 returns-4)

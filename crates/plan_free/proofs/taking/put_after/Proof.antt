@@ -7,21 +7,6 @@ use Rattle.seqs.specs.Lists.{appended}
 use Rattle.plan_free.proofs.taking.put_after.Statement.{statement}
 use Rattle.plan_free.proofs.taking.put_after.Tie as tie
 
-end-of-requires : tie.Need-end-of-requires
-end-of-requires c κs = omega arith
-
-cast-t7 : tie.Need-cast-t7
-cast-t7 c = omega arith
-
-sub-t8 : tie.Need-sub-t8
-sub-t8 c = omega arith
-
-cast-t9 : tie.Need-cast-t9
-cast-t9 c = omega arith
-
-push-requires : tie.Need-push-requires
-push-requires c κs = omega arith
-
 returns : tie.Need-returns
 unfolding appended
 returns c = c .push .ensures ∙ simp (c .before .before .end-of .ensures, lt-ltb _ _ (rw (c .before .before .end-of .ensures) at (c .before .if1 .taken)))
@@ -32,4 +17,7 @@ returns-2 c = simp (le-ltb _ _ (rw (c .before .end-of .ensures) at (c .if1 .left
 
 pub put-after-spec : {M : Type 1} → statement M
 put-after-spec =
-    tie.close (tie.spec end-of-requires cast-t7 sub-t8 cast-t9 push-requires returns returns-2)
+    tie.close
+    (tie.spec
+    (λ c κs. omega arith) (λ c. omega arith) (λ c. omega arith) (λ c. omega arith) (λ c κs. omega arith) returns
+    returns-2)

@@ -13,28 +13,13 @@ use Rattle.plan_free.proofs.Laws.{live-holds}
 use Rattle.plan_free.proofs.taking.take.Statement.{statement}
 use Rattle.plan_free.proofs.taking.take.Tie as tie
 
-refused-requires : tie.Need-refused-requires
-refused-requires c κs = omega arith
-
 returns : tie.Need-returns
 unfolding taken
 returns c = c .refused .ensures ∙ simp (lt-ltb _ _ (c .before .if1 .taken))
 
-is-valid-requires : tie.Need-is-valid-requires
-is-valid-requires c κs = omega arith
-
-refused-requires-2 : tie.Need-refused-requires-2
-refused-requires-2 c κs = omega arith
-
 returns-2 : tie.Need-returns-2
 unfolding taken
 returns-2 c = c .refused2 .ensures ∙ simp (le-ltb _ _ (c .before .before .before .if1 .left), sym (c .before .before .is-valid .ensures) ∙ not-true _ (c .before .if2 .taken))
-
-sub-if3 : tie.Need-sub-if3
-sub-if3 c = omega arith
-
-refused-requires-3 : tie.Need-refused-requires-3
-refused-requires-3 c κs = omega arith
 
 returns-3 : tie.Need-returns-3
 unfolding taken
@@ -42,15 +27,6 @@ returns-3 c =
     let t : 2 ^ 64 ≤ c .before .before .before .before .before .args .start + c .before .before .before .before .before .args .len = omega arith in
     c .refused3 .ensures
     ∙ simp (le-ltb _ _ (c .before .before .before .before .if1 .left), sym (c .before .before .before .is-valid .ensures) ∙ not-false _ (c .before .before .if2 .left), le-ltb _ _ t)
-
-add-end : tie.Need-add-end
-add-end c = omega arith
-
-find-requires : tie.Need-find-requires
-find-requires c κs = omega arith
-
-refused-requires-4 : tie.Need-refused-requires-4
-refused-requires-4 c κs = omega arith
 
 returns-4 : tie.Need-returns-4
 unfolding taken takenFrom
@@ -87,17 +63,6 @@ pub take-spec : {M : Type 1} → statement M
 take-spec =
     tie.close
     (tie.spec
-    refused-requires
-    returns
-    is-valid-requires
-    refused-requires-2
-    returns-2
-    sub-if3
-    refused-requires-3
-    returns-3
-    add-end
-    find-requires
-    refused-requires-4
-    returns-4
-    take-at-requires
-    returns-5)
+    (λ c κs. omega arith) returns (λ c κs. omega arith) (λ c κs. omega arith) returns-2 (λ c. omega arith)
+    (λ c κs. omega arith) returns-3 (λ c. omega arith) (λ c κs. omega arith) (λ c κs. omega arith) returns-4
+    take-at-requires returns-5)

@@ -9,45 +9,12 @@ use Rattle.plan_free.proofs.Laws.{taken-at-full, taken-at-fits}
 use Rattle.plan_free.proofs.taking.take_at.Statement.{statement}
 use Rattle.plan_free.proofs.taking.take_at.Tie as tie
 
-mul-r : tie.Need-mul-r
-mul-r c = omega arith
-
-element-copy-out-r : tie.Need-element-copy-out-r
-element-copy-out-r c = omega arith
-
-pieces-requires : tie.Need-pieces-requires
-pieces-requires c κs = omega arith
-
-sub-if1 : tie.Need-sub-if1
-sub-if1 c = omega arith
-
-refused-requires : tie.Need-refused-requires
-refused-requires c κs = omega arith
-
 returns : tie.Need-returns
 returns c =
     let s = c .before .before .before .before in
     let k : length (s .args .t1 .recs) ≡ 64 = simp length-map at (s .good .0 .1 .1 .0 .1 .0 .1) in
     let m : 64 < s .args .t1 .len - 1 + length (cut (s .args .s) (s .args .e) (getD (s .args .t1 .recs) (s .args .i) zeroRec)) = omega (arith, c .before .before .pieces .ensures) in
     c .refused .ensures ∙ sym (taken-at-full (s .args .t1 .recs) (s .args .t1 .len) (s .args .i) (s .args .s) (s .args .e) (omega arith) (omega arith) m)
-
-empty-requires : tie.Need-empty-requires
-empty-requires c κs = omega arith
-
-append-requires : tie.Need-append-requires
-append-requires c κs = omega arith
-
-put-before-requires : tie.Need-put-before-requires
-put-before-requires c κs = omega arith
-
-put-after-requires : tie.Need-put-after-requires
-put-after-requires c κs = omega arith
-
-add-append : tie.Need-add-append
-add-append c = omega arith
-
-append-requires-2 : tie.Need-append-requires-2
-append-requires-2 c κs = omega arith
 
 returns-2 : tie.Need-returns-2
 returns-2 c =
@@ -62,16 +29,6 @@ pub take-at-spec : {M : Type 1} → statement M
 take-at-spec =
     tie.close
     (tie.spec
-    mul-r
-    element-copy-out-r
-    pieces-requires
-    sub-if1
-    refused-requires
-    returns
-    empty-requires
-    append-requires
-    put-before-requires
-    put-after-requires
-    add-append
-    append-requires-2
-    returns-2)
+    (λ c. omega arith) (λ c. omega arith) (λ c κs. omega arith) (λ c. omega arith) (λ c κs. omega arith) returns
+    (λ c κs. omega arith) (λ c κs. omega arith) (λ c κs. omega arith) (λ c κs. omega arith) (λ c. omega arith)
+    (λ c κs. omega arith) returns-2)

@@ -11,17 +11,8 @@ use Rattle.plan_rmap.proofs.Laws.{takes-no, takes-if}
 use Rattle.plan_rmap.proofs.inserting.can_take.Statement.{statement}
 use Rattle.plan_rmap.proofs.inserting.can_take.Tie as tie
 
-is-valid-requires : tie.Need-is-valid-requires
-is-valid-requires c κs = search needs
-
 returns : tie.Need-returns
 returns c = sym (takes-no _ _ _ (sym (c .before .is-valid .ensures) ∙ not-true _ (c .if1 .taken)))
-
-end-before-requires : tie.Need-end-before-requires
-end-before-requires c κs = search needs
-
-may-follow-requires : tie.Need-may-follow-requires
-may-follow-requires c κs = search needs
 
 returns-2 : tie.Need-returns-2
 returns-2 c =
@@ -29,12 +20,6 @@ returns-2 c =
     let k : length (s .args .l .recs) ≡ 64 = simp length-map at (s .good .0 .1 .1 .0 .1 .0 .1) in
     let n : length (rmapOf (s .args .l)) ≡ s .args .l .len = length-take-le _ _ (omega arith) in
     sym (takes-if (rmapOf (s .args .l)) (s .args .p) (s .args .r) (omega arith) (sym (c .before .before .before .before .is-valid .ensures) ∙ not-false _ (c .before .before .before .if1 .left)) ∙ rw (← c .before .before .end-before .ensures, ← c .before .may-follow .ensures, not-true (c .before .may-follow .result) (c .if2 .taken)))
-
-end-of-requires : tie.Need-end-of-requires
-end-of-requires c κs = search needs
-
-next-ok-requires : tie.Need-next-ok-requires
-next-ok-requires c κs = search needs
 
 returns-3 : tie.Need-returns-3
 returns-3 c =
@@ -47,11 +32,5 @@ pub can-take-spec : {M : Type 1} → statement M
 can-take-spec =
     tie.close
     (tie.spec
-    is-valid-requires
-    returns
-    end-before-requires
-    may-follow-requires
-    returns-2
-    end-of-requires
-    next-ok-requires
-    returns-3)
+    (λ c κs. search needs) returns (λ c κs. search needs) (λ c κs. search needs) returns-2 (λ c κs. search needs)
+    (λ c κs. search needs) returns-3)

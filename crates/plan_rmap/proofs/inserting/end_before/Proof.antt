@@ -11,18 +11,6 @@ use Rattle.seqs.proofs.Validity.{endAt-pos}
 use Rattle.plan_rmap.proofs.inserting.end_before.Statement.{statement}
 use Rattle.plan_rmap.proofs.inserting.end_before.Tie as tie
 
-sub-q : tie.Need-sub-q
-sub-q c = search needs
-
-mul-a : tie.Need-mul-a
-mul-a c = search needs
-
-element-copy-out-a : tie.Need-element-copy-out-a
-element-copy-out-a c = search needs
-
-end-of-requires : tie.Need-end-of-requires
-end-of-requires c κs = search needs
-
 returns : tie.Need-returns
 returns c =
     let s = c .before .before .before in
@@ -33,4 +21,6 @@ returns-2 c = let e : c .before .args .p ≡ 0 = omega arith in rw e
 
 pub end-before-spec : {M : Type 1} → statement M
 end-before-spec =
-    tie.close (tie.spec sub-q mul-a element-copy-out-a end-of-requires returns returns-2)
+    tie.close
+    (tie.spec
+    (λ c. search needs) (λ c. search needs) (λ c. search needs) (λ c κs. search needs) returns returns-2)

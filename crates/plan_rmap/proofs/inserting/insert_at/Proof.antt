@@ -12,9 +12,6 @@ use Rattle.plan_rmap.proofs.Laws.{left-facts, right-facts}
 use Rattle.plan_rmap.proofs.inserting.insert_at.Statement.{statement}
 use Rattle.plan_rmap.proofs.inserting.insert_at.Tie as tie
 
-joined-left-requires : tie.Need-joined-left-requires
-joined-left-requires c κs = search needs
-
 sub-q : tie.Need-sub-q
 sub-q c =
     let s = c .before .before in
@@ -22,24 +19,12 @@ sub-q c =
     let lf = left-facts (s .args .t1 .recs) (s .args .t1 .len) (s .args .p) (s .args .r) (omega arith) (omega arith) (sym (c .before .joined-left .ensures) ∙ c .if1 .taken) in
     omega arith
 
-mul-a : tie.Need-mul-a
-mul-a c = search needs
-
-element-copy-out-a : tie.Need-element-copy-out-a
-element-copy-out-a c = search needs
-
 glue-requires : tie.Need-glue-requires
 glue-requires c κs =
     let s = c .before .before .before in
     let k : length (s .args .t1 .recs) ≡ 64 = simp length-map at (s .good .0 .1 .1 .0 .1 .0 .1) in
     let lf = left-facts (s .args .t1 .recs) (s .args .t1 .len) (s .args .p) (s .args .r) (omega arith) (omega arith) (sym (c .before .before .joined-left .ensures) ∙ c .before .if1 .taken) in
     omega arith
-
-joined-right-requires : tie.Need-joined-right-requires
-joined-right-requires c κs = search needs
-
-mul-b : tie.Need-mul-b
-mul-b c = search needs
 
 element-copy-out-b : tie.Need-element-copy-out-b
 element-copy-out-b c =
@@ -57,9 +42,6 @@ glue-requires-2 c κs =
     let bv = live-valid startOf countOf zeroRec (s .args .t1 .recs) (s .args .t1 .len) (s .args .p) (omega arith) (omega arith) (s .pre .2) in
     omega (arith, ap countOf (c .before .before .before .glue .ensures))
 
-add-splice : tie.Need-add-splice
-add-splice c = search needs
-
 splice-requires : tie.Need-splice-requires
 splice-requires c κs =
     let s = c .before .before .before .before .before .before .before .before in
@@ -76,9 +58,6 @@ returns c =
     let rf = right-facts (s .args .t1 .recs) (s .args .t1 .len) (s .args .p) (s .args .r) (omega arith) (omega arith) (sym (c .before .before .before .before .joined-right .ensures) ∙ c .before .before .before .if2 .taken) in
     c .splice .ensures ∙ rw (sym (c .before .before .before .before .before .before .before .before .joined-left .ensures) ∙ c .before .before .before .before .before .before .before .if1 .taken, sym (c .before .before .before .before .joined-right .ensures) ∙ c .before .before .before .if2 .taken, getD-take (s .args .t1 .len) (s .args .t1 .recs) (s .args .p - 1) zeroRec (omega arith), getD-take (s .args .t1 .len) (s .args .t1 .recs) (s .args .p) zeroRec (omega arith), c .before .glue2 .ensures, c .before .before .before .before .before .glue .ensures)
 
-splice-requires-2 : tie.Need-splice-requires-2
-splice-requires-2 c κs = search needs
-
 returns-2 : tie.Need-returns-2
 unfolding insertedAt
 returns-2 c =
@@ -86,12 +65,6 @@ returns-2 c =
     let k : length (s .args .t1 .recs) ≡ 64 = simp length-map at (s .good .0 .1 .1 .0 .1 .0 .1) in
     let lf = left-facts (s .args .t1 .recs) (s .args .t1 .len) (s .args .p) (s .args .r) (omega arith) (omega arith) (sym (c .before .before .before .before .before .before .joined-left .ensures) ∙ c .before .before .before .before .before .if1 .taken) in
     c .splice2 .ensures ∙ rw (sym (c .before .before .before .before .before .before .joined-left .ensures) ∙ c .before .before .before .before .before .if1 .taken, sym (c .before .before .joined-right .ensures) ∙ c .before .if2 .left, getD-take (s .args .t1 .len) (s .args .t1 .recs) (s .args .p - 1) zeroRec (omega arith), c .before .before .before .glue .ensures)
-
-joined-right-requires-2 : tie.Need-joined-right-requires-2
-joined-right-requires-2 c κs = search needs
-
-mul-b-2 : tie.Need-mul-b-2
-mul-b-2 c = search needs
 
 element-copy-out-b-2 : tie.Need-element-copy-out-b-2
 element-copy-out-b-2 c =
@@ -108,9 +81,6 @@ glue-requires-3 c κs =
     let bv = live-valid startOf countOf zeroRec (s .args .t1 .recs) (s .args .t1 .len) (s .args .p) (omega arith) (omega arith) (s .pre .2) in
     omega arith
 
-add-splice-2 : tie.Need-add-splice-2
-add-splice-2 c = search needs
-
 splice-requires-3 : tie.Need-splice-requires-3
 splice-requires-3 c κs =
     let s = c .before .before .before .before .before .before in
@@ -126,9 +96,6 @@ returns-3 c =
     let rf = right-facts (s .args .t1 .recs) (s .args .t1 .len) (s .args .p) (s .args .r) (omega arith) (omega arith) (sym (c .before .before .before .before .joined-right2 .ensures) ∙ c .before .before .before .if3 .taken) in
     c .splice3 .ensures ∙ rw (sym (c .before .before .before .before .before .before .joined-left .ensures) ∙ c .before .before .before .before .before .if1 .left, sym (c .before .before .before .before .joined-right2 .ensures) ∙ c .before .before .before .if3 .taken, getD-take (s .args .t1 .len) (s .args .t1 .recs) (s .args .p) zeroRec (omega arith), c .before .glue3 .ensures)
 
-splice-requires-4 : tie.Need-splice-requires-4
-splice-requires-4 c κs = search needs
-
 returns-4 : tie.Need-returns-4
 unfolding insertedAt
 returns-4 c =
@@ -138,26 +105,7 @@ pub insert-at-spec : {M : Type 1} → statement M
 insert-at-spec =
     tie.close
     (tie.spec
-    joined-left-requires
-    sub-q
-    mul-a
-    element-copy-out-a
-    glue-requires
-    joined-right-requires
-    mul-b
-    element-copy-out-b
-    glue-requires-2
-    add-splice
-    splice-requires
-    returns
-    splice-requires-2
-    returns-2
-    joined-right-requires-2
-    mul-b-2
-    element-copy-out-b-2
-    glue-requires-3
-    add-splice-2
-    splice-requires-3
-    returns-3
-    splice-requires-4
-    returns-4)
+    (λ c κs. search needs) sub-q (λ c. search needs) (λ c. search needs) glue-requires (λ c κs. search needs)
+    (λ c. search needs) element-copy-out-b glue-requires-2 (λ c. search needs) splice-requires returns
+    (λ c κs. search needs) returns-2 (λ c κs. search needs) (λ c. search needs) element-copy-out-b-2 glue-requires-3
+    (λ c. search needs) splice-requires-3 returns-3 (λ c κs. search needs) returns-4)

@@ -5,12 +5,6 @@ use borrow.Author.Tests.{eq-eqb, ne-eqb}
 use Rattle.plan_rmap.proofs.inserting.joined.Statement.{statement}
 use Rattle.plan_rmap.proofs.inserting.joined.Tie as tie
 
-end-of-requires : tie.Need-end-of-requires
-end-of-requires c κs = search needs
-
-cast-result : tie.Need-cast-result
-cast-result c = search needs
-
 returns : tie.Need-returns
 returns c = simp (eq-eqb _ _ (c .before .before .if1 .taken), c .before .end-of .ensures)
 
@@ -18,4 +12,7 @@ returns-2 : tie.Need-returns-2
 returns-2 c = simp (ne-eqb _ _ (c .if1 .left))
 
 pub joined-spec : {M : Type 1} → statement M
-joined-spec = tie.close (tie.spec end-of-requires cast-result returns returns-2)
+joined-spec =
+    tie.close
+    (tie.spec
+    (λ c κs. search needs) (λ c. search needs) returns returns-2)

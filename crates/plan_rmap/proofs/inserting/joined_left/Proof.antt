@@ -10,18 +10,6 @@ use Rattle.plan_rmap.specs.Rmap.{zeroRec, joinsLeft}
 use Rattle.plan_rmap.proofs.inserting.joined_left.Statement.{statement}
 use Rattle.plan_rmap.proofs.inserting.joined_left.Tie as tie
 
-sub-q : tie.Need-sub-q
-sub-q c = search needs
-
-mul-a : tie.Need-mul-a
-mul-a c = search needs
-
-element-copy-out-a : tie.Need-element-copy-out-a
-element-copy-out-a c = search needs
-
-joined-requires : tie.Need-joined-requires
-joined-requires c κs = search needs
-
 returns : tie.Need-returns
 unfolding joinsLeft
 returns c =
@@ -34,4 +22,6 @@ returns-2 c = simp (le-ltb _ _ (c .if1 .left))
 
 pub joined-left-spec : {M : Type 1} → statement M
 joined-left-spec =
-    tie.close (tie.spec sub-q mul-a element-copy-out-a joined-requires returns returns-2)
+    tie.close
+    (tie.spec
+    (λ c. search needs) (λ c. search needs) (λ c. search needs) (λ c κs. search needs) returns returns-2)

@@ -10,15 +10,6 @@ use Rattle.plan_rmap.specs.Rmap.{zeroRec, joinsRight}
 use Rattle.plan_rmap.proofs.inserting.joined_right.Statement.{statement}
 use Rattle.plan_rmap.proofs.inserting.joined_right.Tie as tie
 
-mul-b : tie.Need-mul-b
-mul-b c = search needs
-
-element-copy-out-b : tie.Need-element-copy-out-b
-element-copy-out-b c = search needs
-
-joined-requires : tie.Need-joined-requires
-joined-requires c κs = search needs
-
 returns : tie.Need-returns
 unfolding joinsRight
 returns c =
@@ -36,4 +27,7 @@ returns-2 c =
     rw (n, le-ltb _ _ (c .if1 .left))
 
 pub joined-right-spec : {M : Type 1} → statement M
-joined-right-spec = tie.close (tie.spec mul-b element-copy-out-b joined-requires returns returns-2)
+joined-right-spec =
+    tie.close
+    (tie.spec
+    (λ c. search needs) (λ c. search needs) (λ c κs. search needs) returns returns-2)

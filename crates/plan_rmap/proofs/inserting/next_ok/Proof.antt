@@ -9,15 +9,6 @@ use Rattle.seqs.proofs.Laws.{rest-cons, rest-nil}
 use Rattle.plan_rmap.proofs.inserting.next_ok.Statement.{statement}
 use Rattle.plan_rmap.proofs.inserting.next_ok.Tie as tie
 
-mul-b : tie.Need-mul-b
-mul-b c = search needs
-
-element-copy-out-b : tie.Need-element-copy-out-b
-element-copy-out-b c = search needs
-
-cast-result : tie.Need-cast-result
-cast-result c = search needs
-
 returns : tie.Need-returns
 returns c =
     let s = c .before .before .before in
@@ -28,4 +19,7 @@ returns-2 : tie.Need-returns-2
 returns-2 c = let e : c .before .args .p ≡ c .before .args .t1 .len = omega arith in rw (rest-nil (c .before .args .t1 .recs) zeroRec _ _ e)
 
 pub next-ok-spec : {M : Type 1} → statement M
-next-ok-spec = tie.close (tie.spec mul-b element-copy-out-b cast-result returns returns-2)
+next-ok-spec =
+    tie.close
+    (tie.spec
+    (λ c. search needs) (λ c. search needs) (λ c. search needs) returns returns-2)

@@ -13,15 +13,9 @@ use Rattle.plan_rmap.proofs.Laws.{takes-facts}
 use Rattle.plan_rmap.proofs.inserting.rmap_insert.Statement.{statement}
 use Rattle.plan_rmap.proofs.inserting.rmap_insert.Tie as tie
 
-refused-requires : tie.Need-refused-requires
-refused-requires c κs = search needs
-
 returns : tie.Need-returns
 unfolding inserted
 returns c = c .refused .ensures ∙ simp (lt-ltb _ _ (c .before .if1 .taken))
-
-place-requires : tie.Need-place-requires
-place-requires c κs = search needs
 
 can-take-requires : tie.Need-can-take-requires
 can-take-requires c κs =
@@ -30,9 +24,6 @@ can-take-requires c κs =
     let n : length (rmapOf (s .args .rmap)) ≡ s .args .rmap .len = length-take-le _ _ (omega arith) in
     let q : c .place .result ≤ s .args .rmap .len = omega (arith, c .place .ensures, index-le (notBefore (s .args .rec .start)) (rmapOf (s .args .rmap))) in
     (q, omega arith)
-
-refused-requires-2 : tie.Need-refused-requires-2
-refused-requires-2 c κs = search needs
 
 returns-2 : tie.Need-returns-2
 unfolding inserted
@@ -61,11 +52,5 @@ pub rmap-insert-spec : {M : Type 1} → statement M
 rmap-insert-spec =
     tie.close
     (tie.spec
-    refused-requires
-    returns
-    place-requires
-    can-take-requires
-    refused-requires-2
-    returns-2
-    insert-at-requires
-    returns-3)
+    (λ c κs. search needs) returns (λ c κs. search needs) can-take-requires (λ c κs. search needs) returns-2
+    insert-at-requires returns-3)

@@ -8,35 +8,11 @@ use Rattle.plan_rmap.proofs.Laws.{kept-full, kept-fits}
 use Rattle.plan_rmap.proofs.inserting.splice.Statement.{statement}
 use Rattle.plan_rmap.proofs.inserting.splice.Tie as tie
 
-add-if1 : tie.Need-add-if1
-add-if1 c = search needs
-
-sub-if1 : tie.Need-sub-if1
-sub-if1 c = search needs
-
-add-if1-2 : tie.Need-add-if1-2
-add-if1-2 c = search needs
-
-refused-requires : tie.Need-refused-requires
-refused-requires c κs = search needs
-
 returns : tie.Need-returns
 returns c =
     let s = c .before .before in
     let k : length (s .args .l .recs) ≡ 64 = simp length-map at (s .good .0 .1 .1 .0 .1 .0 .1) in
     c .refused .ensures ∙ sym (kept-full (s .args .l .recs) (s .args .l .len) (s .args .i) (s .args .j) (s .args .x) (omega arith) (omega arith) (omega arith))
-
-empty-requires : tie.Need-empty-requires
-empty-requires c κs = search needs
-
-append-requires : tie.Need-append-requires
-append-requires c κs = search needs
-
-push-requires : tie.Need-push-requires
-push-requires c κs = search needs
-
-append-requires-2 : tie.Need-append-requires-2
-append-requires-2 c κs = search needs
 
 returns-2 : tie.Need-returns-2
 returns-2 c =
@@ -48,13 +24,5 @@ pub splice-spec : {M : Type 1} → statement M
 splice-spec =
     tie.close
     (tie.spec
-    add-if1
-    sub-if1
-    add-if1-2
-    refused-requires
-    returns
-    empty-requires
-    append-requires
-    push-requires
-    append-requires-2
-    returns-2)
+    (λ c. search needs) (λ c. search needs) (λ c. search needs) (λ c κs. search needs) returns (λ c κs. search needs)
+    (λ c κs. search needs) (λ c κs. search needs) (λ c κs. search needs) returns-2)

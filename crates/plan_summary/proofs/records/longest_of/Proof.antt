@@ -19,27 +19,6 @@ Inv-loop l n most₀ i₀ most i = (i ≤ n) × (fold maxCount 0 (freeOf l) ≡ 
 abbrev μ-loop : tie.MeasureT-loop
 μ-loop l n most₀ i₀ most i = n - i
 
-loop-holds : tie.Need-loop-holds Inv-loop μ-loop
-loop-holds c = (search needs, search needs)
-
-mul-r : tie.Need-mul-r Inv-loop μ-loop
-mul-r c = search needs
-
-element-copy-out-r : tie.Need-element-copy-out-r Inv-loop μ-loop
-element-copy-out-r c = search needs
-
-count-of-requires : tie.Need-count-of-requires Inv-loop μ-loop
-count-of-requires c κs = search needs
-
-larger-of-requires : tie.Need-larger-of-requires Inv-loop μ-loop
-larger-of-requires c κs = search needs
-
-add-i : tie.Need-add-i Inv-loop μ-loop
-add-i c = search needs
-
-loop-less : tie.Need-loop-less Inv-loop μ-loop
-loop-less c = search needs
-
 loop-again : tie.Need-loop-again Inv-loop μ-loop
 loop-again c = let s = c .before .before .before .before .before in let k : length (s .args .t1 .recs) ≡ 64 = simp length-map at (s .good .0 .1 .1 .0 .1 .0 .1) in let l = c .before .before .before .before .loop in (search needs, rw (c .larger-of .ensures, c .before .count-of .ensures .0) (l .inv .1 ∙ fold-step maxCount zeroRec (l .most) (s .args .t1 .recs) (s .args .t1 .len) (l .i) (search needs) (omega arith)))
 
@@ -51,5 +30,5 @@ pub longest-of-spec : {M : Type 1} → statement M
 longest-of-spec =
     tie.close
     (tie.spec
-    Inv-loop μ-loop loop-holds mul-r element-copy-out-r count-of-requires larger-of-requires add-i loop-less
-    loop-again returns)
+    Inv-loop μ-loop (λ c. (search needs, search needs)) (λ c. search needs) (λ c. search needs) (λ c κs. search needs)
+    (λ c κs. search needs) (λ c. search needs) (λ c. search needs) loop-again returns)

@@ -19,26 +19,8 @@ Inv-loop l n sum₀ i₀ sum i = (i ≤ n) × (sum ≤ i * 2 ^ 32) × (fold addC
 abbrev μ-loop : tie.MeasureT-loop
 μ-loop l n sum₀ i₀ sum i = n - i
 
-loop-holds : tie.Need-loop-holds Inv-loop μ-loop
-loop-holds c = (search needs, search needs, search needs)
-
-mul-r : tie.Need-mul-r Inv-loop μ-loop
-mul-r c = search needs
-
-element-copy-out-r : tie.Need-element-copy-out-r Inv-loop μ-loop
-element-copy-out-r c = search needs
-
-count-of-requires : tie.Need-count-of-requires Inv-loop μ-loop
-count-of-requires c κs = search needs
-
 add-sum : tie.Need-add-sum Inv-loop μ-loop
 add-sum c = omega (arith, c .before .before .before .loop .inv .1, c .count-of .ensures .1, c .before .before .before .loop .inv .0, c .before .before .before .before .pre)
-
-add-i : tie.Need-add-i Inv-loop μ-loop
-add-i c = search needs
-
-loop-less : tie.Need-loop-less Inv-loop μ-loop
-loop-less c = search needs
 
 loop-again : tie.Need-loop-again Inv-loop μ-loop
 loop-again c = let s = c .before .before .before .before in let k : length (s .args .t1 .recs) ≡ 64 = simp length-map at (s .good .0 .1 .1 .0 .1 .0 .1) in let l = c .before .before .before .loop in (search needs, omega (arith, l .inv .1, c .count-of .ensures .1), rw (c .count-of .ensures .0) (l .inv .2 ∙ fold-step addCount zeroRec (l .sum) (s .args .t1 .recs) (s .args .t1 .len) (l .i) (search needs) (omega arith)))
@@ -51,5 +33,5 @@ pub sum-of-spec : {M : Type 1} → statement M
 sum-of-spec =
     tie.close
     (tie.spec
-    Inv-loop μ-loop loop-holds mul-r element-copy-out-r count-of-requires add-sum add-i loop-less loop-again
-    returns)
+    Inv-loop μ-loop (λ c. (search needs, search needs, search needs)) (λ c. search needs) (λ c. search needs)
+    (λ c κs. search needs) add-sum (λ c. search needs) (λ c. search needs) loop-again returns)

@@ -12,18 +12,10 @@ Inv-loop fd work₀ buf₀ p₀ turns₀ work buf p turns = (length work ≡ len
 abbrev μ-loop : tie.MeasureT-loop
 μ-loop fd work₀ buf₀ p₀ turns₀ work buf p turns = turns
 
-sub-turns : tie.Need-sub-turns Inv-loop μ-loop
-sub-turns c = omega arith
-
-loop-less : tie.Need-loop-less Inv-loop μ-loop
-loop-less c = omega arith
-
-loop-again : tie.Need-loop-again Inv-loop μ-loop
-loop-again c = (omega arith, omega arith)
-
 pub take-heads-spec : {M : Type 1} → statement M
 take-heads-spec =
     tie.close
     (tie.spec
-    Inv-loop μ-loop (λ c. (refl, refl)) (λ c κs. tt) (λ c κs. tt) sub-turns loop-less loop-again (λ c. omega arith) (λ c. omega arith) (λ c. tt)
-    (λ c. omega arith) (λ c. omega arith) (λ c. tt))
+    Inv-loop μ-loop (λ c. (refl, refl)) (λ c κs. tt) (λ c κs. tt) (λ c. omega arith) (λ c. omega arith)
+    (λ c. (omega arith, omega arith)) (λ c. omega arith) (λ c. omega arith) (λ c. tt) (λ c. omega arith)
+    (λ c. omega arith) (λ c. tt))

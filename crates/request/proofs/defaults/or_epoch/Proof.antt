@@ -4,11 +4,8 @@ use borrow.Author.Needs.{needs}
 use Rattle.request.proofs.defaults.or_epoch.Statement.{statement}
 use Rattle.request.proofs.defaults.or_epoch.Tie as tie
 
-returns-2 : tie.Need-returns-2
-returns-2 c = cc
-
 pub or-epoch-spec : {M : Type 1} → statement M
 or-epoch-spec =
     tie.close
     (tie.spec
-    (λ c. search needs) (λ c. search needs) (λ c. search needs) returns-2)
+    (λ c. search needs) (λ c. search needs) (λ c. search needs) (λ c. cc))

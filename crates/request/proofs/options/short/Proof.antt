@@ -9,11 +9,8 @@ use Rattle.request.proofs.options.short.Tie as tie
 cast-t4 : tie.Need-cast-t4
 cast-t4 c = record { fits = holds-given (λ (n : ℕ). n < 4294967296) _ _ (c .before .option .given .1) (c .before .before .before .pre) }
 
-returns : tie.Need-returns
-returns c = cc
-
 pub short-spec : {M : Type 1} → statement M
 short-spec =
     tie.close
     (tie.spec
-    (λ c. search needs) cast-t4 (λ c. search needs) returns (λ c. search needs))
+    (λ c. search needs) cast-t4 (λ c. search needs) (λ c. cc) (λ c. search needs))

@@ -16,24 +16,6 @@ Inv-loop input p bytes₀ i₀ bytes i = (bytes ≡ part p i input ++ replicate 
 abbrev μ-loop : tie.MeasureT-loop
 μ-loop input p bytes₀ i₀ bytes i = 16 - i
 
-loop-holds : tie.Need-loop-holds Inv-loop μ-loop
-loop-holds c = (refl, omega arith)
-
-add-bytes : tie.Need-add-bytes Inv-loop μ-loop
-add-bytes c = omega arith
-
-shared-slice-read-bytes : tie.Need-shared-slice-read-bytes Inv-loop μ-loop
-shared-slice-read-bytes c = omega arith
-
-array-write-bytes : tie.Need-array-write-bytes Inv-loop μ-loop
-array-write-bytes c = omega arith
-
-add-i : tie.Need-add-i Inv-loop μ-loop
-add-i c = omega arith
-
-loop-less : tie.Need-loop-less Inv-loop μ-loop
-loop-less c = omega arith
-
 loop-again : tie.Need-loop-again Inv-loop μ-loop
 loop-again c = (copy-turn 16 (c .before .before .loop .i) (c .before .before .before .args .p) (c .before .before .before .args .input .now) (c .before .before .loop .bytes) (c .before .loop-test .taken) (omega arith) (c .before .before .loop .inv .0), omega arith)
 
@@ -44,13 +26,5 @@ pub sixteen-at-spec : {M : Type 1} → statement M
 sixteen-at-spec =
     tie.close
     (tie.spec
-    Inv-loop
-    μ-loop
-    loop-holds
-    add-bytes
-    shared-slice-read-bytes
-    array-write-bytes
-    add-i
-    loop-less
-    loop-again
-    returns)
+    Inv-loop μ-loop (λ c. (refl, omega arith)) (λ c. omega arith) (λ c. omega arith) (λ c. omega arith)
+    (λ c. omega arith) (λ c. omega arith) loop-again returns)

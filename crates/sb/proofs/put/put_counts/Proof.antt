@@ -6,21 +6,6 @@ use Rattle.sb.proofs.Runs.{four-runs}
 use Rattle.sb.proofs.put.put_counts.Statement.{statement}
 use Rattle.sb.proofs.put.put_counts.Tie as tie
 
-put-run-requires : tie.Need-put-run-requires
-put-run-requires c κs = search needs
-
-put-run-requires-2 : tie.Need-put-run-requires-2
-put-run-requires-2 c κs = search needs
-
-put-run-requires-3 : tie.Need-put-run-requires-3
-put-run-requires-3 c κs = search needs
-
-put-run-requires-4 : tie.Need-put-run-requires-4
-put-run-requires-4 c κs = search needs
-
-same-length : tie.Need-same-length
-same-length c = search needs
-
 returns : tie.Need-returns
 returns c =
     let a = c .before .before .before .before .before .before .before .before .before .before .before .before .before .before .before .before .before .before .args in
@@ -31,4 +16,8 @@ returns c =
     (c .before .before .put-run4 .ensures)
 
 pub put-counts-spec : {M : Type 1} → statement M
-put-counts-spec = tie.close (tie.spec put-run-requires put-run-requires-2 put-run-requires-3 put-run-requires-4 same-length returns)
+put-counts-spec =
+    tie.close
+    (tie.spec
+    (λ c κs. search needs) (λ c κs. search needs) (λ c κs. search needs) (λ c κs. search needs) (λ c. search needs)
+    returns)

@@ -6,26 +6,11 @@ use borrow.Author.Needs.{needs}
 use Rattle.sb.proofs.put.put_number.Statement.{statement}
 use Rattle.sb.proofs.put.put_number.Tie as tie
 
-put64-requires : tie.Need-put64-requires
-put64-requires c κs = search needs
-
-same-length : tie.Need-same-length
-same-length c = search needs
-
 returns : tie.Need-returns
 returns c =
     let s = c .before .before .before .before .before .before in
     let a = s .args in
     number-put 8 (a .width) (a .off) (a .x) (a .x) (c .before .before .before .before .if1 .taken) refl (s .pre .0) (c .before .before .put64 .ensures)
-
-low32-requires : tie.Need-low32-requires
-low32-requires c κs = search needs
-
-put32-requires : tie.Need-put32-requires
-put32-requires c κs = search needs
-
-same-length-2 : tie.Need-same-length-2
-same-length-2 c = search needs
 
 returns-2 : tie.Need-returns-2
 returns-2 c =
@@ -33,29 +18,11 @@ returns-2 c =
     let a = s .args in
     number-put 4 (a .width) (a .off) (a .x) _ (c .before .before .before .before .before .if2 .taken) (low 4 (a .x) _ (c .before .before .before .low32 .ensures)) (s .pre .0) (c .before .before .put32 .ensures)
 
-low16-requires : tie.Need-low16-requires
-low16-requires c κs = search needs
-
-put16-requires : tie.Need-put16-requires
-put16-requires c κs = search needs
-
-same-length-3 : tie.Need-same-length-3
-same-length-3 c = search needs
-
 returns-3 : tie.Need-returns-3
 returns-3 c =
     let s = c .before .before .before .before .before .before .before .before .before in
     let a = s .args in
     number-put 2 (a .width) (a .off) (a .x) _ (c .before .before .before .before .before .if3 .taken) (low 2 (a .x) _ (c .before .before .before .low16 .ensures)) (s .pre .0) (c .before .before .put16 .ensures)
-
-low8-requires : tie.Need-low8-requires
-low8-requires c κs = search needs
-
-put8-requires : tie.Need-put8-requires
-put8-requires c κs = search needs
-
-same-length-4 : tie.Need-same-length-4
-same-length-4 c = search needs
 
 returns-4 : tie.Need-returns-4
 returns-4 c =
@@ -67,18 +34,6 @@ pub put-number-spec : {M : Type 1} → statement M
 put-number-spec =
     tie.close
     (tie.spec
-    put64-requires
-    same-length
-    returns
-    low32-requires
-    put32-requires
-    same-length-2
-    returns-2
-    low16-requires
-    put16-requires
-    same-length-3
-    returns-3
-    low8-requires
-    put8-requires
-    same-length-4
-    returns-4)
+    (λ c κs. search needs) (λ c. search needs) returns (λ c κs. search needs) (λ c κs. search needs)
+    (λ c. search needs) returns-2 (λ c κs. search needs) (λ c κs. search needs) (λ c. search needs) returns-3
+    (λ c κs. search needs) (λ c κs. search needs) (λ c. search needs) returns-4)

@@ -9,18 +9,6 @@ use Rattle.sb.proofs.Runs.{all-runs}
 use Rattle.sb.proofs.put.put_numbers.Statement.{statement}
 use Rattle.sb.proofs.put.put_numbers.Tie as tie
 
-put-sizes-requires : tie.Need-put-sizes-requires
-put-sizes-requires c κs = search needs
-
-put-counts-requires : tie.Need-put-counts-requires
-put-counts-requires c κs = search needs
-
-put-flags-requires : tie.Need-put-flags-requires
-put-flags-requires c κs = search needs
-
-same-length : tie.Need-same-length
-same-length c = search needs
-
 returns : tie.Need-returns
 returns c =
     let a = c .before .before .before .before .before .before .before .before .before .before .before .before .before .before .before .before .args in
@@ -32,4 +20,7 @@ returns c =
     ∙ all-runs allRuns 0 (a .v .now) (a .sector .now) (omega (arith, u))
 
 pub put-numbers-spec : {M : Type 1} → statement M
-put-numbers-spec = tie.close (tie.spec put-sizes-requires put-counts-requires put-flags-requires same-length returns)
+put-numbers-spec =
+    tie.close
+    (tie.spec
+    (λ c κs. search needs) (λ c κs. search needs) (λ c κs. search needs) (λ c. search needs) returns)

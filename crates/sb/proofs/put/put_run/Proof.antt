@@ -24,15 +24,6 @@ loop-holds c =
     let s = run-start (a .off) (a .width) (a .n) (a .from) _ (a .v .now) (a .sector .now) (c .before .before .pre .0) in
     (omega arith, s .0, refl, s .1)
 
-add-put-number : tie.Need-add-put-number Inv-loop μ-loop
-add-put-number c = omega arith
-
-mul-put-number : tie.Need-mul-put-number Inv-loop μ-loop
-mul-put-number c = omega arith
-
-shared-slice-read-put-number : tie.Need-shared-slice-read-put-number Inv-loop μ-loop
-shared-slice-read-put-number c = omega arith
-
 put-number-requires : tie.Need-put-number-requires Inv-loop μ-loop
 put-number-requires c κs =
     let p = c .before .before .before .before .before .before in
@@ -44,12 +35,6 @@ add-o c =
     let p = c .before .before .before .before .before .before .before .before .before in
     let l = c .before .before .before .before .before .before .loop in
     omega (arith, room-next (l .o) (p .args .width) (p .args .n) (l .i) _ (c .before .before .before .before .before .loop-test .taken) (l .inv .1) .0)
-
-add-i : tie.Need-add-i Inv-loop μ-loop
-add-i c = omega arith
-
-loop-less : tie.Need-loop-less Inv-loop μ-loop
-loop-less c = omega arith
 
 loop-again : tie.Need-loop-again Inv-loop μ-loop
 loop-again c =
@@ -76,16 +61,5 @@ pub put-run-spec : {M : Type 1} → statement M
 put-run-spec =
     tie.close
     (tie.spec
-    Inv-loop
-    μ-loop
-    loop-holds
-    add-put-number
-    mul-put-number
-    shared-slice-read-put-number
-    put-number-requires
-    add-o
-    add-i
-    loop-less
-    loop-again
-    same-length
-    returns)
+    Inv-loop μ-loop loop-holds (λ c. omega arith) (λ c. omega arith) (λ c. omega arith) put-number-requires add-o
+    (λ c. omega arith) (λ c. omega arith) loop-again same-length returns)

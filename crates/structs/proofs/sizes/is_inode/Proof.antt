@@ -5,12 +5,12 @@ use Rattle.structs.specs.Sizes.{isInode}
 use Rattle.structs.proofs.sizes.is_inode.Statement.{statement}
 use Rattle.structs.proofs.sizes.is_inode.Tie as tie
 
-any3-requires : tie.Need-any3-requires
-any3-requires c κs = search needs
-
 returns : tie.Need-returns
 unfolding isInode
 returns c = cc
 
 pub is-inode-spec : {M : Type 1} → statement M
-is-inode-spec = tie.close (tie.spec any3-requires returns)
+is-inode-spec =
+    tie.close
+    (tie.spec
+    (λ c κs. search needs) returns)

@@ -15,20 +15,11 @@ Inv-loop n k₀ x₀ k x = length (decimal n) ≡ k + length (decimal x)
 abbrev μ-loop : tie.MeasureT-loop
 μ-loop n k₀ x₀ k x = x
 
-loop-holds : tie.Need-loop-holds Inv-loop μ-loop
-loop-holds c = omega arith
-
 add-k : tie.Need-add-k Inv-loop μ-loop
 add-k c = omega (arith, length-64 (c .before .before .args .n) (c .before .before .fits .n .fits))
 
-loop-less : tie.Need-loop-less Inv-loop μ-loop
-loop-less c = omega arith
-
 loop-again : tie.Need-loop-again Inv-loop μ-loop
 loop-again c = omega (arith, length-four-more (c .before .loop .x) (c .loop-test .taken))
-
-short-length-requires : tie.Need-short-length-requires Inv-loop μ-loop
-short-length-requires c κs = omega arith
 
 add-result : tie.Need-add-result Inv-loop μ-loop
 add-result c = omega (arith, length-64 (c .before .before .before .args .n) (c .before .before .before .fits .n .fits))
@@ -40,12 +31,4 @@ pub decimal-length-spec : {M : Type 1} → statement M
 decimal-length-spec =
     tie.close
     (tie.spec
-    Inv-loop
-    μ-loop
-    loop-holds
-    add-k
-    loop-less
-    loop-again
-    short-length-requires
-    add-result
-    returns)
+    Inv-loop μ-loop (λ c. omega arith) add-k (λ c. omega arith) loop-again (λ c κs. omega arith) add-result returns)

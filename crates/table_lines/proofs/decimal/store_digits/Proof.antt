@@ -23,29 +23,14 @@ loop-holds c = (refl, refl, c .pre .0, omega arith, refl)
 sub-i : tie.Need-sub-i Inv-loop μ-loop
 sub-i c = omega (arith, length-more (c .before .loop .x) (c .loop-test .taken))
 
-add-buf : tie.Need-add-buf Inv-loop μ-loop
-add-buf c = omega arith
-
-cast-buf : tie.Need-cast-buf Inv-loop μ-loop
-cast-buf c = omega arith
-
 slice-write-buf : tie.Need-slice-write-buf Inv-loop μ-loop
 slice-write-buf c = omega (arith, length-more (c .before .loop .x) (c .loop-test .taken))
-
-loop-less : tie.Need-loop-less Inv-loop μ-loop
-loop-less c = omega arith
 
 loop-again : tie.Need-loop-again Inv-loop μ-loop
 loop-again c = let e = length-more (c .before .loop .x) (c .loop-test .taken) in (sym (digit-turn (c .before .loop .i) (c .before .loop .x) (c .before .loop .buf) (c .loop-test .taken) (c .before .loop .inv .2)) ∙ c .before .loop .inv .0, omega arith, omega arith, omega arith, simp length-set (c .before .loop .inv .4))
 
 sub-i-2 : tie.Need-sub-i-2 Inv-loop μ-loop
 sub-i-2 c = omega (arith, length-small (c .before .loop .x) (omega arith))
-
-add-buf-2 : tie.Need-add-buf-2 Inv-loop μ-loop
-add-buf-2 c = omega arith
-
-cast-buf-2 : tie.Need-cast-buf-2 Inv-loop μ-loop
-cast-buf-2 c = omega arith
 
 slice-write-buf-2 : tie.Need-slice-write-buf-2 Inv-loop μ-loop
 slice-write-buf-2 c = omega (arith, length-small (c .before .loop .x) (omega arith))
@@ -60,18 +45,5 @@ pub store-digits-spec : {M : Type 1} → statement M
 store-digits-spec =
     tie.close
     (tie.spec
-    Inv-loop
-    μ-loop
-    loop-holds
-    sub-i
-    add-buf
-    cast-buf
-    slice-write-buf
-    loop-less
-    loop-again
-    sub-i-2
-    add-buf-2
-    cast-buf-2
-    slice-write-buf-2
-    same-length
-    returns)
+    Inv-loop μ-loop loop-holds sub-i (λ c. omega arith) (λ c. omega arith) slice-write-buf (λ c. omega arith)
+    loop-again sub-i-2 (λ c. omega arith) (λ c. omega arith) slice-write-buf-2 same-length returns)

@@ -17,37 +17,10 @@ use borrow.Author.Needs.{needs}
 use Rattle.ag.proofs.agf.Agf.encode.Statement.{statement}
 use Rattle.ag.proofs.agf.Agf.encode.Tie as tie
 
-is-sector-requires : tie.Need-is-sector-requires
-is-sector-requires c κs = search needs
-
 returns : tie.Need-returns
 returns c =
     let t : isSector (length (c .before .before .before .args .sector .now)) ≡ false = sym (c .before .is-sector .ensures) ∙ not-true _ (c .if1 .taken) in
     refused (rw t refl) refl
-
-slice-aggregate-put32-run : tie.Need-slice-aggregate-put32-run
-slice-aggregate-put32-run c = search needs
-
-put32-run-requires : tie.Need-put32-run-requires
-put32-run-requires c κs = search needs
-
-put-bytes-requires : tie.Need-put-bytes-requires
-put-bytes-requires c κs = search needs
-
-slice-aggregate-put32-run-2 : tie.Need-slice-aggregate-put32-run-2
-slice-aggregate-put32-run-2 c = search needs
-
-put32-run-requires-2 : tie.Need-put32-run-requires-2
-put32-run-requires-2 c κs = search needs
-
-put64-requires : tie.Need-put64-requires
-put64-requires c κs = search needs
-
-stamp-requires : tie.Need-stamp-requires
-stamp-requires c κs = search needs
-
-same-length : tie.Need-same-length
-same-length c = search needs
 
 returns-2 : tie.Need-returns-2
 unfolding agfBytes
@@ -66,14 +39,6 @@ pub encode-spec : {M : Type 1} → statement M
 encode-spec =
     tie.close
     (tie.spec
-    is-sector-requires
-    returns
-    slice-aggregate-put32-run
-    put32-run-requires
-    put-bytes-requires
-    slice-aggregate-put32-run-2
-    put32-run-requires-2
-    put64-requires
-    stamp-requires
-    same-length
+    (λ c κs. search needs) returns (λ c. search needs) (λ c κs. search needs) (λ c κs. search needs)
+    (λ c. search needs) (λ c κs. search needs) (λ c κs. search needs) (λ c κs. search needs) (λ c. search needs)
     returns-2)

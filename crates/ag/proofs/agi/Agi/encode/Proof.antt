@@ -17,9 +17,6 @@ use borrow.Author.Needs.{needs}
 use Rattle.ag.proofs.agi.Agi.encode.Statement.{statement}
 use Rattle.ag.proofs.agi.Agi.encode.Tie as tie
 
-is-sector-requires : tie.Need-is-sector-requires
-is-sector-requires c κs = search needs
-
 returns : tie.Need-returns
 returns c =
     let t : isSector (length (c .before .before .before .args .sector .now)) ≡ false = sym (c .before .is-sector .ensures) ∙ not-true _ (c .if1 .taken) in
@@ -30,21 +27,6 @@ put-front-requires c κs =
     let args = c .before .before .before .before .args in
     let t : isSector (length (args .sector .now)) ≡ true = sym (c .before .before .is-sector .ensures) ∙ not-false _ (c .before .if1 .left) in
     sector-least (length (args .sector .now)) t
-
-put64-requires : tie.Need-put64-requires
-put64-requires c κs = search needs
-
-slice-aggregate-put32-run : tie.Need-slice-aggregate-put32-run
-slice-aggregate-put32-run c = search needs
-
-put32-run-requires : tie.Need-put32-run-requires
-put32-run-requires c κs = search needs
-
-stamp-requires : tie.Need-stamp-requires
-stamp-requires c κs = search needs
-
-same-length : tie.Need-same-length
-same-length c = search needs
 
 returns-2 : tie.Need-returns-2
 unfolding agiBytes
@@ -61,12 +43,5 @@ pub encode-spec : {M : Type 1} → statement M
 encode-spec =
     tie.close
     (tie.spec
-    is-sector-requires
-    returns
-    put-front-requires
-    put64-requires
-    slice-aggregate-put32-run
-    put32-run-requires
-    stamp-requires
-    same-length
-    returns-2)
+    (λ c κs. search needs) returns put-front-requires (λ c κs. search needs) (λ c. search needs) (λ c κs. search needs)
+    (λ c κs. search needs) (λ c. search needs) returns-2)

@@ -18,17 +18,11 @@ use borrow.Author.Needs.{needs}
 use Rattle.inode.proofs.dinode.Dinode.encode.Statement.{statement}
 use Rattle.inode.proofs.dinode.Dinode.encode.Tie as tie
 
-encode-times-requires : tie.Need-encode-times-requires
-encode-times-requires c κs = search needs
-
 returns : tie.Need-returns
 unfolding dinodeNumber
 returns c =
     let e = c .before .encode-times .ensures .number-is in
     refused (times-refuse _ _ _ _ _ _ (λ z. c .if1 .taken (e ∙ z)) ∙ sym e) (ne-eqb _ 0 (c .if1 .taken))
-
-has-room-requires : tie.Need-has-room-requires
-has-room-requires c κs = search needs
 
 returns-2 : tie.Need-returns-2
 unfolding dinodeNumber
@@ -43,18 +37,6 @@ put-core-requires : tie.Need-put-core-requires
 put-core-requires c κs =
     let t = sym (c .before .before .has-room .ensures) ∙ not-false _ (c .before .if2 .left) in
     inode-least (length (c .before .before .before .before .before .before .before .before .before .before .before .args .slot .now)) (both-left _ _ t)
-
-put-bytes-requires : tie.Need-put-bytes-requires
-put-bytes-requires c κs = search needs
-
-put-bytes-requires-2 : tie.Need-put-bytes-requires-2
-put-bytes-requires-2 c κs = search needs
-
-stamp-requires : tie.Need-stamp-requires
-stamp-requires c κs = search needs
-
-same-length : tie.Need-same-length
-same-length c = search needs
 
 returns-3 : tie.Need-returns-3
 unfolding dinodeNumber
@@ -75,13 +57,5 @@ pub encode-spec : {M : Type 1} → statement M
 encode-spec =
     tie.close
     (tie.spec
-    encode-times-requires
-    returns
-    has-room-requires
-    returns-2
-    put-core-requires
-    put-bytes-requires
-    put-bytes-requires-2
-    stamp-requires
-    same-length
-    returns-3)
+    (λ c κs. search needs) returns (λ c κs. search needs) returns-2 put-core-requires (λ c κs. search needs)
+    (λ c κs. search needs) (λ c κs. search needs) (λ c. search needs) returns-3)
