@@ -1,4 +1,4 @@
--- `applylist::apply` meets its contract.
+-- `applylist::apply` meets its contract. Invariant: the record ends at or before the largest offset, and the buffer keeps its length.
 -- Assumes nothing.
 use mathlib.Core.Path.{_≡_, refl}
 use native.Mathlib.Omega.{arith}

@@ -1,4 +1,4 @@
--- `btree_records::rmap_recs_64` meets its contract.
+-- `btree_records::rmap_recs_64` meets its contract. Invariant: the records from i on stand in their places, all else is as it was.
 -- Assumes nothing.
 use Rattle.btree.proofs.Laws.{rmap-size, noRmap, accepted, record-turn, record-none, record-all}
 use Rattle.btree.specs.Records.{listed, rmapBytes}

@@ -1,4 +1,4 @@
--- `crcsum::whole` is safe and ends. The measure is the number of turns that are left.
+-- `crcsum::whole` is safe and ends. Invariant: the buffer keeps its length. The measure is the number of turns that are left.
 -- Assumes nothing.
 use mathlib.Core.Path.{_≡_, refl}
 use native.Mathlib.Omega.{arith}

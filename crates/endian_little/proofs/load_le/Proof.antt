@@ -1,4 +1,4 @@
--- The loop reads the bytes from the last to the first.
+-- `endian_little::load_le` meets its contract. Invariant: x is the number in the bytes from i on.
 -- Assumes nothing.
 use mathlib.Core.Path.{_≡_, refl, _∙_}
 use Prim.Native.Nat.{_+_, _-_, _≤_}

@@ -1,4 +1,4 @@
--- The loop writes the bytes from the first to the last: what is left to write, over what stands there, is the whole.
+-- `endian_little::store_le` meets its contract. Invariant: the bytes from i on, over what stands there, are still the whole number's.
 -- Assumes nothing.
 use mathlib.Core.Path.{_≡_, refl}
 use Prim.Native.Nat.{_+_, _-_, _≤_}

@@ -1,4 +1,4 @@
--- `ffi_records::rmap_from` meets its contract.
+-- `ffi_records::rmap_from` meets its contract. Invariant: the list is the first i rows.
 -- Assumes nothing.
 use mathlib.Core.Path.{_≡_, refl, sym, ap, _∙_}
 use Prim.Native.Nat.{_-_, _≤_}

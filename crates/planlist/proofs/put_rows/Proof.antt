@@ -1,4 +1,4 @@
--- `planlist::put_rows` meets its contract.
+-- `planlist::put_rows` meets its contract. Invariant: the buffer keeps its length.
 -- Assumes nothing.
 use borrow.Author.Needs.{needs}
 use mathlib.Core.Path.{_≡_, refl}

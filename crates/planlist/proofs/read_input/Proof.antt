@@ -1,4 +1,4 @@
--- `planlist::read_input` meets its contract.
+-- `planlist::read_input` meets its contract. Invariant: the buffer keeps its length.
 -- Assumes nothing.
 use mathlib.Core.Path.{_≡_, refl}
 use native.Mathlib.Omega.{arith}

@@ -1,4 +1,4 @@
--- `replay_geometry::print_numbers` is safe and ends. The measure is the number of fields that are left.
+-- `replay_geometry::print_numbers` is safe and ends. Invariant: k is at most 21. The measure is the number of fields that are left.
 -- Assumes nothing.
 use Prim.Native.Nat.{_-_, _≤_}
 use native.Mathlib.Omega.{arith}

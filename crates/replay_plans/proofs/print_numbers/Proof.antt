@@ -1,4 +1,4 @@
--- `replay_plans::print_numbers` is safe and ends. The measure is the number of numbers that are left.
+-- `replay_plans::print_numbers` is safe and ends. Invariant: none. The measure is the number of numbers that are left.
 -- Assumes nothing.
 use Prim.Native.Nat.{_-_}
 use native.Mathlib.Omega.{arith}

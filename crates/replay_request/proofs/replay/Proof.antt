@@ -1,4 +1,4 @@
--- `replay_request::replay` is safe and ends. The measure is the number of turns that are left.
+-- `replay_request::replay` is safe and ends. Invariant: both buffers keep their lengths. The measure is the number of turns that are left.
 -- Assumes nothing.
 use mathlib.Core.Path.{_≡_, refl}
 use native.Mathlib.Omega.{arith}

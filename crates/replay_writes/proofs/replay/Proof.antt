@@ -1,4 +1,4 @@
--- `replay_writes::replay` is safe and ends. The measure is the number of turns that are left.
+-- `replay_writes::replay` is safe and ends. Invariant: the buffer keeps its length. The measure is the number of turns that are left.
 -- Assumes nothing.
 use native.Mathlib.Omega.{arith}
 use mathlib.Core.Path.{_≡_, refl}

@@ -1,4 +1,4 @@
--- `request_input::all_sound` meets its contract.
+-- `request_input::all_sound` meets its contract. Invariant: whether the records are sound is whether those from `at` on are.
 -- Assumes nothing.
 use mathlib.Core.Path.{_≡_, refl, sym, ap, _∙_}
 use Prim.Native.Nat.{_-_}

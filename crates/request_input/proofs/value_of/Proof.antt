@@ -1,4 +1,4 @@
--- `request_input::value_of` meets its contract.
+-- `request_input::value_of` meets its contract. Invariant: the value is what the records from `at` on give.
 -- Assumes nothing.
 use mathlib.Core.Path.{_≡_, refl, sym, _∙_}
 use Prim.Native.Nat.{_-_}

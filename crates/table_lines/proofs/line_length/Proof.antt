@@ -1,4 +1,4 @@
--- `table_lines::line_length` meets its contract.
+-- `table_lines::line_length` meets its contract. Invariant: n is the line's length from number i on, and at most 147 - 21 · i.
 -- Assumes nothing.
 use mathlib.Core.Path.{_≡_, sym, _∙_}
 use Prim.Native.Nat.{_+_, _*_, _≤_}

@@ -1,4 +1,4 @@
--- `table_lines::store_line` meets its contract.
+-- `table_lines::store_line` meets its contract. Invariant: the line from number i on stands from `at` to the end; `behind` comes before it.
 -- Assumes nothing.
 use mathlib.Core.Path.{_≡_, refl, sym}
 use Prim.Native.Nat.{_+_, _-_, _≤_}

@@ -1,4 +1,4 @@
--- `writelist::read_input` meets its contract.
+-- `writelist::read_input` meets its contract. Invariant: the buffer keeps its length.
 -- Assumes nothing.
 use mathlib.Core.Path.{_≡_, refl}
 use native.Mathlib.Omega.{arith}

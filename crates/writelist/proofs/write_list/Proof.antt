@@ -1,4 +1,4 @@
--- `writelist::write_list` meets its contract.
+-- `writelist::write_list` meets its contract. Invariant: at most n chunks are left, and both buffers keep their lengths.
 -- Assumes nothing.
 use borrow.Author.Needs.{needs}
 use mathlib.Core.Path.{_≡_, refl}

@@ -1,4 +1,4 @@
--- `ag::agfl::put_slots` meets its contract.
+-- `ag::agfl::put_slots` meets its contract. Invariant: the list's first i blocks stand in their slots, and every other slot is null.
 -- Assumes nothing.
 use Rattle.ag.proofs.Slots.{slot-start, slot-end}
 use Rattle.ag.proofs.Slots.{slot-turn}

@@ -1,4 +1,4 @@
--- `applylist::input::fill` meets its contract.
+-- `applylist::input::fill` meets its contract. Invariant: at most the wanted bytes are read, and the buffer keeps its length.
 -- Assumes nothing.
 use native.Mathlib.Omega.{arith}
 use lib.ListN.{length}

@@ -1,4 +1,4 @@
--- `applylist::output::put_first` meets its contract.
+-- `applylist::output::put_first` meets its contract. Invariant: at most n bytes are written.
 -- Assumes nothing.
 use native.Mathlib.Omega.{arith}
 use Prim.Native.Nat.{_-_, _≤_}

@@ -1,4 +1,4 @@
--- `chunk::slots::free_slots` meets its contract.
+-- `chunk::slots::free_slots` meets its contract. Invariant: the first i slots are free inodes, and the others are as they were.
 -- Assumes nothing.
 use lib.ListN.{length-replicate, length, drop}
 use Rattle.chunk.proofs.Pieces.{slots-first, slots-all, free-length, slot-room, slot-turn}

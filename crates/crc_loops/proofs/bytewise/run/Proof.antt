@@ -1,4 +1,4 @@
--- `crc_loops::bytewise::run` meets its contract.
+-- `crc_loops::bytewise::run` meets its contract. Invariant: c with the bytes from i on gives what `from` gives with all of them.
 -- Assumes nothing.
 use Rattle.crc_register.proofs.Linear.{byte-more}
 use Rattle.crc_register.proofs.Register.{update-ends}

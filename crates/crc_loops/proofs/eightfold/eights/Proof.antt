@@ -1,4 +1,4 @@
--- `crc_loops::eightfold::eights` meets its contract.
+-- `crc_loops::eightfold::eights` meets its contract. Invariant: c with the bytes from i on gives what `from` gives with all of them.
 -- Assumes nothing.
 use Rattle.crc_register.proofs.Words.{eight-turn}
 use Rattle.crc_register.specs.Register.{crcBits, crcBytes}

@@ -1,4 +1,4 @@
--- `crc_loops::eightfold::tail` meets its contract.
+-- `crc_loops::eightfold::tail` meets its contract. Invariant: c with the bytes from i on gives what `from` gives with those from `at` on.
 -- Assumes nothing.
 use Rattle.crc_register.proofs.Words.{look-turn, turn-to, ends-at}
 use borrow.Author.Needs.{needs}

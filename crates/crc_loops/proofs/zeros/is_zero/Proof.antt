@@ -1,4 +1,4 @@
--- `crc_loops::zeros::is_zero` meets its contract.
+-- `crc_loops::zeros::is_zero` meets its contract. Invariant: where x is 0, so are the first k bytes.
 -- Assumes nothing.
 use Rattle.crc_register.proofs.Linear.{or-zero}
 use borrow.Author.Tests.{eqb-true}

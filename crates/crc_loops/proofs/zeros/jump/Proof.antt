@@ -1,4 +1,4 @@
--- `crc_loops::zeros::jump` meets its contract.
+-- `crc_loops::zeros::jump` meets its contract. Invariant: r with the jump of the bits from i on, which x holds, is the jump of c.
 -- Assumes nothing.
 use Rattle.crc_register.proofs.Linear.{leap-starts, leap-bit, half-less, leap-ends}
 use Rattle.crc_register.specs.Register.{crcBits}

@@ -1,4 +1,4 @@
--- `crc_loops::zeros::leap` meets its contract.
+-- `crc_loops::zeros::leap` meets its contract. Invariant: x after `left` · 64 · 2^k zero bytes is c after n · 64 of them.
 -- Assumes nothing.
 use Rattle.crc_register.proofs.Linear.{leaps-start, leaps-turn, leaps-end, leap-few, leap-fewer}
 use Rattle.crc_register.specs.Register.{crcBits}

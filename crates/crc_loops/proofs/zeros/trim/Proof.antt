@@ -1,4 +1,4 @@
--- `crc_loops::zeros::trim` meets its contract.
+-- `crc_loops::zeros::trim` meets its contract. Invariant: from `at` on there are n times 64 bytes, n at most 511, and each is 0.
 -- Assumes nothing.
 use Rattle.crc_register.proofs.Linear.{zero-more, trim-ends}
 use borrow.Author.Tests.{not-false}

@@ -1,4 +1,4 @@
--- `endian::numbers::load` meets its contract.
+-- `endian::numbers::load` meets its contract. Invariant: x is the number in the first i bytes.
 -- Assumes nothing.
 use mathlib.Core.Path.{_≡_, refl, _∙_}
 use Prim.Native.Nat.{_-_, _≤_}

@@ -1,4 +1,4 @@
--- `endian::runs::copy` meets its contract.
+-- `endian::runs::copy` meets its contract. Invariant: the bytes of `src` from i on are copied, and all others are as they were.
 -- Assumes nothing.
 use mathlib.Core.Path.{_≡_, refl, ap, _∙_, sym}
 use Prim.Native.Nat.{_+_, _-_, _≤_}

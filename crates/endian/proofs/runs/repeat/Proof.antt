@@ -1,4 +1,4 @@
--- `endian::runs::repeat` meets its contract.
+-- `endian::runs::repeat` meets its contract. Invariant: the last n - i of the n bytes are b, and all others are as they were.
 -- Assumes nothing.
 use mathlib.Core.Path.{_≡_, refl, ap, _∙_}
 use Prim.Native.Nat.{_+_, _-_, _≤_}

@@ -1,4 +1,4 @@
--- The loop writes the numbers from the last to the first.
+-- `endian::runs::store32_run` meets its contract. Invariant: the numbers from i on stand in their places, all else is as it was.
 -- Assumes nothing.
 use mathlib.Core.Path.{_≡_, refl, ap, _∙_, sym}
 use Prim.Native.Nat.{_+_, _*_, _-_, _≤_}

@@ -1,4 +1,4 @@
--- `endian::runs::store_all` meets its contract: what is left of the table.
+-- `endian::runs::store_all` meets its contract. Invariant: what is left of the table, from row i on, still makes the whole table's bytes.
 -- Assumes nothing.
 use mathlib.Core.Path.{_≡_, refl, _∙_}
 use Prim.Native.Nat.{_*_, _-_, _≤_}

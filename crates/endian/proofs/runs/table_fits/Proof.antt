@@ -1,4 +1,4 @@
--- `endian::runs::table_fits` meets its contract.
+-- `endian::runs::table_fits` meets its contract. Invariant: whether all rows fit is whether those from i on do.
 -- Assumes nothing.
 use borrow.Author.Needs.{needs}
 use native.Mathlib.Omega.{arith}

@@ -1,4 +1,4 @@
--- `list_write::split::copy` meets its contract.
+-- `list_write::split::copy` meets its contract. Invariant: the first i bytes of `src` are copied, and all others are as they were.
 -- Assumes nothing.
 use Rattle.list_write.proofs.Splitting.{copy-turn, copy-all}
 use Rattle.endian.specs.Bytes.{patch}

@@ -1,4 +1,4 @@
--- `list_write::split::put_blocks` meets its contract.
+-- `list_write::split::put_blocks` meets its contract. Invariant: the records from block j on, over what stands there, still make all n.
 -- Assumes nothing.
 use borrow.Author.Needs.{needs}
 use native.Mathlib.Omega.{arith}

@@ -1,4 +1,4 @@
--- `log::parts::stamp_blocks` meets its contract.
+-- `log::parts::stamp_blocks` meets its contract. Invariant: the stamps from block i on, over what stands there, still make all of them.
 -- Assumes nothing.
 use Rattle.log.proofs.Laws.{stamp-turn, stamp-ends}
 use Rattle.log.specs.Record.{stamps}

@@ -1,4 +1,4 @@
--- `plan::fill::extend` meets its contract.
+-- `plan::fill::extend` meets its contract. Invariant: the list with the `left` blocks from `at` on appended is the list with all n.
 -- Assumes nothing.
 use Rattle.plan.proofs.Laws.{appended-up, appended-none}
 use Rattle.plan.specs.Plan.{ofAgfl, toAgfl}

@@ -1,4 +1,4 @@
--- `plan::fill::fill_list` meets its contract.
+-- `plan::fill::fill_list` meets its contract. Invariant: the k turns that are left give what all turns give.
 -- Assumes nothing.
 use Rattle.plan.specs.Plan.{turn}
 use Rattle.seqs.proofs.Laws.{turns-step, turns-end}

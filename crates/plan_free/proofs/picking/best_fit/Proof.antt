@@ -1,4 +1,4 @@
--- `plan_free::picking::best_fit` meets its contract.
+-- `plan_free::picking::best_fit` meets its contract. Invariant: the best of c and the records from i on is the best of all.
 -- Assumes nothing.
 use borrow.Author.Needs.{needs}
 use native.Mathlib.Omega.{arith}

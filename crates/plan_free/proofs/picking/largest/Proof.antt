@@ -1,4 +1,4 @@
--- `plan_free::picking::largest` meets its contract.
+-- `plan_free::picking::largest` meets its contract. Invariant: the largest of c and the records from i on is the largest of all.
 -- Assumes nothing.
 use borrow.Author.Needs.{needs}
 use native.Mathlib.Omega.{arith}

@@ -1,4 +1,4 @@
--- `plan_free::taking::find` meets its contract.
+-- `plan_free::taking::find` meets its contract. Invariant: no record before i holds the run, so the first that does is found from i on.
 -- Assumes nothing.
 use mathlib.Core.Path.{_≡_, sym, _∙_}
 use Prim.Native.Nat.{_+_, _-_, _≤_}

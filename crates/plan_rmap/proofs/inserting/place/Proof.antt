@@ -1,4 +1,4 @@
--- `plan_rmap::inserting::place` meets its contract.
+-- `plan_rmap::inserting::place` meets its contract. Invariant: the place among all is i and the place among the records from i on.
 -- Assumes nothing.
 use borrow.Author.Needs.{needs}
 use native.Mathlib.Omega.{arith}

@@ -1,4 +1,4 @@
--- `plan_summary::records::longest_of` meets its contract.
+-- `plan_summary::records::longest_of` meets its contract. Invariant: the longest of `most` and the records from i on is the longest of all.
 -- Assumes nothing.
 use Rattle.plan_totals.specs.Totals.{maxCount, longestOf}
 use Rattle.seqs.proofs.Laws.{fold-step, fold-end}

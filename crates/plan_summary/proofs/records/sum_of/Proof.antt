@@ -1,4 +1,4 @@
--- `plan_summary::records::sum_of` meets its contract.
+-- `plan_summary::records::sum_of` meets its contract. Invariant: `sum` and the blocks of the records from i on are all; `sum` ≤ i · 2^32.
 -- Assumes nothing.
 use Rattle.plan_totals.specs.Totals.{addCount, freeblksOf}
 use Rattle.seqs.proofs.Laws.{fold-step, fold-end}

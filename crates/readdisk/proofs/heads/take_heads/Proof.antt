@@ -1,4 +1,4 @@
--- `readdisk::heads::take_heads` meets its contract.
+-- `readdisk::heads::take_heads` meets its contract. Invariant: both buffers keep their lengths.
 -- Assumes nothing.
 use mathlib.Core.Path.{_≡_, refl}
 use native.Mathlib.Omega.{arith}

@@ -1,4 +1,4 @@
--- `readdisk::input::fill_up` meets its contract.
+-- `readdisk::input::fill_up` meets its contract. Invariant: no more is read than the buffer holds, and it keeps its length.
 -- Assumes nothing.
 use native.Mathlib.Omega.{arith}
 use lib.ListN.{length}

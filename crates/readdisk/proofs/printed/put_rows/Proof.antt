@@ -1,4 +1,4 @@
--- `readdisk::printed::put_rows` meets its contract.
+-- `readdisk::printed::put_rows` meets its contract. Invariant: the buffer keeps its length.
 -- Assumes nothing.
 use mathlib.Core.Path.{_≡_, refl}
 use native.Mathlib.Omega.{arith}

@@ -1,4 +1,4 @@
--- `readdisk::words::label_length` meets its contract.
+-- `readdisk::words::label_length` meets its contract. Invariant: n is at most the label's length.
 -- Assumes nothing.
 use Prim.Native.Nat.{_≤_}
 use native.Mathlib.Omega.{arith}

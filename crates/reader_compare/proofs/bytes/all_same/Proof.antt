@@ -1,4 +1,4 @@
--- `reader_compare::bytes::all_same` meets its contract.
+-- `reader_compare::bytes::all_same` meets its contract. Invariant: the slices are the same where `ok` holds and they are from i on.
 -- Assumes nothing.
 use mathlib.Core.Path.{_≡_, refl, sym, _∙_}
 use mathlib.Core.Bool.{_&&_}

@@ -1,4 +1,4 @@
--- `sb::put::put_run` meets its contract.
+-- `sb::put::put_run` meets its contract. Invariant: what is left of the run, from number i on, still makes the whole run's bytes.
 -- Assumes nothing.
 use mathlib.Core.Path.{_≡_, refl, _∙_}
 use Prim.Native.Nat.{_+_, _*_, _-_, _≤_}

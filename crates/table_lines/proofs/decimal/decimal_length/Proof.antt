@@ -1,4 +1,4 @@
--- `table_lines::decimal::decimal_length` meets its contract.
+-- `table_lines::decimal::decimal_length` meets its contract. Invariant: the number has k digits more than x.
 -- Assumes nothing.
 use mathlib.Core.Path.{_≡_}
 use Prim.Native.Nat.{_+_}

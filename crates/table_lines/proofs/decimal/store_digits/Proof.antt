@@ -1,4 +1,4 @@
--- `table_lines::decimal::store_digits` meets its contract.
+-- `table_lines::decimal::store_digits` meets its contract. Invariant: the digits of x, put before i, still make all of n's.
 -- Assumes nothing.
 use mathlib.Core.Path.{_≡_, refl, sym, ap, _∙_}
 use Prim.Native.Nat.{ℕ, _-_, _≤_}
