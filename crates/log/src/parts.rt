@@ -101,18 +101,18 @@ pub(crate) fn header(rec: &mut [u8], uuid: &[u8; 16], sunit: u32, lsn: u64, tail
         4,
     ];
     let v: [u64; 12] = [
-        HEADER_MAGIC,
-        lsn / 0x1_0000_0000,
-        2,
-        len,
-        lsn,
-        tail_lsn,
-        0,
-        0xffff_ffff,
-        1,
-        UNMOUNT_TID,
-        FMT_LINUX_LE,
-        BIG_RECORD_BSIZE,
+        HEADER_MAGIC, // h_magicno
+        lsn / 0x1_0000_0000, // h_cycle
+        2, // h_version
+        len, // h_len
+        lsn, // h_lsn
+        tail_lsn, // h_tail_lsn
+        0, // h_crc
+        0xffff_ffff, // h_prev_block
+        1, // h_num_logops
+        UNMOUNT_TID, // h_cycle_data, the first of 64
+        FMT_LINUX_LE, // h_fmt
+        BIG_RECORD_BSIZE, // h_size
     ];
     endian::put_all(rec, &at, &v);
     endian::put_bytes(rec, off::FS_UUID, uuid);
@@ -124,11 +124,11 @@ pub(crate) fn unmount(rec: &mut [u8], cycle: u32)
     requires { ⌜ 1024 ≤ length (now rec) ⌝ }
     ensures { λ r. ⌜ now (rec .exit) ≡ write (unmountFields 512 cycle) (now (rec .entry)) ⌝ }
 {
-    endian::put32(rec, 512, cycle);
-    endian::put32(rec, 516, 8);
-    endian::put8(rec, 520, CLIENT_LOG);
-    endian::put8(rec, 521, UNMOUNT_TRANS);
-    endian_little::put_le16(rec, 524, UNMOUNT_TYPE);
+    endian::put32(rec, 512, cycle); // in the place of oh_tid
+    endian::put32(rec, 516, 8); // oh_len
+    endian::put8(rec, 520, CLIENT_LOG); // oh_clientid
+    endian::put8(rec, 521, UNMOUNT_TRANS); // oh_flags
+    endian_little::put_le16(rec, 524, UNMOUNT_TYPE); // magic
 }
 
 // The cycle goes into the first word of each basic block behind the unmount record.
