@@ -1,6 +1,6 @@
 // Replays cases of the encoders from standard input and prints each answer: the number, and the checksum of the lent bytes as they are left.
 // `stdin` and `stdout` hold cases from a seed and what the Rust answers to them (26, 27, 34 and 35, which the Rust doesn't know, are
-// document 01's, the limit of 35 document 02's); they were written by
+// added); they were written by
 //
 //     oracle/target/release/oracle replay structs --cases 300 --seed 5 crates/replay_structs
 //
