@@ -110,7 +110,7 @@ impl Disk {
     }
 }
 
-/// What group 0's head names, by document 01's places: the request that asks for it; none where its bytes pass 2^64 - 1.
+/// What group 0's head names, by the scope's places: the request that asks for it; none where its bytes pass 2^64 - 1.
 pub fn name(head: &[u8]) -> Option<Request> {
     let at = |from: usize| Fields(&head[from..]);
     let block = u64::from(at(4).u32());

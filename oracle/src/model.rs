@@ -1,4 +1,4 @@
-//! A plain model of runs in either sizing of the log, from documents 01 and 02, for what the Rust doesn't know: roomy sizing.
+//! A plain model of runs in either sizing of the log, from the scope, for what the Rust doesn't know: roomy sizing.
 //!
 //! The model's own: the geometry step with its numbers 1 to 24, the log's blocks in both sizings, which runs are accepted, the
 //! order of the written records, the superblocks' counts and root inodes, and the reader's answers.
@@ -21,14 +21,14 @@ use crate::request::{op, Request};
 const MIB: u64 = 1 << 20;
 const TIB: u64 = 1 << 40;
 
-/// How the log's upper limit is found: by document 01, or by document 02's option.
+/// How the log's upper limit is found: plain, or roomy by option code 12.
 #[derive(Clone, Copy, Debug, PartialEq, Eq)]
 pub enum Sizing {
     Plain,
     Roomy,
 }
 
-/// A number of document 01's table, where its condition holds.
+/// A number of the scope's table, where its condition holds.
 fn refuse(number: u32, condition: bool) -> Result<(), u32> {
     if condition {
         Err(number)
@@ -139,7 +139,7 @@ fn free_list(f: &Features) -> u64 {
     }
 }
 
-/// Document 01's log, and document 02's where its group's own length is the measure.
+/// The log in plain sizing, and in roomy sizing, where its group's own length is the measure.
 fn log_blocks(sizing: Sizing, s: &Sizes, g: &Groups, f: &Features) -> u64 {
     let limit = match sizing {
         Sizing::Plain => g.size - head_blocks(s, f) - 5,
@@ -259,7 +259,7 @@ fn log_block(g: &Geometry, uuid: [u8; 16]) -> Vec<u8> {
     block
 }
 
-/// Hands the written records of an accepted run on, in document 01's order.
+/// Hands the written records of an accepted run on, in the scope's order.
 pub fn written<S: Sink>(q: &Request, g: &Geometry, mut sink: S) -> io::Result<S> {
     let (bs, uuid) = (g.bs(), q.id.unwrap_or_default());
     let blocks = |sink: &mut S, at: u64, bytes: &[u8]| {

@@ -1,8 +1,8 @@
-//! Document 01's numbers for the Rust's refusals, by their messages.
+//! The scope's numbers for the Rust's refusals, by their messages.
 
 use mkfs_xfs::error::Error;
 
-/// A refusal that document 01 says can't occur, or an error that is no refusal.
+/// A refusal that the scope says can't occur, or an error that is no refusal.
 pub const UNNUMBERED: u32 = 999;
 
 /// How a message begins, what it holds after that, its number. The first that fits counts.

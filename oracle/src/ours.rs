@@ -170,7 +170,7 @@ pub mod crc {
 
 /// Crate `ffi_geometry`.
 pub mod geometry {
-    /// What the geometry step is given. Bit k of `given` is set where the option with document 01's code k is given.
+    /// What the geometry step is given. Bit k of `given` is set where the option with the scope's code k is given.
     pub struct Input {
         pub given: u64,
         pub size: u64,
@@ -214,7 +214,7 @@ pub mod geometry {
     #[cfg(feature = "geometry")]
     over_input!(zq_geometry(field: u64));
 
-    /// One number of the answer: 0 is the number of document 01, 1 to 20 are the fields in the Rust's order (features
+    /// One number of the answer: 0 is the number of the scope, 1 to 20 are the fields in the Rust's order (features
     /// as bits), 21 to 32 the bytes of the label.
     #[cfg(feature = "geometry")]
     pub fn field(k: u64, i: &Input) -> u64 {

@@ -1,4 +1,4 @@
-//! Document 01's input records, with document 02's codes: read, as the Rust's parameters, and written.
+//! The scope's input records: read, as the Rust's parameters, and written.
 
 use mkfs_xfs::geometry::{Features, Params, Timestamp};
 
@@ -35,7 +35,7 @@ pub struct Request {
     pub id: Option<[u8; 16]>,
 }
 
-/// The largest value that an option's type in the Rust holds; that of the sizing is document 02's.
+/// The largest value that an option's type in the Rust holds; that of the sizing is the scope's.
 fn largest(code: usize) -> u64 {
     match code {
         op::BLOCK | op::SECTOR | op::INODE | op::NANOSECONDS => u64::from(u32::MAX),
@@ -132,7 +132,7 @@ impl Request {
         }
     }
 
-    /// Absent or 0 is document 01's sizing.
+    /// Absent or 0 is plain sizing.
     pub fn sizing(&self) -> Sizing {
         match self.options[op::SIZING] {
             Some(1) => Sizing::Roomy,
@@ -158,7 +158,7 @@ impl Request {
         })
     }
 
-    /// The Rust's parameters. Absent UUID, time and seed are zeros, as document 01 adds.
+    /// The Rust's parameters. Absent UUID, time and seed are zeros, as the scope adds.
     pub fn params(&self) -> Params {
         let o = &self.options;
         let short = |code: usize| o[code].map(|v| v as u32);

@@ -86,7 +86,7 @@ module _ (g : Geometry) (l : length (g .label) ≡ 12) (h : isAnswer g ≡ true)
     unfolding usesOf usedOf
     none-mapped b j = let u = no-use b j in rmap-agrees b ∙ omega arith
 
-    -- EACH OWNER HAS WHAT DOCUMENT 01 GIVES IT
+    -- EACH OWNER HAS WHAT THE SCOPE GIVES IT
     pub owners-agree : (b : ℕ) → Owners (has b) (siteOf g k) (planned g k .plan) (λ o. ownedOf o g k b)
     unfolding ownedOf
     owners-agree b = rw (its-map, plan-is) (owners-weigh (has b) (additive-has b) (siteOf g k) ok site-on)

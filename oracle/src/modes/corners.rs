@@ -1,4 +1,4 @@
-//! Named disks in both sizings, each with the log or the number that documents 01 and 02 give it, written down here: the station cases, and
+//! Named disks in both sizings, each with the log or the number that the scope gives it, written down here: the station cases, and
 //! the places where the sizings part. A case is the input records of the next one. In `corners` the answer is planlist's, in `corner_lists`
 //! writelist's; both fail where the model doesn't have what stands here.
 

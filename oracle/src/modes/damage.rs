@@ -163,7 +163,7 @@ impl Damage {
     }
 }
 
-/// Document 01's number for bytes of which only the disk's own are left here by a run.
+/// The scope's number for bytes of which only the disk's own are left here by a run.
 pub fn expected(m: &Made) -> u32 {
     let length = match m.place {
         0 if m.bytes.len() < 512 => return 27,

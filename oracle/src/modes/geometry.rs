@@ -1,4 +1,4 @@
-//! The geometry step. A case is document 01's input records; an answer is a line: the number, and after 0 the 21
+//! The geometry step. A case is the scope's input records; an answer is a line: the number, and after 0 the 21
 //! fields of the geometry in the Rust's order, features as bits and the label in hexadecimal digits.
 
 use std::io;
@@ -34,7 +34,7 @@ pub fn step(q: &Request) -> (Told, Option<Geometry>) {
     }
 }
 
-/// The features as the bits of document 01's option.
+/// The features as the bits of the scope's option.
 pub fn feature_bits(f: &Features) -> u64 {
     let on = [f.finobt, f.rmapbt, f.reflink, f.inobtcount, f.bigtime, f.nrext64, f.sparse];
     on.iter().enumerate().map(|(i, &b)| u64::from(b) << i).sum()

@@ -20,7 +20,7 @@ const NOT_FREE: u32 = 33;
 /// More records than a list holds.
 const TOO_MANY: u32 = 34;
 
-/// Whether the runs (start, count) are a list as document 01 wants it.
+/// Whether the runs (start, count) are a list as the scope wants it.
 fn valid(runs: impl IntoIterator<Item = (u32, u32)>) -> bool {
     let mut end = 0u64;
     runs.into_iter().all(|(start, count)| {

@@ -14,12 +14,12 @@ pub struct Record;
 const KINDS: [&str; 4] = ["record", "first_record", "clear_sunit", "lsn"];
 const BAD_LENGTH: u32 = 27;
 const BAD_SUNIT: u32 = 35;
-/// Document 02, CR 8.
+/// The limit of 35.
 const MOST_SUNIT: u32 = 16_384;
 /// The longest buffer that a case lends: that of a unit of 262,145 bytes, and one byte more.
 const MOST_LENT: usize = 262_657;
 
-/// The bytes of a record, by document 01.
+/// The bytes of a record, by the scope.
 fn length(sunit: u32) -> usize {
     512 * (sunit as usize).div_ceil(512).max(2)
 }

@@ -31,9 +31,9 @@ pub mod writes;
 pub struct Told {
     /// The kind of case, where a mode has several.
     pub kind: &'static str,
-    /// Document 01's number, 0 where the case is accepted.
+    /// The scope's number, 0 where the case is accepted.
     pub number: u32,
-    /// Whether the Rust itself was asked. It isn't where a number that document 01 adds refuses the case, nor in roomy sizing.
+    /// Whether the Rust itself was asked. It isn't where a number that the scope adds refuses the case, nor in roomy sizing.
     pub asked: bool,
 }
 
@@ -54,7 +54,7 @@ pub trait Mode {
     /// The next case.
     fn case(&self, r: &mut Random) -> Vec<u8>;
 
-    /// The Rust's answer; document 01's where the Rust can't be asked.
+    /// The Rust's answer; the scope's where the Rust can't be asked.
     fn answer(&self, case: &[u8], out: Out) -> io::Result<Told>;
 
     /// The port's answer, where its static library is linked in.

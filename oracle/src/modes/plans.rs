@@ -25,7 +25,7 @@ pub fn plan(g: &Geometry, agno: u64) -> Result<AgPlan, u32> {
     }
 }
 
-/// Whether document 01 accepts the time.
+/// Whether the scope accepts the time.
 pub fn time_fits(t: Timestamp, bigtime: bool) -> bool {
     if t.nsecs >= 1_000_000_000 {
         return false;

@@ -1,5 +1,5 @@
 //! The input records. A case is both programs' standard input, well-formed or not. An answer is 32 numbers of eight
-//! bytes (the number of document 01; device, logical and physical sector; size, block, sector, inode, agcount, agsize,
+//! bytes (the number of the scope; device, logical and physical sector; size, block, sector, inode, agcount, agsize,
 //! imaxpct and seed, each with 1 before it where it is given; the seven features; 1 for a given time, the number and the
 //! value that an inode with bigtime stores of it; the label's length; 1 for a given UUID), the label's first 12 bytes
 //! and the UUID. Malformed input has no options, all features and zeros beside its number.

@@ -24,7 +24,7 @@ const MANY_ONCE_IN: u64 = 150;
 const SUM: u8 = 0;
 const WHOLE: u8 = 1;
 
-/// Writes down what is done to the device, as document 01's written records.
+/// Writes down what is done to the device, as the scope's written records.
 pub struct Records<'a>(pub Out<'a>);
 
 impl Records<'_> {
@@ -189,7 +189,7 @@ impl Mode for Writelist {
     }
 }
 
-/// Only the cases that are refused: many of them, quickly. Those with a sizing, which only document 02 knows, are kept too, so that a seed has
+/// Only the cases that are refused: many of them, quickly. Those with a sizing, which the Rust doesn't know, are kept too, so that a seed has
 /// the cases that it had.
 pub struct Refusals;
 
