@@ -1,15 +1,18 @@
--- THE USER'S DEMANDS 1 TO 3, a sentence a field, each about every disk there can be. proofs/Demands.antt proves them: `demand1`, `demand2`, `demand3`.
+-- THE USER'S DEMANDS 1 TO 3, a sentence a field, each about every disk there can be. proofs/Demands.antt proves them: `demand1`, `demand2`,
+-- `demand3`.
 --
--- Numbers beside an answer are those of docs/SCOPE.md; 0 accepts. Bytes are lists of numbers; a device is a number for every offset, and may hold anything.
+-- Numbers beside an answer are those of docs/SCOPE.md; 0 accepts. Bytes are lists of numbers; a device is a number for every offset, and
+-- may hold anything.
 -- `A ↔ B` is "exactly where". These words recur:
 --   Octets xs      every number in xs is below 256. Whatever a function is lent as `&[u8]` is so; the logic's lists may hold more.
---   Handed g u     g and u are of their types: the sizes and imaxpct fit theirs, the label has 12 bytes and the UUID 16. Whatever is passed as
---                  `Geometry` and `[u8; 16]` is so, whether or not any disk has it.
+--   Handed g u     g and u are of their types: the sizes and imaxpct fit theirs, the label has 12 bytes and the UUID 16. Whatever is passed
+--                  as `Geometry` and `[u8; 16]` is so, whether or not any disk has it.
 --   Answered g     g is the accepted geometry of some options on some device of fewer than 2^64 bytes.
---   AcceptedRun r  r is a request of its types (options, device, sectors, UUID, time, seed) whose input, geometry, plans of all groups and time are
---                  accepted. `runOf r` is its run: geometry, UUID, time and seed. `formatted r old` is a device that held `old`, after all its records.
---   reported g     what the reader reports of a run with geometry g: g with plain sizing of the log where that gives the same log, else g itself. `plain g`
---                  is g with plain sizing.
+--   AcceptedRun r  r is a request of its types (options, device, sectors, UUID, time, seed) whose input, geometry, plans of all groups and
+--                  time are accepted. `runOf r` is its run: geometry, UUID, time and seed. `formatted r old` is a device that held `old`,
+--                  after all its records.
+--   reported g     what the reader reports of a run with geometry g: g with plain sizing of the log where that gives the same log, else g
+--                  itself. `plain g` is g with plain sizing.
 --   heads k        whatever bytes stand where the head of group k should be; `log` what stands in the log's first block.
 -- A name such as `readGroup0` is a definition, and the contract of the function `read_group0` says that this is its answer, on every input.
 -- Assumes nothing.
@@ -26,9 +29,11 @@ use Words.*
 -- ==== DEMAND 1: every input is answered, a bad one by its number, and a refused call changes no lent byte
 
 pub record Demand1 : Type 0 where
-  -- The input may be any bytes. Where it is accepted, what it asks for is a run of the machine's types whose geometry, plans and time are accepted.
+  -- The input may be any bytes. Where it is accepted, what it asks for is a run of the machine's types whose geometry, plans and time are
+  -- accepted.
   pub any-input : (xs : List ℕ) → Octets xs → accepted xs .number ≡ 0 → AcceptedRun (parseDef xs)
-  -- Its number is 28 where the bytes are malformed, else the geometry step's, else that of the first refused plan, else 26 where no inode can store the time.
+  -- Its number is 28 where the bytes are malformed, else the geometry step's, else that of the first refused plan, else 26 where no inode
+  -- can store the time.
   pub input-number : (xs : List ℕ)
       → let r = parseDef xs in
       accepted xs .number
@@ -42,7 +47,8 @@ pub record Demand1 : Type 0 where
   -- In an accepted geometry every group before the last has 16 MiB or more, and so has what is left for the last: none is without blocks.
   pub no-empty-group : (g : Geometry) → Answered g
       → (16 * mib ≤ g .agsize * g .blocksize) × (16 * mib ≤ (g .dblocks - (g .agcount - 1) * g .agsize) * g .blocksize)
-  -- A geometry that a caller hands in passes exactly where some options of their types, on some device, have it as their answer; else it gets 31.
+  -- A geometry that a caller hands in passes exactly where some options of their types, on some device, have it as their answer; else it
+  -- gets 31.
   pub no-stranger : (g : Geometry) → TypedGeometry g → (isAnswer g ≡ true) ↔ TypedAnswer g
   -- Planning a group answers 0 or 25: 25 exactly in the log's group, where fewer blocks are free than the free list takes.
   pub refused-plans : (g : Geometry) → Answered g → (k : ℕ) → k < g .agcount
@@ -58,14 +64,17 @@ pub record Demand1 : Type 0 where
       → T (oneOf (0 ∷ 27 ∷ 30 ∷ []) (readGroup0 xs .number))
       × T (oneOf (0 ∷ 27 ∷ 29 ∷ 30 ∷ 31 ∷ []) (readGroup g u k xs .number))
       × T (oneOf (0 ∷ 27 ∷ 30 ∷ 31 ∷ []) (readLog g u xs))
-  -- A function that fills a lent buffer promises `Put` or `Written` of its answer r and of the bytes before and after the call (`PutAll`, `PutLine`
+  -- A function that fills a lent buffer promises `Put` or `Written` of its answer r and of the bytes before and after the call (`PutAll`,
+  -- `PutLine`
   -- and `ChunkMade` are built alike). Where r isn't 0, no byte has changed.
   pub untouched : (n r : ℕ) (new old left : List ℕ) → Put n new old r left ⊎ Written n new old r left → (r ≡ 0 → ⊥) → left ≡ old
 
--- ==== DEMAND 2: checksums by the RFC, the source's plans, and what is written for a run (that the Rust answers the same is tested, not proved)
+-- ==== DEMAND 2: checksums by the RFC, the source's plans, and what is written for a run (that the Rust answers the same is tested, not
+-- proved)
 
 pub record Demand2 : Type 0 where
-  -- The checksum is defined a bit at a time, by RFC 3720's polynomial, and the five test vectors of that document come out of the definition.
+  -- The checksum is defined a bit at a time, by RFC 3720's polynomial, and the five test vectors of that document come out of the
+  -- definition.
   pub rfc-vectors : (crc32cOf (replicate 32 0) ≡ 0x8a91_36aa)
       × (crc32cOf (replicate 32 0xff) ≡ 0x62a8_ab43)
       × (crc32cOf rising ≡ 0x46dd_794e)
@@ -73,51 +82,64 @@ pub record Demand2 : Type 0 where
       × (crc32cOf readCommand ≡ 0xd996_3a56)
   -- A structure that has got its checksum, anywhere inside it, verifies and is as long as before.
   pub checksums-verify : (off : ℕ) (xs : List ℕ) → off + 4 ≤ length xs → (verified off (stamped off xs) ≡ true) × (length (stamped off xs) ≡ length xs)
-  -- What the superblock names of an accepted geometry gives all of it again under its sizing of the log, whatever the disk's physical sector.
+  -- What the superblock names of an accepted geometry gives all of it again under its sizing of the log, whatever the disk's physical
+  -- sector.
   pub named-again : (p : Params) (device logical physical other : ℕ) → length (p .label .bytes) ≡ 12 → computeDef p device logical physical .number ≡ 0
       → namedOn (p .roomy) (namesOf (computeDef p device logical physical .geometry)) other ≡ computeDef p device logical physical
   -- `planned` is the source's planner, step by step. For every group of every accepted geometry it gives what plain arithmetic gives.
   pub closed-plans : (g : Geometry) → Answered g → (k : ℕ) → k < g .agcount → planned g k ≡ closedPlan (siteOf g k)
-  -- Each block of a planned group is counted by exactly one of the plan's five uses; with rmapbt the reverse mappings hold exactly the used blocks.
+  -- Each block of a planned group is counted by exactly one of the plan's five uses; with rmapbt the reverse mappings hold exactly the used
+  -- blocks.
   pub planned-once : (g : Geometry) → Answered g → (k : ℕ) → k < g .agcount → planned g k .number ≡ 0
       → ((b : ℕ) → b < groupBlocks (g .dblocks) (g .agsize) (g .agcount) k → usesOf g k b ≡ 1)
       × (g .features .rmapbt ≡ true → (b : ℕ) → mappedOf g k b ≡ usedOf g k b)
-  -- The bytes that are sent for an accepted input are its list of written records, one after the other, and reading them gives the list again.
+  -- The bytes that are sent for an accepted input are its list of written records, one after the other, and reading them gives the list
+  -- again.
   pub sent-and-read : (xs : List ℕ) → Octets xs → accepted xs .number ≡ 0
       → (sentAll (accepted xs) (parseDef xs .device) ≡ listBytes (listOf (accepted xs) (parseDef xs .device)))
       × (readAll (recordCount (accepted xs .geometry)) (sentAll (accepted xs) (parseDef xs .device)) ≡ listOf (accepted xs) (parseDef xs .device))
-  -- Every record lies at a block's start and inside the device; there are three of zeros, two flushes, the rest single blocks, as many as `Ordered` says.
+  -- Every record lies at a block's start and inside the device; there are three of zeros, two flushes, the rest single blocks, as many as
+  -- `Ordered` says.
   pub ordered-list : (r : Request) → AcceptedRun r → Ordered (runOf r) (r .device)
-  -- Applied to a device that held anything, the records leave every head, the log, the root chunk and the zeros that `Left` names, byte for byte.
+  -- Applied to a device that held anything, the records leave every head, the log, the root chunk and the zeros that `Left` names, byte for
+  -- byte.
   pub left-behind : (r : Request) → AcceptedRun r → (old : Device) → Left (runOf r) (r .device) (formatted r old)
 
 -- ==== DEMAND 3: a reader that sees only the heads and the first log block, and what it vouches for
 
 pub record Demand3 : Type 0 where
-  -- After any accepted run, on any old device, the reader gets the run's geometry, as it reports it, its UUID and the plan of every group from the bytes.
+  -- After any accepted run, on any old device, the reader gets the run's geometry, as it reports it, its UUID and the plan of every group
+  -- from the bytes.
   pub recovered : (r : Request) → AcceptedRun r → (old : Device) → ReadBack r (formatted r old)
-  -- What it reports is the geometry but for the sizing of the log: plain where plain sizing gives the same log. Of a run in plain sizing it is the geometry.
+  -- What it reports is the geometry but for the sizing of the log: plain where plain sizing gives the same log. Of a run in plain sizing it
+  -- is the geometry.
   pub reported-geometry : (g : Geometry) → (plain (reported g) ≡ plain g) × (g .roomy ≡ false → reported g ≡ g)
   -- Whatever bytes stand there: group 0's head is accepted exactly where some accepted run leaves exactly these in group 0.
   pub first-head : (xs : List ℕ) → Octets xs → (readGroup0 xs .number ≡ 0) ↔ SomeLeaves xs
-  -- With a geometry and a UUID handed in, the head of group k is accepted exactly where some accepted run of these two leaves exactly these bytes.
+  -- With a geometry and a UUID handed in, the head of group k is accepted exactly where some accepted run of these two leaves exactly these
+  -- bytes.
   pub other-head : (g : Geometry) (u : List ℕ) (k : ℕ) (xs : List ℕ) → Handed g u → (readGroup g u k xs .number ≡ 0) ↔ Leaves g u k xs
   -- So it is with the log's first block.
   pub log-block : (g : Geometry) (u xs : List ℕ) → Handed g u → (readLog g u xs ≡ 0) ↔ LeavesLog g u xs
-  -- A disk is accepted whole, the other places read with what group 0's head gave, exactly where one accepted run leaves all its heads and its log block.
+  -- A disk is accepted whole, the other places read with what group 0's head gave, exactly where one accepted run leaves all its heads and
+  -- its log block.
   pub whole-disk : (heads : ℕ → List ℕ) (log : List ℕ) → Octets (heads 0) → ReadWhole heads log ↔ ByRecords heads log
-  -- Taken part by part, first group 0's head, then the others, then the log block, a disk ends with 0 exactly where there is one head for each group
+  -- Taken part by part, first group 0's head, then the others, then the log block, a disk ends with 0 exactly where there is one head for
+  -- each group
   -- and it is accepted whole.
   pub in-parts : (head : List ℕ) (others : List (List ℕ)) (log : List ℕ) → Octets head
       → (inParts head others log .number ≡ 0) ↔ ((readGroup0 head .geometry .agcount ≡ length others + 1) × ReadWhole (headsOf head others) log)
-  -- On a disk accepted whole, with the geometry that group 0's head gave, each block of each group has exactly one of five uses, decoded from the bytes.
+  -- On a disk accepted whole, with the geometry that group 0's head gave, each block of each group has exactly one of five uses, decoded
+  -- from the bytes.
   pub one-use : (heads : ℕ → List ℕ) (log : List ℕ) → Octets (heads 0) → ReadWhole heads log → (g : Geometry) → readGroup0 (heads 0) .geometry ≡ g
       → (k b : ℕ) → k < g .agcount → b < groupBlocks (g .dblocks) (g .agsize) (g .agcount) k → Once (usesIn g (heads 0) (heads k) k b)
-  -- Over all groups, free blocks and free-list blocks are the superblock's free count; and this, the heads, the log and the chunk are all blocks.
+  -- Over all groups, free blocks and free-list blocks are the superblock's free count; and this, the heads, the log and the chunk are all
+  -- blocks.
   pub totals : (heads : ℕ → List ℕ) (log : List ℕ) → Octets (heads 0) → ReadWhole heads log → (g : Geometry) → readGroup0 (heads 0) .geometry ≡ g
       → (freeTotal g heads + listTotal g heads ≡ countIn (heads 0))
       × (countIn (heads 0) + g .agcount * headBlocks g + logIn g (heads 0) .blocks + chunkTotal g heads ≡ g .dblocks)
-  -- Power lost: once the first record is written and until the finished superblock is, group 0 gets 30; from that record on all is read back.
+  -- Power lost: once the first record is written and until the finished superblock is, group 0 gets 30; from that record on all is read
+  -- back.
   pub interrupted : (r : Request) → AcceptedRun r → (old : Device) (n : ℕ)
       → (0 < n → n ≤ beforeFinished (runOf r .geometry) → readGroup0 (headOn (runOf r .geometry) (stopped r n old) 0) .number ≡ 30)
       × (beforeFinished (runOf r .geometry) < n → ReadBack r (stopped r n old))

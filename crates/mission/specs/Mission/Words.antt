@@ -1,4 +1,5 @@
--- The words of the page: those that no crate below has (what a run leaves, said by its written records alone; a device that is read back; a run that is
+-- The words of the page: those that no crate below has (what a run leaves, said by its written records alone; a device that is read back; a
+-- run that is
 -- stopped), and, by `pub use`, where each other word stands.
 -- Assumes nothing.
 use mathlib.Core.Path.{_≡_}
@@ -51,7 +52,8 @@ pub use Rattle.reader_disk.specs.Whole.{inParts, headsOf}
 pub use Rattle.reader_decoded.specs.Decoded.{logIn, countIn}
 pub use Rattle.reader_uses.specs.ByUse.{usesIn, Once, freeTotal, listTotal, chunkTotal}
 
--- Some accepted run with geometry g and UUID u leaves exactly the bytes xs as the head of group k: whatever the device held before, they stand
+-- Some accepted run with geometry g and UUID u leaves exactly the bytes xs as the head of group k: whatever the device held before, they
+-- stand
 -- there when the run's written records have been applied.
 pub record Leaves (g : Geometry) (u : List ℕ) (k : ℕ) (xs : List ℕ) : Type 0 where
   pub run : Source g u
@@ -69,7 +71,8 @@ pub record SomeLeaves (xs : List ℕ) : Type 0 where
   pub uuid : List ℕ
   pub leaves : Leaves geometry uuid 0 xs
 
--- The reader gets everything of the run back from a device: its geometry as it is reported, its UUID, the plan of every group; and it accepts the log block.
+-- The reader gets everything of the run back from a device: its geometry as it is reported, its UUID, the plan of every group; and it
+-- accepts the log block.
 pub record ReadBack (r : Request) (d : Device) : Type 0 where
   pub first : readGroup0 (headOn (runOf r .geometry) d 0) ≡ found (reported (runOf r .geometry)) (runOf r .uuid) (planned (runOf r .geometry) 0 .plan)
   pub group : (k : ℕ) → k < runOf r .geometry .agcount
