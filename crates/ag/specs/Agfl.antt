@@ -4,7 +4,7 @@ use mathlib.Core.List.{List, [], _∷_, _++_}
 use Prim.Native.Nat.{ℕ, suc, _-_, _/_, _%_}
 use lib.Dec.{leb}
 use lib.ListN.{length, set, replicate}
-use Rattle.endian.specs.Answer.{wrongLength}
+use Rattle.refusals.specs.Numbers.{wrongLength, tooManyRecords}
 use Rattle.endian.specs.Bytes.{runBytes}
 use Rattle.endian.specs.Fields.{Field, field, run, write}
 use Rattle.crc.specs.Crc.{stamped}
@@ -15,12 +15,8 @@ use Rattle.structs.specs.Written.{null32, require}
 abbrev pub agflMagic : ℕ
 agflMagic = 0x5841_464c
 
--- the refusal of a list of more than 64
-abbrev pub tooMany : ℕ
-tooMany = 34
-
 unfoldable pub agflNumber : ℕ → ℕ → ℕ
-agflNumber count len = require wrongLength (isSector len) (require tooMany (leb count 64) 0)
+agflNumber count len = require wrongLength (isSector len) (require tooManyRecords (leb count 64) 0)
 
 -- the slots of 4 bytes behind the header
 abbrev pub slotsOf : ℕ → ℕ

@@ -1,7 +1,7 @@
 -- What the headers of a group share.
 -- Assumes nothing.
 use Prim.Native.Nat.{ℕ}
-use Rattle.endian.specs.Answer.{wrongLength}
+use Rattle.refusals.specs.Numbers.{wrongLength}
 use Rattle.structs.specs.Sizes.{isSector}
 use Rattle.structs.specs.Written.{require}
 

@@ -46,7 +46,7 @@ impl Agf {
         ensures { λ r. ⌜ Written (sectorNumber (length (now (sector .entry)))) (agfBytes self (now (uuid .entry)) (now (sector .entry))) (now (sector .entry)) r (now (sector .exit)) ⌝ }
     {
         if !is_sector(sector.len()) {
-            return endian::WRONG_LENGTH;
+            return refusals::WRONG_LENGTH;
         }
         let front: [u32; 16] = [
             AGF_MAGIC, // agf_magicnum

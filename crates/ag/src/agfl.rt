@@ -11,9 +11,6 @@ use structs::is_sector;
 // "XAFL"
 pub const AGFL_MAGIC: u64 = 0x5841_464c;
 
-// The refusal of a list of more than 64.
-pub const TOO_MANY: u32 = 34;
-
 // Offsets in `struct xfs_agfl`, each under its field's name without agfl_; the slots start at the last.
 pub mod off {
     pub const MAGICNUM: usize = 0;
@@ -66,10 +63,10 @@ pub fn encode_agfl(
     ensures { λ r. ⌜ Written (agflNumber count (length (now (sector .entry)))) (agflBytes seqno (now (uuid .entry)) first (take count list) (now (sector .entry))) (now (sector .entry)) r (now (sector .exit)) ⌝ }
 {
     if !is_sector(sector.len()) {
-        return endian::WRONG_LENGTH;
+        return refusals::WRONG_LENGTH;
     }
     if 64 < count {
-        return TOO_MANY;
+        return refusals::TOO_MANY_RECORDS;
     }
     put_header(sector, seqno, uuid);
     put_slots(sector, first, list, count);

@@ -56,7 +56,7 @@ impl Agi {
         ensures { λ r. ⌜ Written (sectorNumber (length (now (sector .entry)))) (agiBytes self (now (uuid .entry)) (now (sector .entry))) (now (sector .entry)) r (now (sector .exit)) ⌝ }
     {
         if !is_sector(sector.len()) {
-            return endian::WRONG_LENGTH;
+            return refusals::WRONG_LENGTH;
         }
         let front: [u32; 10] = [
             AGI_MAGIC, // agi_magicnum

@@ -1,160 +1,153 @@
-// Applies a list of written records, read from standard input, in order to an existing file or device. It makes no file and shortens none.
-// `list_read` says what a record is, and where a list ends; here bytes are only moved. The first record that can't be applied ends the program.
+// Applies a list of written records, read from standard input, in order to an existing file or device. It makes no file and shortens none, and
+// extends a plain file only where it is told to: a record that ends behind the file or device stops it, and where that is one of a run's first
+// two, nothing was changed.
+// `list_apply` says what is to be read next and what is to be done with it; here bytes are only moved.
 mod input; // reading
 mod output; // writing
 
-ghost use Prim.Native.Nat.{_+_, _≤_};
-ghost use Rattle.list_read.specs.Records.{largest};
+ghost use mathlib.Core.Path.{_≡_};
+ghost use Prim.Native.Nat.{_≤_};
+ghost use lib.ListN.{length};
+ghost use Rattle.list_apply.specs.Applying.{begun};
+ghost use Rattle.list_apply.specs.Turns.{Fed};
+use libc::SEEK_END;
 use libc::STDERR_FILENO;
 use libc::STDOUT_FILENO;
+use list_apply::Applying;
+use list_apply::BEHIND;
+use list_apply::CUT;
+use list_apply::ENDED;
+use list_apply::FIRST;
+use list_apply::GOES_ON;
+use list_apply::MALFORMED;
+use list_apply::Step;
+use list_apply::TOO_FAR;
+use list_apply::begin;
+use list_apply::feed;
+use list_apply::kept_of;
+use list_apply::record_of;
+use list_apply::stop_of;
+use list_apply::wants;
+use list_read::BYTES;
+use list_read::FLUSH;
+use list_read::ZEROS;
 
-// How it stands with the list: it goes on, or why it ended.
-pub(crate) const GOES_ON: u8 = 0;
+// What became of a piece: it is done, or the call that failed.
+pub(crate) const DONE: u8 = 0;
 
-pub(crate) const ENDED: u8 = 1;
+pub(crate) const READ_FAILED: u8 = 1;
 
-pub(crate) const CUT: u8 = 2; // the input ended before the second flush
+pub(crate) const WRITE_FAILED: u8 = 2;
 
-pub(crate) const MALFORMED: u8 = 3;
+pub(crate) const NOTHING_TAKEN: u8 = 3; // a write that took no byte, and named no error
 
-pub(crate) const BEHIND: u8 = 4; // a record behind the second flush
+pub(crate) const FLUSH_FAILED: u8 = 4;
 
-pub(crate) const TOO_FAR: u8 = 5;
-
-pub(crate) const READ_FAILED: u8 = 6;
-
-pub(crate) const WRITE_FAILED: u8 = 7;
-
-pub(crate) const NOTHING_TAKEN: u8 = 8; // a write that took no byte, and named no error
-
-pub(crate) const FLUSH_FAILED: u8 = 9;
-
-// The record that is being applied, counted from 1; how many flushes are past; and what is left of the record: its kind, where its next
-// byte goes, and how many are to come.
+// The list so far, which call failed, the record in hand or at which it failed, and whether the list goes on.
 struct Progress {
-    stop: u8,
+    applying: Applying,
+    failed: u8,
     record: u64,
-    flushes: u8,
-    kind: u8,
-    at: u64,
-    left: u64,
+    goes_on: bool,
 }
 
-// No record in hand: before the first one, or where the list stopped.
-fn idle(stop: u8, record: u64) -> Progress
-    ensures { λ r. ⌜ r .at + r .left ≤ largest ⌝ }
+// Zeros, and then a flush.
+fn put_and_flush(fd: i32, zeros: &[u8], len: usize, at: u64) -> u8 {
+    let failed = output::put_zeros(fd, zeros, len as u64, at);
+    if failed != DONE {
+        return failed;
+    }
+    output::flush(fd)
+}
+
+// What a step asks for: the first record's zeros and a flush, zeros, the bytes that were read, or a flush.
+fn perform(fd: i32, s: Step, zeros: &[u8], buf: &[u8]) -> u8 {
+    if s.action == FIRST {
+        return put_and_flush(fd, zeros, s.len, s.at);
+    }
+    if s.action == FLUSH {
+        return output::flush(fd);
+    }
+    if s.action == ZEROS {
+        return output::put_bytes(fd, zeros, s.len, s.at);
+    }
+    if s.action == BYTES {
+        return output::put_bytes(fd, buf, s.len, s.at);
+    }
+    DONE
+}
+
+// The record that a step is for.
+fn record_for(a: Applying, action: u8) -> u64 {
+    if action == FIRST {
+        return 1;
+    }
+    record_of(a)
+}
+
+// A call failed, at this record: the list stays where it was.
+fn halted(a: Applying, failed: u8, record: u64) -> Progress
+    ensures { λ r. ⌜ r .applying ≡ a ⌝ }
 {
     Progress {
-        stop,
+        applying: a,
+        failed,
         record,
-        flushes: 0,
-        kind: 0,
-        at: 0,
-        left: 0,
+        goes_on: false,
     }
 }
 
-// Why there is no next record: the list is cut where the input ends before its second flush.
-fn no_head(stop: u8, flushes: u8) -> u8 {
-    if stop == ENDED && list_read::ended(flushes) != 0 {
-        return CUT;
-    }
-    stop
-}
-
-// The next record. It is refused before anything of it is applied.
-fn begin(fd: i32, record: u64, flushes: u8) -> Progress
-    ensures { λ r. ⌜ r .at + r .left ≤ largest ⌝ }
+// Feeds the first n bytes of the buffer, and does what they ask for.
+fn feed_first(fd: i32, a: Applying, n: usize, zeros: &[u8], buf: &[u8]) -> Progress
+    requires { ⌜ n ≤ length (now buf) ⌝ }
+    ensures { λ r. ⌜ Fed (length (now (buf .entry))) a (r .applying) ⌝ }
 {
-    let h = input::read_head();
-    let d = h.head;
-    if h.stop != GOES_ON {
-        return idle(no_head(h.stop, flushes), record);
+    let s = feed(a, &buf[..n], buf.len());
+    let failed = perform(fd, s, zeros, buf);
+    if failed != DONE {
+        return halted(a, failed, record_for(a, s.action));
     }
-    let passed = list_read::next(flushes, d.kind);
-    if passed.number != 0 {
-        return idle(BEHIND, record);
-    }
-    if !list_read::within(d.at, d.len) {
-        return idle(TOO_FAR, record);
-    }
-    let stop = output::flush_where(fd, d.kind == list_read::FLUSH);
+    let next = s.applying;
     Progress {
-        stop,
-        record,
-        flushes: passed.flushes,
-        kind: d.kind,
-        at: d.at,
-        left: d.len,
+        applying: next,
+        failed: DONE,
+        record: record_of(next),
+        goes_on: stop_of(next) == GOES_ON,
     }
 }
 
-// The record once `n` more of its bytes were written, or a write stopped.
-fn further(p: Progress, stop: u8, n: usize, left: u64) -> Progress
-    requires { ⌜ (p .at + p .left ≤ largest) × (n + left ≤ p .left) ⌝ }
-    ensures { λ r. ⌜ r .at + r .left ≤ largest ⌝ }
+// Reads what is wanted, behind what is kept of it, and feeds it.
+fn take_turn(fd: i32, a: Applying, zeros: &[u8], buf: &mut [u8]) -> Progress
+    ensures { λ r. ⌜ Fed (length (now (buf .entry))) a (r .applying) ⌝ }
 {
-    Progress {
-        stop,
-        record: p.record,
-        flushes: p.flushes,
-        kind: p.kind,
-        at: p.at + n as u64,
-        left,
+    let i = input::fill_wanted(kept_of(a), wants(a, buf.len()), buf);
+    if i.failed {
+        return halted(a, READ_FAILED, record_of(a));
     }
+    feed_first(fd, a, i.n, zeros, buf)
 }
 
-// The next piece of zeros.
-fn put_zeros(fd: i32, p: Progress, zeros: &[u8]) -> Progress
-    requires { ⌜ p .at + p .left ≤ largest ⌝ }
-    ensures { λ r. ⌜ r .at + r .left ≤ largest ⌝ }
+// All records, as far as the limit. A proved loop has to end, so it counts its turns down from a number that no list uses up.
+fn apply(fd: i32, limit: u64, zeros: &[u8], buf: &mut [u8]) -> Progress
+    ensures { λ r. ⌜ Fed (length (now (buf .entry))) (begun limit) (r .applying) ⌝ }
 {
-    let piece = list_read::body(p.left, zeros.len(), false);
-    let stop = output::put_first(fd, zeros, piece.here, p.at);
-    further(p, stop, piece.here, piece.left)
-}
-
-// The next piece of the record's bytes.
-fn put_bytes(fd: i32, p: Progress, buf: &mut [u8]) -> Progress
-    requires { ⌜ p .at + p .left ≤ largest ⌝ }
-    ensures { λ r. ⌜ r .at + r .left ≤ largest ⌝ }
-{
-    let i = input::read_piece(p.left, buf);
-    if i.stop != GOES_ON {
-        return idle(i.stop, p.record);
-    }
-    let stop = output::put_first(fd, buf, i.here, p.at);
-    further(p, stop, i.here, i.left)
-}
-
-// One piece of a record, or the head of the next one. No list has so many records that their count wraps.
-fn turn(fd: i32, p: Progress, zeros: &[u8], buf: &mut [u8]) -> Progress
-    requires { ⌜ p .at + p .left ≤ largest ⌝ }
-    ensures { λ r. ⌜ r .at + r .left ≤ largest ⌝ }
-{
-    if p.left == 0 {
-        return begin(fd, std::num::wrapping_add_u64(p.record, 1), p.flushes);
-    }
-    if p.kind == list_read::ZEROS {
-        return put_zeros(fd, p, zeros);
-    }
-    put_bytes(fd, p, buf)
-}
-
-// All records. A proved loop has to end, so it counts its turns down from a number that no list uses up.
-fn apply(fd: i32, zeros: &[u8], buf: &mut [u8]) -> Progress {
-    let mut p = idle(GOES_ON, 0);
+    let mut p = Progress {
+        applying: begin(limit),
+        failed: DONE,
+        record: 1,
+        goes_on: true,
+    };
     let mut turns = u64::MAX;
-    while 0 < turns && p.stop == GOES_ON {
-        p = turn(fd, p, zeros, buf);
+    while 0 < turns && p.goes_on {
+        p = take_turn(fd, p.applying, zeros, buf);
         turns -= 1;
     }
     p
 }
 
 // The call that failed and its error, before any other call, while errno is still that call's.
-fn name_error(stop: u8) {
-    match stop {
+fn name_error(failed: u8) {
+    match failed {
         READ_FAILED => os::fail(b"standard input"),
         WRITE_FAILED => os::fail(b"write"),
         FLUSH_FAILED => os::fail(b"flush"),
@@ -162,11 +155,25 @@ fn name_error(stop: u8) {
     }
 }
 
-// What ended the list, on standard error: at which record, and why.
-fn report(stop: u8, record: u64) {
-    name_error(stop);
+fn print_record(record: u64) {
     io::write_all(STDERR_FILENO, b"record ");
     io::print_decimal(STDERR_FILENO, record);
+}
+
+// A call that failed, on standard error: at which record.
+fn report_failed(failed: u8, record: u64) {
+    name_error(failed);
+    print_record(record);
+    if failed == NOTHING_TAKEN {
+        io::write_all(STDERR_FILENO, b": no room\n");
+        return;
+    }
+    io::write_all(STDERR_FILENO, b": failed\n");
+}
+
+// A record that can't be applied, on standard error: which, and why.
+fn report_stopped(stop: u8, record: u64) {
+    print_record(record);
     match stop {
         MALFORMED => {
             io::write_all(STDERR_FILENO, b": malformed or cut\n");
@@ -178,10 +185,10 @@ fn report(stop: u8, record: u64) {
             );
         }
         TOO_FAR => {
-            io::write_all(STDERR_FILENO, b": ends above 9223372036854775807 bytes\n");
-        }
-        NOTHING_TAKEN => {
-            io::write_all(STDERR_FILENO, b": no room\n");
+            io::write_all(
+                STDERR_FILENO,
+                b": ends behind the file or device, and isn't applied (--extend extends a plain file)\n",
+            );
         }
         _ => {
             io::write_all(STDERR_FILENO, b": failed\n");
@@ -190,48 +197,112 @@ fn report(stop: u8, record: u64) {
 }
 
 // A line that ends with the number of the last record that was applied.
-fn print_last(fd: i32, words: &[u8], p: Progress) -> bool {
-    let n = std::num::wrapping_sub_u64(p.record, 1);
+fn print_last(fd: i32, words: &[u8], record: u64) -> bool {
+    let n = std::num::wrapping_sub_u64(record, 1);
     io::write_all(fd, words) && io::print_decimal(fd, n) && io::write_all(fd, b"\n")
 }
 
 // The list's last word: how many records it had, on standard output, once all are applied.
 fn finish(p: Progress) {
-    if p.stop == CUT {
-        print_last(STDERR_FILENO, b"list cut after record ", p);
+    let record = p.record;
+    if p.failed != DONE {
+        report_failed(p.failed, record);
         return;
     }
-    if p.stop != ENDED {
-        report(p.stop, p.record);
+    let stop = stop_of(p.applying);
+    if stop == CUT {
+        print_last(STDERR_FILENO, b"list cut after record ", record);
         return;
     }
-    if !print_last(STDOUT_FILENO, b"records applied: ", p) {
+    if stop != ENDED {
+        report_stopped(stop, record);
+        return;
+    }
+    if !print_last(STDOUT_FILENO, b"records applied: ", record) {
         os::fail(b"standard output");
     }
 }
 
-// Opens the file that the argument names; it has to be there.
-fn open() -> i32 {
-    let mut path = io::buffer();
-    let n = os::arg(1, &mut path);
-    if n == 0 && os::errno() != 0 {
-        return -1;
-    }
-    os::open_update(&path[..n])
+fn usage(fd: i32) {
+    io::write_all(fd, b"usage: applylist [--extend] PATH < LIST\n");
+    io::write_all(
+        fd,
+        b"Applies a list to a file or device that is there. --extend: a plain file may become longer.\n",
+    );
 }
 
-fn main() {
-    if os::arg_count() != 2 {
-        io::write_all(STDERR_FILENO, b"usage: applylist PATH < LIST\n");
-        return;
+// Opens the file that argument i names; it has to be there.
+fn open(i: usize) -> i32 {
+    let mut path = io::buffer();
+    let n = os::arg(i, &mut path);
+    if n == 0 && os::errno() != 0 {
+        os::fail(b"path");
+        return -1;
     }
-    let fd = open();
+    let fd = os::open_update(&path[..n]);
     if fd < 0 {
-        os::fail(b"open");
+        io::write_all(STDERR_FILENO, b"open: ");
+        os::fail(&path[..n]);
+    }
+    fd
+}
+
+// Where the last byte may end: the end of the file or device, or of the largest file where it may be extended.
+fn limit_of(fd: i32, extends: bool) -> i64 {
+    if extends {
+        return i64::MAX;
+    }
+    libc::lseek(fd, 0, SEEK_END)
+}
+
+// An offset that isn't negative, as a number of bytes.
+fn bytes_to(end: i64) -> u64 {
+    if end < 0 {
+        return 0;
+    }
+    end as u64
+}
+
+// Applies the list to an open file or device.
+fn apply_open(fd: i32, extends: bool) {
+    let end = limit_of(fd, extends);
+    if end < 0 {
+        os::fail(b"size");
         return;
     }
     let zeros = io::large_buffer();
     let mut buf = io::large_buffer();
-    let p = apply(fd, &zeros, &mut buf);
+    let p = apply(fd, bytes_to(end), &zeros, &mut buf);
     finish(p);
+}
+
+// Applies the list to what argument i names, the last of `count` words.
+fn apply_to(i: usize, count: usize, extends: bool) {
+    if os::arg_count() != count {
+        usage(STDERR_FILENO);
+        return;
+    }
+    let fd = open(i);
+    if 0 <= fd {
+        apply_open(fd, extends);
+    }
+}
+
+// Whether the first argument is this word.
+fn is_word(word: &[u8]) -> bool {
+    let mut argument = io::buffer();
+    let n = os::arg(1, &mut argument);
+    check::same(&argument[..n], word)
+}
+
+fn main() {
+    if is_word(b"--help") {
+        usage(STDOUT_FILENO);
+        return;
+    }
+    if is_word(b"--extend") {
+        apply_to(2, 3, true);
+        return;
+    }
+    apply_to(1, 2, false);
 }

@@ -5,12 +5,11 @@ use mathlib.Core.List.{List, [], _∷_, _++_}
 use Prim.Native.Nat.{ℕ, _+_}
 use lib.Dec.{leb}
 use lib.ListN.{replicate}
-use Rattle.endian.specs.Answer.{wrongLength}
+use Rattle.refusals.specs.Numbers.{wrongLength, tooManyRecords}
 use Rattle.endian.specs.Fields.{Field, field, run, write}
 use Rattle.crc.specs.Crc.{stamped}
 use Rattle.structs.specs.Sizes.{isBlock}
 use Rattle.structs.specs.Written.{null32, require}
-use Rattle.btree.specs.Records.{tooMany}
 
 -- where the records begin
 abbrev pub headerSize : ℕ
@@ -18,7 +17,7 @@ headerSize = 56
 
 -- 27 for a length that is no block's, 34 for records that don't fit the block
 unfoldable pub leafNumber : ℕ → ℕ → ℕ
-leafNumber used len = require wrongLength (isBlock len) (require tooMany (leb (headerSize + used) len) 0)
+leafNumber used len = require wrongLength (isBlock len) (require tooManyRecords (leb (headerSize + used) len) 0)
 
 -- the header
 unfoldable pub leafHeader : ℕ → ℕ → ℕ → List ℕ → ℕ → List Field

@@ -5,16 +5,12 @@ use mathlib.Core.Bool.{Bool, true, false}
 use Prim.Native.Nat.{ℕ, _*_}
 use lib.Dec.{leb, eqb}
 use lib.ListN.{replicate}
-use Rattle.endian.specs.Answer.{wrongLength}
+use Rattle.refusals.specs.Numbers.{wrongLength, tooManyRecords}
 use Rattle.endian.specs.Fields.{Field, field, write}
 use Rattle.structs.specs.Written.{require}
 use Rattle.btree.specs.declared.records.AllocRec.{AllocRec}
 use Rattle.btree.specs.declared.records.InobtRec.{InobtRec}
 use Rattle.btree.specs.declared.records.RmapRec.{RmapRec}
-
--- the refusal of more records than 64, or than fit a block
-abbrev pub tooMany : ℕ
-tooMany = 34
 
 -- the sizes of the records, in bytes
 abbrev pub allocSize : ℕ
@@ -28,7 +24,7 @@ rmapSize = 24
 
 -- a written list of records is its count × the record size bytes, and at most 64 records long
 unfoldable pub recsNumber : ℕ → ℕ → ℕ → ℕ
-recsNumber size count len = require wrongLength (eqb len (size * count)) (require tooMany (leb count 64) 0)
+recsNumber size count len = require wrongLength (eqb len (size * count)) (require tooManyRecords (leb count 64) 0)
 
 -- the bytes of the records, one after the other
 abbrev pub listed : {A : Type 0} → (A → List ℕ) → List A → List ℕ

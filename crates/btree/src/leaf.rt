@@ -82,10 +82,10 @@ pub fn leaf_block(
     ensures { λ r. ⌜ Written (leafNumber (length (now (recs .entry))) (length (now (block .entry)))) (leafBytes magic daddr agno (now (uuid .entry)) (now (recs .entry)) numrecs (length (now (block .entry)))) (now (block .entry)) r (now (block .exit)) ⌝ }
 {
     if !is_block(block.len()) {
-        return endian::WRONG_LENGTH;
+        return refusals::WRONG_LENGTH;
     }
     if !endian::inside(block.len(), off::RECS, recs.len()) {
-        return crate::records::TOO_MANY_RECORDS;
+        return refusals::TOO_MANY_RECORDS;
     }
     endian::put_same(block, 0, block.len(), 0);
     put_header(magic, daddr, agno, uuid, numrecs, block);

@@ -1,8 +1,5 @@
 // The records of the trees. Crate btree_records has their bytes one after the other.
 
-// The refusal of more records than 64, or than fit a block.
-pub const TOO_MANY_RECORDS: u32 = 34;
-
 // The sizes of the records, in bytes.
 pub const ALLOC_REC: usize = 8;
 

@@ -12,7 +12,7 @@ use btree::RmapRec;
 use btree::records::ALLOC_REC;
 use btree::records::INOBT_REC;
 use btree::records::RMAP_REC;
-use btree::records::TOO_MANY_RECORDS;
+use refusals::TOO_MANY_RECORDS;
 
 // 27 unless `len` is what `count` records of `size` bytes need, 34 above 64.
 fn number(size: usize, count: usize, len: usize) -> u32
@@ -20,10 +20,10 @@ fn number(size: usize, count: usize, len: usize) -> u32
     ensures { λ r. ⌜ r ≡ recsNumber size count len ⌝ }
 {
     if len / size != count {
-        return endian::WRONG_LENGTH;
+        return refusals::WRONG_LENGTH;
     }
     if len % size != 0 {
-        return endian::WRONG_LENGTH;
+        return refusals::WRONG_LENGTH;
     }
     if 64 < count {
         return TOO_MANY_RECORDS;

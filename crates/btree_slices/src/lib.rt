@@ -17,13 +17,13 @@ fn number(size: usize, count: usize, len: usize) -> u32
     ensures { λ r. ⌜ r ≡ recsNumber size count len ⌝ }
 {
     if len / size != count {
-        return endian::WRONG_LENGTH;
+        return refusals::WRONG_LENGTH;
     }
     if len % size != 0 {
-        return endian::WRONG_LENGTH;
+        return refusals::WRONG_LENGTH;
     }
     if 64 < count {
-        return btree::records::TOO_MANY_RECORDS;
+        return refusals::TOO_MANY_RECORDS;
     }
     0
 }

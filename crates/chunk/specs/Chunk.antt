@@ -5,6 +5,7 @@ use mathlib.Core.Bool.{not}
 use mathlib.Core.List.{List, [], _∷_, _++_}
 use Prim.Native.Nat.{ℕ, _+_, _*_}
 use lib.Dec.{leb, eqb}
+use Rattle.refusals.specs.Numbers.{noAnswer, timeOutOfRange, wrongLength, noPlace}
 use Rattle.refusals.specs.Table.{_if_}
 use Rattle.refusals.specs.Table as table
 use Rattle.structs.specs.Written.{Written}
@@ -74,10 +75,10 @@ chunkLength g = chunkOf (g .inodesize) (g .blocksize) * g .blocksize
 unfoldable pub chunkNumber : Geometry → ℕ → Timestamp → ℕ → ℕ
 chunkNumber g agbno time len =
     table.first
-    (31 if not (isAnswer g)
-    ∷ 26 if not (timeInside (g .features .bigtime) (time .secs) (time .nsecs))
-    ∷ 27 if not (eqb len (chunkLength g))
-    ∷ 29 if not (leb (agbno + chunkOf (g .inodesize) (g .blocksize)) (groupBlocks (g .dblocks) (g .agsize) (g .agcount) 0))
+    (noAnswer if not (isAnswer g)
+    ∷ timeOutOfRange if not (timeInside (g .features .bigtime) (time .secs) (time .nsecs))
+    ∷ wrongLength if not (eqb len (chunkLength g))
+    ∷ noPlace if not (leb (agbno + chunkOf (g .inodesize) (g .blocksize)) (groupBlocks (g .dblocks) (g .agsize) (g .agcount) 0))
     ∷ []) 0
 
 -- What `root_chunk` answers and leaves: the number and the bytes, and the state after the draws, 0 beside a refusal.

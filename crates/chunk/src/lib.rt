@@ -16,11 +16,6 @@ use geometry_counts::inodes::chunk_of;
 use inode_time::encode_time;
 use params::Timestamp;
 
-// The refusals of a geometry that is no answer of the geometry step, and of a block that is none of group 0.
-pub const NO_ANSWER: u32 = 31;
-
-pub const NO_PLACE: u32 = 29;
-
 // The number is 0 for a chunk that was written; a refusal has the state 0.
 pub struct Chunked {
     pub number: u32,
@@ -32,7 +27,7 @@ fn refusal(g: Geometry, agbno: u64, time: Timestamp, len: usize) -> u32
     ensures { λ r. ⌜ r ≡ chunkNumber g agbno time len ⌝ }
 {
     if !is_answer(g) {
-        return NO_ANSWER;
+        return refusals::NO_ANSWER;
     }
     let f = g.features;
     let stored = encode_time(time, f.bigtime);
@@ -43,10 +38,10 @@ fn refusal(g: Geometry, agbno: u64, time: Timestamp, len: usize) -> u32
     let bs = g.blocksize as u64;
     let chunk = chunk_of(g.inodesize, bs);
     if (len as u64) != chunk * bs {
-        return endian::WRONG_LENGTH;
+        return refusals::WRONG_LENGTH;
     }
     if !endian::inside(g.agsize as usize, agbno as usize, chunk as usize) {
-        return NO_PLACE;
+        return refusals::NO_PLACE;
     }
     0
 }

@@ -6,8 +6,8 @@ ghost use Rattle.crc.specs.Crc.{crc32cOf, cksumOf, stamped, verified};
 use crc_loops::update;
 use crc_loops::update_zeroed;
 use endian::Read32;
-use endian::WRONG_LENGTH;
 use endian::inside;
+use refusals::WRONG_LENGTH;
 
 // All bits set: the register's start.
 const START: u32 = 0xffff_ffff;

@@ -16,7 +16,7 @@ use lib.Seq.{getD-append-add, ext-getD, getD-drop}
 use lib.Bits.{bitXor, xor-shifted, xor-zero-r, xor-zero-l, xor-comm, xor-lt, bitOr, or-add-and, and-le-l, and-le-r}
 use Rattle.crc_register.proofs.Xor.{by-digit, xor-assoc}
 use Rattle.crc_register.proofs.Register.{bits-sum, bits-in, byte-in, bytes-append, update-turn}
-use Rattle.crc_register.specs.Register.{crcBit, crcBits, crcBytes, zeroed}
+use Rattle.crc_register.specs.Register.{polynomial, crcBit, crcBits, crcBytes, zeroed}
 use Rattle.crc_register.specs.Tables.{made, itself, bit, through, rows, row, byteTable, leapTable, zeroByte, sliceTable}
 
 -- ---- bits after bits
@@ -44,7 +44,7 @@ zero-bytes (suc n) c =
 -- the register keeps its width
 bit-lt : (c : ℕ) → c < 2 ^ 32 → crcBit c 0 < 2 ^ 32
 unfolding crcBit
-bit-lt c h = xor-lt 32 (c / 2) ((c + 0) % 2 * 0x82f6_3b78) (omega arith) (omega arith)
+bit-lt c h = xor-lt 32 (c / 2) ((c + 0) % 2 * polynomial) (omega arith) (let l : (c + 0) % 2 * 0x82f6_3b78 < 2 ^ 32 = omega arith in l)
 
 pub bits-lt : (m c : ℕ) → c < 2 ^ 32 → crcBits m c 0 < 2 ^ 32
 unfolding crcBits

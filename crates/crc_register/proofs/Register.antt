@@ -12,26 +12,30 @@ use lib.Seq.{drop-cons, take-all}
 use lib.Bits.{bitXor, xor-zero-r, xor-comm, xor-shifted, xor-shr}
 use Rattle.endian.proofs.Laws.{patch-split}
 use Rattle.crc_register.proofs.Xor.{by-digit, xor-half, xor-odd, xor-assoc, xor-four}
-use Rattle.crc_register.specs.Register.{crcBit, crcBits, crcBytes, zeroed}
+use Rattle.crc_register.specs.Register.{polynomial, crcBit, crcBits, crcBytes, zeroed}
+
+-- the number that programs have for it
+pub polynomial-is : polynomial ≡ 0x82f6_3b78
+polynomial-is = refl
 
 -- the polynomial is added twice, or once, or not at all
-sums : (x y : ℕ) → (x + y) % 2 * 0x82f6_3b78 ≡ bitXor (x % 2 * 0x82f6_3b78) (y % 2 * 0x82f6_3b78)
+sums : (x y : ℕ) → (x + y) % 2 * polynomial ≡ bitXor (x % 2 * polynomial) (y % 2 * polynomial)
 sums x y =
     let e : (x + y) % 2 ≡ (x % 2 + y % 2) % 2 = omega arith in
-    ap (λ (k : ℕ). k * 0x82f6_3b78) e
-    ∙ by-digit (λ (p : ℕ). (p + y % 2) % 2 * 0x82f6_3b78 ≡ bitXor (p * 0x82f6_3b78) (y % 2 * 0x82f6_3b78))
-    (by-digit (λ (q : ℕ). (0 + q) % 2 * 0x82f6_3b78 ≡ bitXor (0 * 0x82f6_3b78) (q * 0x82f6_3b78)) refl refl (y % 2) (mod-lt y (lit< tt)))
-    (by-digit (λ (q : ℕ). (1 + q) % 2 * 0x82f6_3b78 ≡ bitXor (1 * 0x82f6_3b78) (q * 0x82f6_3b78)) refl refl (y % 2) (mod-lt y (lit< tt)))
+    ap (λ (k : ℕ). k * polynomial) e
+    ∙ by-digit (λ (p : ℕ). (p + y % 2) % 2 * polynomial ≡ bitXor (p * polynomial) (y % 2 * polynomial))
+    (by-digit (λ (q : ℕ). (0 + q) % 2 * polynomial ≡ bitXor (0 * polynomial) (q * polynomial)) refl refl (y % 2) (mod-lt y (lit< tt)))
+    (by-digit (λ (q : ℕ). (1 + q) % 2 * polynomial ≡ bitXor (1 * polynomial) (q * polynomial)) refl refl (y % 2) (mod-lt y (lit< tt)))
     (x % 2) (mod-lt x (lit< tt))
 
 -- a bit goes in: the two ways to write it
 bit-in : (c b : ℕ) → bitXor (crcBit c b) (b / 2) ≡ crcBit (bitXor c b) 0
 unfolding crcBit
 bit-in c b =
-    xor-assoc (c / 2) ((c + b) % 2 * 0x82f6_3b78) (b / 2)
-    ∙ ap (bitXor (c / 2)) (xor-comm ((c + b) % 2 * 0x82f6_3b78) (b / 2))
-    ∙ sym (xor-assoc (c / 2) (b / 2) ((c + b) % 2 * 0x82f6_3b78))
-    ∙ ap₂ (λ (x y : ℕ). bitXor x (y * 0x82f6_3b78)) (sym (xor-half c b)) (sym (xor-odd c b) ∙ ap (λ (k : ℕ). k % 2) (sym (add-zero (bitXor c b))))
+    xor-assoc (c / 2) ((c + b) % 2 * polynomial) (b / 2)
+    ∙ ap (bitXor (c / 2)) (xor-comm ((c + b) % 2 * polynomial) (b / 2))
+    ∙ sym (xor-assoc (c / 2) (b / 2) ((c + b) % 2 * polynomial))
+    ∙ ap₂ (λ (x y : ℕ). bitXor x (y * polynomial)) (sym (xor-half c b)) (sym (xor-odd c b) ∙ ap (λ (k : ℕ). k % 2) (sym (add-zero (bitXor c b))))
 
 -- n bits go in: as if the number was there from the start
 pub bits-in : (n c b : ℕ) → bitXor (crcBits n c b) (b / 2 ^ n) ≡ crcBits n (bitXor c b) 0
@@ -47,9 +51,9 @@ bit-sum : (x y : ℕ) → crcBit (bitXor x y) 0 ≡ bitXor (crcBit x 0) (crcBit 
 unfolding crcBit
 bit-sum x y =
     simp add-zero
-    (ap₂ (λ (p q : ℕ). bitXor p (q * 0x82f6_3b78)) (xor-half x y) (xor-odd x y)
+    (ap₂ (λ (p q : ℕ). bitXor p (q * polynomial)) (xor-half x y) (xor-odd x y)
     ∙ ap (bitXor (bitXor (x / 2) (y / 2))) (sums x y)
-    ∙ xor-four (x / 2) (y / 2) (x % 2 * 0x82f6_3b78) (y % 2 * 0x82f6_3b78))
+    ∙ xor-four (x / 2) (y / 2) (x % 2 * polynomial) (y % 2 * polynomial))
 
 pub bits-sum : (n x y : ℕ) → crcBits n (bitXor x y) 0 ≡ bitXor (crcBits n x 0) (crcBits n y 0)
 unfolding crcBits
@@ -62,7 +66,7 @@ unfolding crcBit
 bit-even y =
     let e : (y * 2 + 0) % 2 ≡ 0 = omega arith in
     let h : y * 2 / 2 ≡ y = omega arith in
-    ap₂ (λ (p q : ℕ). bitXor p (q * 0x82f6_3b78)) h e ∙ xor-zero-r y
+    ap₂ (λ (p q : ℕ). bitXor p (q * polynomial)) h e ∙ xor-zero-r y
 
 pub bits-high : (n y : ℕ) → crcBits n (y * 2 ^ n) 0 ≡ y
 unfolding crcBits

@@ -1,13 +1,22 @@
--- The register of CRC32C, a bit at a time (RFC 3720, 12.1: the polynomial 0x11edc6f41, here with its bits in reverse order, since the lowest bit of a byte goes first).
+-- The register of CRC32C, a bit at a time (RFC 3720, 12.1). The lowest bit of a byte goes first, so the polynomial's bits stand in reverse order.
 -- Assumes nothing.
 use mathlib.Core.List.{List, [], _∷_}
-use Prim.Native.Nat.{ℕ, zero, suc, _+_, _*_, _/_, _%_}
+use Prim.Native.Nat.{ℕ, zero, suc, _+_, _*_, _/_, _%_, _^_}
 use lib.Bits.{bitXor}
 use Rattle.endian.specs.Bytes.{patch}
 
+-- the `n` low bits of `v` in reverse order: the lowest becomes the highest
+abbrev pub reflected : ℕ → ℕ → ℕ
+reflected zero v = 0
+reflected (suc n) v = v % 2 * 2 ^ n + reflected n (v / 2)
+
+-- RFC 3720's polynomial 0x11edc6f41 below its highest term
+abbrev pub polynomial : ℕ
+polynomial = reflected 32 0x1edc_6f41
+
 -- The register `c` takes in a bit, the lowest of `b`: it goes down by a bit, and where the bit that falls out and the new one differ, the polynomial is added.
 unfoldable pub crcBit : ℕ → ℕ → ℕ
-crcBit c b = bitXor (c / 2) ((c + b) % 2 * 0x82f6_3b78)
+crcBit c b = bitXor (c / 2) ((c + b) % 2 * polynomial)
 
 -- the `n` low bits of `b`, the lowest first
 unfoldable pub crcBits : ℕ → ℕ → ℕ → ℕ

@@ -6,10 +6,7 @@ use mathlib.Core.Bool.{Bool, true, false}
 use Prim.Native.Nat.{ℕ}
 use lib.Dec.{leb}
 use lib.ListN.{length}
-
--- the refusal of a lent buffer that is not of the needed length
-abbrev pub wrongLength : ℕ
-wrongLength = 27
+use Rattle.refusals.specs.Numbers.{wrongLength}
 
 -- the first `m` bytes are there
 abbrev pub room : ℕ → List ℕ → Bool

@@ -6,7 +6,6 @@ pub mod runs; // bytes, copies of a byte, the fields of a structure, consecutive
 pub use numbers::Read16;
 pub use numbers::Read32;
 pub use numbers::Read64;
-pub use numbers::WRONG_LENGTH;
 pub use numbers::be16;
 pub use numbers::be32;
 pub use numbers::be64;

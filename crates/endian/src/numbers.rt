@@ -6,9 +6,6 @@ ghost use lib.Dec.{leb};
 ghost use Rattle.endian.specs.Answer.{Put, Got};
 ghost use Rattle.endian.specs.Bytes.{beBytes, beAt, patch};
 
-// The refusal of a lent buffer that is not of the needed length.
-pub const WRONG_LENGTH: u32 = 27;
-
 // A number that was read, with 0 or the refusal beside it; the value of a refused read is 0.
 pub struct Read16 {
     pub number: u32,
@@ -56,7 +53,7 @@ fn put(buf: &mut [u8], off: usize, n: usize, v: u64) -> u32
         store(buf, off, n, v);
         return 0;
     }
-    WRONG_LENGTH
+    refusals::WRONG_LENGTH
 }
 
 pub fn put8(buf: &mut [u8], off: usize, v: u8) -> u32
@@ -115,7 +112,7 @@ fn get(buf: &[u8], off: usize, n: usize) -> Read64
         };
     }
     Read64 {
-        number: WRONG_LENGTH,
+        number: refusals::WRONG_LENGTH,
         value: 0,
     }
 }

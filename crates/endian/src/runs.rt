@@ -6,9 +6,9 @@ ghost use lib.Dec.{T};
 ghost use Rattle.endian.specs.Answer.{Put};
 ghost use Rattle.endian.specs.Bytes.{patch, runBytes};
 ghost use Rattle.endian.specs.Fields.{write, table, fitting, tableFits, PutAll};
-use crate::numbers::WRONG_LENGTH;
 use crate::numbers::inside;
 use crate::numbers::store;
+use refusals::WRONG_LENGTH;
 
 fn copy(buf: &mut [u8], off: usize, src: &[u8])
     requires { ⌜ off + length (now src) ≤ length (now buf) ⌝ }

@@ -9,9 +9,9 @@ ghost use Rattle.endian_little.specs.Bytes.{leBytes, leAt};
 use endian::Read16;
 use endian::Read32;
 use endian::Read64;
-use endian::WRONG_LENGTH;
 use endian::inside;
 use endian::numbers::wide;
+use refusals::WRONG_LENGTH;
 
 fn store_le(buf: &mut [u8], off: usize, n: usize, v: u32)
     requires { ⌜ off + n ≤ length (now buf) ⌝ }

@@ -152,7 +152,7 @@ pub fn params_of(
 }
 
 // The number, and every field but the label.
-fn head(number: u8, g: Geometry) -> [u64; 21]
+fn head(number: u32, g: Geometry) -> [u64; 21]
     ensures { λ r. ⌜ r ≡ headOf number g ⌝ }
 {
     let f = g.features;

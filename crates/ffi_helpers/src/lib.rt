@@ -2,7 +2,7 @@
 ghost use mathlib.Core.Path.{_≡_};
 ghost use Prim.Native.Nat.{_/_, _^_};
 ghost use Rattle.arith.specs.Powers.{log2Up};
-ghost use Rattle.geometry_groups.specs.Limits.{minGroupBytes};
+ghost use Rattle.geometry.specs.Limits.{minGroupBytes};
 
 #[no_mangle]
 pub extern "C" fn zq_log2_roundup(n: u64) -> u8
@@ -15,5 +15,5 @@ pub extern "C" fn zq_log2_roundup(n: u64) -> u8
 pub extern "C" fn zq_ag_min_blocks(blocklog: u8) -> u64
     ensures { λ r. ⌜ r ≡ minGroupBytes / 2 ^ blocklog ⌝ }
 {
-    geometry_groups::ag_min_blocks(blocklog)
+    geometry::groups::ag_min_blocks(blocklog)
 }

@@ -62,7 +62,7 @@ fn plan_from(input: &[u8], agno: u64) -> Planned
     plan_ag(g, agno)
 }
 
-fn first_number(records: u8, step: u8) -> u64
+fn first_number(records: u32, step: u32) -> u64
     ensures { λ n. ⌜ n ≡ orNext records step ⌝ }
 {
     if records != 0 {

@@ -5,18 +5,17 @@ use mathlib.Core.List.{List, _∷_, _++_}
 use Prim.Native.Nat.{ℕ, _-_, _/_, min}
 use lib.Dec.{ltb, eqb}
 use lib.ListN.{take, replicate}
+use Rattle.refusals.specs.Numbers.{inobtcountAlone}
 use Rattle.arith.specs.Choice.{when}
 use Rattle.arith.specs.Powers.{powerLog, log2Up}
 use Rattle.refusals.specs.Table.{Refusal, _if_, first}
-use Rattle.geometry_groups.specs.Limits.{minGroup}
-use Rattle.geometry_log.specs.Limits.{labelRoom}
-use Rattle.geometry.specs.Limits.{minDirBlock, minDirLog}
+use Rattle.geometry.specs.Limits.{minGroup, labelRoom, minDirBlock, minDirLog}
 use Rattle.geometry_sizes.specs.Sizes.{sizesOf, sizesRefusals}
-use Rattle.geometry_groups.specs.Groups.{askedBlocks, initialGroups, isShort, trim, optionsRefusals, groupsRefusals}
-use Rattle.geometry_log.specs.Log.{preallocOf, logLimit, logBlocks, imaxpctOf, lastRefusals}
+use Rattle.geometry.specs.Groups.{askedBlocks, initialGroups, isShort, trim, optionsRefusals, groupsRefusals}
+use Rattle.geometry.specs.Log.{preallocOf, logLimit, logBlocks, imaxpctOf, lastRefusals}
 use Rattle.params.specs.declared.Params.{Params}
 use Rattle.geometry_sizes.specs.declared.Sizes.{Sizes}
-use Rattle.geometry_groups.specs.declared.Groups.{Groups}
+use Rattle.geometry.specs.declared.groups.Groups.{Groups}
 use Rattle.geometry.specs.declared.Chosen.{Chosen}
 use Rattle.geometry.specs.declared.Geometry.{Geometry}
 use Rattle.geometry.specs.declared.Computed.{Computed}
@@ -52,7 +51,7 @@ chosenOf p device logical physical = withSizes p device (sizesOf p logical physi
 -- imaxpct, label, file system and log (19 to 24)
 unfoldable pub refusals : Params → ℕ → Chosen → List Refusal
 refusals p device c =
-    1 if (p .features .inobtcount && not (p .features .finobt))  -- 1: inobtcount without finobt
+    inobtcountAlone if (p .features .inobtcount && not (p .features .finobt))
     ∷ (sizesRefusals (c .sizes .block) (c .sizes .sector) (c .sizes .inode) (c .sizes .logical)
     ++ optionsRefusals (p .agsize) (p .agcount) (c .sizes .block) (device / c .sizes .block) (c .asked .dblocks) (isShort (c .asked) (minGroup (c .sizes .block)))
     ++ groupsRefusals (c .sizes .block) (c .groups .dblocks) (c .groups .agsize) (c .groups .agcount)

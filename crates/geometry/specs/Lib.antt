@@ -1,2 +1,4 @@
 pub mod Limits
+pub mod Groups
+pub mod Log
 pub mod Compute

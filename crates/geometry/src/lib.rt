@@ -1,8 +1,10 @@
 // The geometry step: what mkfs.xfs would choose for the options and the device, or the number of the refusal.
 // The types stand here.
+pub mod groups; // groups.rt: block count and groups, 9 to 18
+pub mod log_size; // log_size.rt: head blocks, log and imaxpct, 19 to 24
 pub mod step; // step.rt: Geometry::compute
 
-use geometry_groups::Groups;
+use crate::groups::Groups;
 use geometry_sizes::Sizes;
 use params::Features;
 
@@ -44,7 +46,7 @@ pub struct Geometry {
 
 // The number is 0 for an accepted geometry; a refusal has the geometry of zeros.
 pub struct Computed {
-    pub number: u8,
+    pub number: u32,
     pub geometry: Geometry,
 }
 
@@ -68,38 +70,39 @@ impl Geometry {
 
     pub const AGFL_HEADER: u32 = 36; // bytes
 
-    // Those that the crates geometry_groups and geometry_log test.
-    pub const TIB: u64 = geometry_groups::TIB;
+    pub const TIB: u64 = 1 << 40; // bytes
 
-    pub const AG_MIN_BYTES: u64 = geometry_groups::AG_MIN_BYTES;
+    pub const AG_MIN_BYTES: u64 = 1 << 24;
 
-    pub const AG_MAX_BYTES: u64 = geometry_groups::AG_MAX_BYTES;
+    pub const AG_MAX_BYTES: u64 = 1 << 40; // a group is smaller
 
-    pub const MAX_AGNUMBER: u64 = geometry_groups::MAX_AGNUMBER;
+    pub const MAX_AGNUMBER: u64 = 0xffff_fffe; // the largest number of groups
 
-    pub const LARGE_BYTES: u64 = geometry_groups::LARGE_BYTES;
+    pub const LARGE_BYTES: u64 = 4 << 40; // from here on groups have the largest size
 
-    pub const FOUR_GROUP_BYTES: u64 = geometry_groups::FOUR_GROUP_BYTES;
+    pub const FOUR_GROUP_BYTES: u64 = 64 << 20; // from here on there are four groups
 
-    pub const TWO_GROUP_BYTES: u64 = geometry_groups::TWO_GROUP_BYTES;
+    pub const TWO_GROUP_BYTES: u64 = 32 << 20; // from here on there are two
 
-    pub const MIN_AGCOUNT: u64 = geometry_log::MIN_AGCOUNT;
+    pub const MIN_SUPPORTED_BYTES: u64 = 300 << 20; // the least file system
 
-    pub const MIN_SUPPORTED_BYTES: u64 = geometry_log::MIN_SUPPORTED_BYTES;
+    pub const MIN_AGCOUNT: u64 = 2;
 
-    pub const MAX_LOG_BLOCKS: u64 = geometry_log::MAX_LOG_BLOCKS;
+    pub const REALISTIC_LOG_BYTES: u64 = 64 << 20; // the least log
 
-    pub const MIN_LOG_BYTES: u64 = geometry_log::MIN_LOG_BYTES;
+    pub const MAX_LOG_BLOCKS: u64 = 1 << 20; // blocks
 
-    pub const MAX_LOG_BYTES: u64 = geometry_log::MAX_LOG_BYTES;
+    pub const MAX_LOG_BYTES: u64 = (2 << 30) - (10 << 20);
 
-    pub const REALISTIC_LOG_BYTES: u64 = geometry_log::REALISTIC_LOG_BYTES;
+    pub const LOG_RATIO: u64 = 2048; // blocks of the file system for one of the log
 
-    pub const LOG_RATIO: u64 = geometry_log::LOG_RATIO;
+    pub const ALLOCBT_AGFL_RESERVE: u64 = 4; // blocks
 
-    pub const ALLOCBT_AGFL_RESERVE: u64 = geometry_log::ALLOCBT_AGFL_RESERVE;
+    pub const RMAP_FREELIST: u64 = 6; // blocks of a free list with rmapbt
 
-    pub const MAX_IMAXPCT: u8 = geometry_log::MAX_IMAXPCT;
+    pub const PLAIN_FREELIST: u64 = 4; // and without
 
-    pub const MAX_LABEL: usize = geometry_log::MAX_LABEL;
+    pub const MAX_IMAXPCT: u8 = 100; // percent
+
+    pub const MAX_LABEL: usize = 12; // bytes
 }

@@ -4,6 +4,18 @@ ghost use Rattle.geometry.specs.Compute.{labelOf, chosenOf, refusalOf, g
 use crate::Chosen;
 use crate::Computed;
 use crate::Geometry;
+use crate::groups::asked_blocks;
+use crate::groups::groups_refusal;
+use crate::groups::initial_groups;
+use crate::groups::is_short;
+use crate::groups::min_group;
+use crate::groups::options_refusal;
+use crate::groups::trimmed;
+use crate::log_size::imaxpct_of;
+use crate::log_size::last_refusal;
+use crate::log_size::log_blocks;
+use crate::log_size::log_limit;
+use crate::log_size::prealloc_of;
 use arith::choice::both;
 use arith::choice::pick_u8;
 use arith::numbers::min_usize;
@@ -12,18 +24,6 @@ use arith::numbers::quotient;
 use arith::numbers::quotient_u32;
 use arith::powers::log2_roundup;
 use arith::powers::pow2_log;
-use geometry_groups::asked_blocks;
-use geometry_groups::groups_refusal;
-use geometry_groups::initial_groups;
-use geometry_groups::is_short;
-use geometry_groups::min_group;
-use geometry_groups::options_refusal;
-use geometry_groups::trimmed;
-use geometry_log::imaxpct_of;
-use geometry_log::last_refusal;
-use geometry_log::log_blocks;
-use geometry_log::log_limit;
-use geometry_log::prealloc_of;
 use geometry_sizes::chosen_sizes;
 use geometry_sizes::sizes_refusal;
 use params::Features;
@@ -79,7 +79,7 @@ fn choose(params: Params, device: u64, logical: u32, physical: u32) -> Chosen
 }
 
 // The number of the refusal, 0 for none: the last test first, so that the smallest number is left.
-fn refusal(params: Params, device: u64, c: Chosen) -> u8
+fn refusal(params: Params, device: u64, c: Chosen) -> u32
     ensures { λ r. ⌜ r ≡ refusalOf params device c ⌝ }
 {
     let agsize = params.agsize;
@@ -105,7 +105,7 @@ fn refusal(params: Params, device: u64, c: Chosen) -> u8
     let blocks = quotient(device, bs);
     let n = options_refusal(agsize, agcount, bs, blocks, a.dblocks, short, n); // 9 to 14
     let n = sizes_refusal(s.block, s.sector, s.inode, s.logical, n); // 2 to 8
-    first(both(f.inobtcount, !f.finobt), 1, n) // 1: inobtcount without finobt
+    first(both(f.inobtcount, !f.finobt), refusals::INOBTCOUNT_ALONE, n)
 }
 
 // The geometry of what was chosen.

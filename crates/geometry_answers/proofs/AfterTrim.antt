@@ -8,8 +8,8 @@ use borrow.Author.Tests.{eq-eqb}
 use Rattle.arith.specs.Choice.{when}
 use Rattle.arith.specs.Numbers.{ceilDiv}
 use Rattle.params.specs.declared.OptU64.the-variants.{Absent, Given}
-use Rattle.geometry_groups.specs.declared.Groups.{Groups}
-use Rattle.geometry_groups.specs.Groups.{askedBlocks, initialGroups, isShort, trim}
+use Rattle.geometry.specs.declared.groups.Groups.{Groups}
+use Rattle.geometry.specs.Groups.{askedBlocks, initialGroups, isShort, trim}
 
 pub trim-long : (a : Groups) (least : ℕ) → isShort a least ≡ false → trim a least ≡ a
 unfolding trim when

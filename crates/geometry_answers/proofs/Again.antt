@@ -16,14 +16,14 @@ use Rattle.refusals.proofs.Clear.{clear, joined}
 use Rattle.params.specs.declared.OptU64.the-variants.{Absent, Given}
 use Rattle.params.specs.declared.Params.{Params}
 use Rattle.geometry_sizes.specs.declared.Sizes.{Sizes}
-use Rattle.geometry_groups.specs.declared.Groups.{Groups}
+use Rattle.geometry.specs.declared.groups.Groups.{Groups}
 use Rattle.geometry_answers.specs.declared.Named.{Named}
 use Rattle.geometry.specs.declared.Geometry.{Geometry}
 use Rattle.geometry.specs.declared.Computed.{Computed}
-use Rattle.geometry_groups.specs.Limits.{minGroup}
+use Rattle.geometry.specs.Limits.{minGroup}
 use Rattle.geometry_sizes.specs.Sizes.{sizesOf, sizesRefusals}
-use Rattle.geometry_groups.specs.Groups.{isShort, trim, optionsRefusals}
-use Rattle.geometry_log.specs.Log.{lastRefusals}
+use Rattle.geometry.specs.Groups.{isShort, trim, optionsRefusals}
+use Rattle.geometry.specs.Log.{lastRefusals}
 use Rattle.geometry.specs.Compute.{withGroups, askedGroups, withSizes, chosenOf, refusals, refusalOf, labelOf, geometryOf, answer, computeDef}
 use Rattle.geometry_answers.specs.Named.{namedOptions, namedOn, namesOf}
 use Rattle.geometry.proofs.Answer.{accepted, number-of}

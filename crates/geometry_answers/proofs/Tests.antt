@@ -13,13 +13,12 @@ use Rattle.refusals.specs.Table.{Refusal}
 use Rattle.refusals.proofs.Clear.{clear, passed, passes, left, right}
 use Rattle.params.specs.declared.Params.{Params}
 use Rattle.geometry_sizes.specs.declared.Sizes.{Sizes}
-use Rattle.geometry_groups.specs.declared.Groups.{Groups}
+use Rattle.geometry.specs.declared.groups.Groups.{Groups}
 use Rattle.geometry.specs.declared.Chosen.{Chosen}
-use Rattle.geometry_groups.specs.Limits.{minGroup, maxGroup}
-use Rattle.geometry_log.specs.Limits.{minBytes, minLogBytes}
+use Rattle.geometry.specs.Limits.{minGroup, maxGroup, minBytes, realisticLogBytes}
 use Rattle.geometry_sizes.specs.Sizes.{sizesRefusals}
-use Rattle.geometry_groups.specs.Groups.{isShort, optionsRefusals, groupsRefusals}
-use Rattle.geometry_log.specs.Log.{lastRefusals}
+use Rattle.geometry.specs.Groups.{isShort, optionsRefusals, groupsRefusals}
+use Rattle.geometry.specs.Log.{lastRefusals}
 use Rattle.geometry.specs.Compute.{withGroups, refusals, refusalOf}
 
 pub all-clear : (p : Params) (device : ℕ) (c : Chosen) → refusalOf p device c ≡ 0 → clear (refusals p device c)
@@ -78,7 +77,7 @@ grouped bs d size n c = record {
 pub record Ended (imaxpct bs d size n log : ℕ) : Type 0 where
   pub imaxpct-most : imaxpct ≤ 100
   pub bytes-least : minBytes / bs ≤ d
-  pub log-least : minLogBytes / bs ≤ log
+  pub log-least : realisticLogBytes / bs ≤ log
   pub count-least : 2 ≤ n
   pub count : n ≡ ceilDiv d size
 
@@ -87,7 +86,7 @@ unfolding lastRefusals
 ended imaxpct label bs d size n log c = record {
   imaxpct-most = ltb-false 100 imaxpct (c .0);
   bytes-least = ltb-false d (minBytes / bs) (c .1 .1 .0);
-  log-least = ltb-false log (minLogBytes / bs) (c .1 .1 .1 .0);
+  log-least = ltb-false log (realisticLogBytes / bs) (c .1 .1 .1 .0);
   count-least = ltb-false n 2 (c .1 .1 .1 .1 .0);
   count = eqb-true n (ceilDiv d size) (not-false _ (c .1 .1 .1 .1 .1 .0));
 }

@@ -3,8 +3,9 @@
 use mathlib.Core.Bool.{Bool, _&&_, cond}
 use Prim.Native.Nat.{ℕ, _*_, _^_}
 use lib.Dec.{ltb, eqb}
+use Rattle.refusals.specs.Numbers.{notLeft}
 use Rattle.geometry_sizes.specs.Limits.{minSector}
-use Rattle.geometry_log.specs.Limits.{labelRoom}
+use Rattle.geometry.specs.Limits.{labelRoom}
 use Rattle.params.specs.Params.{options, noUuid}
 use Rattle.geometry.specs.Compute.{computeDef, refused}
 use Rattle.geometry_answers.specs.Same.{sameGeometry}
@@ -33,7 +34,7 @@ namedFits n = ltb (n .dblocks * n .blocksize) (2 ^ 64) && ltb (n .agsize * n .bl
 
 -- the geometry that is named under a sizing, or a refusal: 30 where the bytes pass 64 bits
 unfoldable pub namedAnswer : Bool → Named → Computed
-namedAnswer roomy n = cond (namedFits n) (namedOn roomy n minSector) (refused 30)
+namedAnswer roomy n = cond (namedFits n) (namedOn roomy n minSector) (refused notLeft)
 
 -- what the geometry's superblock names
 unfoldable pub namesOf : Geometry → Named

@@ -75,7 +75,7 @@ impl Named {
         if !both(blocks_fit, group_fits) {
             let geometry = Geometry::zero();
             return Computed {
-                number: 30,
+                number: refusals::NOT_LEFT,
                 geometry,
             };
         }

@@ -7,8 +7,8 @@ use native.Mathlib.Nat.{div-le-self, div-mul-le-self}
 use Rattle.arith.specs.Choice.{when}
 use Rattle.arith.proofs.Laws.{bit-le}
 use Rattle.params.specs.declared.Features.{Features}
-use Rattle.geometry_log.specs.Log.{preallocOf}
-use Rattle.geometry_log.proofs.Header.{header-le}
+use Rattle.geometry.specs.Log.{preallocOf}
+use Rattle.geometry.proofs.Header.{header-le}
 use Rattle.geometry_layout.specs.Places.{chunkOf, clusterOf, alignOf}
 
 pub prealloc-le : (f : Features) (s b : ℕ) → preallocOf f s b ≤ 4 * s + 6

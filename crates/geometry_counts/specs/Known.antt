@@ -2,6 +2,7 @@
 -- Assumes nothing.
 use mathlib.Core.Bool.{Bool, true, false}
 use Prim.Native.Nat.{ℕ}
+use Rattle.refusals.specs.Numbers.{noAnswer}
 use Rattle.geometry_counts.specs.declared.Value64.{Value64}
 use Rattle.geometry_counts.specs.declared.Value64.the-variants.{Refused as Refused64, Of as Of64}
 use Rattle.geometry_counts.specs.declared.Value32.{Value32}
@@ -20,8 +21,8 @@ number32 (Of32 v) = 0
 -- the value where the geometry is an answer, else 31
 unfoldable pub known64 : Bool → ℕ → Value64
 known64 true v = Of64 v
-known64 false v = Refused64 31
+known64 false v = Refused64 noAnswer
 
 unfoldable pub known32 : Bool → ℕ → Value32
 known32 true v = Of32 v
-known32 false v = Refused32 31
+known32 false v = Refused32 noAnswer

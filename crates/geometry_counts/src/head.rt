@@ -1,7 +1,7 @@
 // The head of a group and its free list.
 ghost use mathlib.Core.Path.{_≡_};
 ghost use Prim.Native.Nat.{_+_};
-ghost use Rattle.geometry_log.specs.Log.{headerOf, preallocOf};
+ghost use Rattle.geometry.specs.Log.{headerOf, preallocOf};
 ghost use Rattle.geometry_answers.specs.Named.{isAnswer};
 ghost use Rattle.geometry_layout.specs.Places.{cntBlock, ibtBlock, fibtBlock, rmapBlock, refcBlock, usableOf, agflSize, freelistOf};
 ghost use Rattle.geometry_counts.specs.Known.{known64, known32};
@@ -14,8 +14,8 @@ use arith::choice::pick_u64;
 use arith::numbers::minus;
 use arith::numbers::minus_u32;
 use geometry::Geometry;
-use geometry_log::header_of;
-use geometry_log::prealloc_of;
+use geometry::log_size::header_of;
+use geometry::log_size::prealloc_of;
 use params::Features;
 
 // Blocks of the four header sectors.

@@ -12,8 +12,8 @@ use arith::choice::pick_u64;
 use arith::numbers::div_ceil;
 use arith::numbers::quotient;
 use geometry::Geometry;
+use geometry::log_size::prealloc_of;
 use geometry_answers::is_answer;
-use geometry_log::prealloc_of;
 use params::Features;
 
 // Blocks of an inode chunk, for these sizes.
@@ -79,7 +79,7 @@ pub fn spino_align(g: Geometry) -> Value32
     ensures { λ r. ⌜ r ≡ known32 (isAnswer g) (sparseAlign (g .features .sparse) (g .inodesize) (g .blocksize)) ⌝ }
 {
     if !is_answer(g) {
-        return Value32::Refused(31);
+        return Value32::Refused(refusals::NO_ANSWER);
     }
     let f = g.features;
     let bs = g.blocksize as u64;

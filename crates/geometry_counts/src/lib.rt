@@ -12,13 +12,13 @@ pub mod stripes; // stripes.rt: realtime extent and log stripe unit
 
 // A number of 64 bits, or a refusal.
 pub enum Value64 {
-    Refused(u8),
+    Refused(u32),
     Of(u64),
 }
 
 // A number of 32 bits, or a refusal.
 pub enum Value32 {
-    Refused(u8),
+    Refused(u32),
     Of(u32),
 }
 
@@ -29,7 +29,7 @@ pub fn known_64(g: Geometry, v: u64) -> Value64
     if is_answer(g) {
         Value64::Of(v)
     } else {
-        Value64::Refused(31)
+        Value64::Refused(refusals::NO_ANSWER)
     }
 }
 
@@ -40,6 +40,6 @@ pub fn known_32(g: Geometry, v: u32) -> Value32
     if is_answer(g) {
         Value32::Of(v)
     } else {
-        Value32::Refused(31)
+        Value32::Refused(refusals::NO_ANSWER)
     }
 }

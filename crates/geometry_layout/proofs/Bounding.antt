@@ -14,12 +14,11 @@ use Rattle.arith.proofs.Least as least
 use Rattle.params.specs.declared.Params.{Params}
 use Rattle.geometry_sizes.specs.declared.Sizes.{Sizes}
 use Rattle.geometry_sizes.specs.Sizes.{sizesOf}
-use Rattle.geometry_groups.specs.declared.Groups.{Groups}
+use Rattle.geometry.specs.declared.groups.Groups.{Groups}
 use Rattle.geometry.specs.declared.Geometry.{Geometry}
-use Rattle.geometry_groups.specs.Limits.{mib, minGroup, maxGroup}
-use Rattle.geometry_log.specs.Limits.{minLogBytes}
-use Rattle.geometry_groups.specs.Groups.{groupBlocks, isShort, trim}
-use Rattle.geometry_log.specs.Log.{preallocOf, freelistOf, logLimit, logBlocks}
+use Rattle.geometry.specs.Limits.{mib, minGroup, maxGroup, realisticLogBytes}
+use Rattle.geometry.specs.Groups.{groupBlocks, isShort, trim}
+use Rattle.geometry.specs.Log.{preallocOf, freelistOf, logLimit, logBlocks}
 use Rattle.arith.specs.Choice.{when}
 use Rattle.params.specs.declared.Features.{Features}
 use lib.Dec.{eqb}
@@ -105,8 +104,8 @@ limit-roomy : (f : Features) (d s n pre log : ℕ) (roomy : Bool) → roomy ≡ 
 unfolding logLimit when
 limit-roomy f d s n pre log roomy e p l = let q = rw e at l in omega arith
 
-log-some : (bs log : ℕ) → 0 < bs → bs ≤ 16384 → minLogBytes / bs ≤ log → 0 < log
-log-some bs log p h w = let v : 4096 ≤ minLogBytes / bs = le-div-iff-mul-le p .1 (omega arith) in omega arith
+log-some : (bs log : ℕ) → 0 < bs → bs ≤ 16384 → realisticLogBytes / bs ≤ log → 0 < log
+log-some bs log p h w = let v : 4096 ≤ realisticLogBytes / bs = le-div-iff-mul-le p .1 (omega arith) in omega arith
 
 group-some : (bs size : ℕ) → 0 < bs → bs ≤ 16384 → minGroup bs ≤ size → 80 ≤ size
 group-some bs size p h w = let v : 1024 ≤ minGroup bs = le-div-iff-mul-le p .1 (omega arith) in omega arith

@@ -10,7 +10,7 @@ use lib.Dec.{eqb}
 use lib.Pow.{pow-mono}
 use Rattle.arith.specs.Choice.{when}
 use Rattle.geometry.specs.declared.Geometry.{Geometry}
-use Rattle.geometry_groups.specs.Limits.{mib}
+use Rattle.geometry.specs.Limits.{mib}
 use Rattle.geometry_layout.specs.Places.{groupBlocks}
 use Rattle.geometry_layout.specs.Bounds.{Bounds}
 use Rattle.geometry_layout.proofs.Ceil.{one-more}

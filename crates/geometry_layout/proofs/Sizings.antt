@@ -14,11 +14,10 @@ use Rattle.params.specs.declared.Params.{Params}
 use Rattle.params.specs.Params.{withRoomy}
 use Rattle.geometry_sizes.specs.declared.Sizes.{Sizes}
 use Rattle.geometry_sizes.specs.Sizes.{sizesOf}
-use Rattle.geometry_groups.specs.declared.Groups.{Groups}
-use Rattle.geometry_groups.specs.Limits.{minGroup}
-use Rattle.geometry_groups.specs.Groups.{groupBlocks, trim}
-use Rattle.geometry_log.specs.Limits.{minLogBytes, logRatio}
-use Rattle.geometry_log.specs.Log.{preallocOf, logLimit, logBlocks, lastRefusals}
+use Rattle.geometry.specs.declared.groups.Groups.{Groups}
+use Rattle.geometry.specs.Limits.{minGroup, realisticLogBytes, logRatio}
+use Rattle.geometry.specs.Groups.{groupBlocks, trim}
+use Rattle.geometry.specs.Log.{preallocOf, logLimit, logBlocks, lastRefusals}
 use Rattle.geometry.specs.declared.Geometry.{Geometry}
 use Rattle.geometry.specs.declared.Computed.{Computed}
 use Rattle.geometry.specs.Compute.{withGroups, askedGroups, withSizes, chosenOf, refusals, refusalOf, geometryOf, answer, computeDef, refused}
@@ -43,13 +42,13 @@ min-left a b w h = omega arith
 
 logs : (d l m bs : ℕ) → l ≤ m → logBlocks d l bs ≤ logBlocks d m bs
 unfolding logBlocks
-logs d l m bs h = min-left _ _ _ (min-left _ _ _ (min-mono (max (d / logRatio) (minLogBytes / bs)) l m h))
+logs d l m bs h = min-left _ _ _ (min-left _ _ _ (min-mono (max (d / logRatio) (realisticLogBytes / bs)) l m h))
 
 -- a longer log passes where a shorter one does
 last-more : (imaxpct label bs d size n log more : ℕ) → log ≤ more → clear (lastRefusals imaxpct label bs d size n log) → clear (lastRefusals imaxpct label bs d size n more)
 unfolding lastRefusals
 last-more imaxpct label bs d size n log more h c =
-    (c .0, (c .1 .0, (c .1 .1 .0, (le-ltb more (minLogBytes / bs) (let w = ltb-false log (minLogBytes / bs) (c .1 .1 .1 .0) in omega arith), c .1 .1 .1 .1))))
+    (c .0, (c .1 .0, (c .1 .1 .0, (le-ltb more (realisticLogBytes / bs) (let w = ltb-false log (realisticLogBytes / bs) (c .1 .1 .1 .0) in omega arith), c .1 .1 .1 .1))))
 
 module _ (p : Params) (device : ℕ) (s : Sizes) (a g : Groups) where
   abbrev roomy : Params

@@ -11,7 +11,7 @@ use Rattle.arith.specs.Choice.{when}
 use Rattle.arith.specs.Numbers.{ceilDiv}
 use Rattle.arith.proofs.Laws.{bit-le}
 use Rattle.params.specs.declared.Features.{Features}
-use Rattle.geometry_log.specs.Log.{headerOf, preallocOf}
+use Rattle.geometry.specs.Log.{headerOf, preallocOf}
 use Rattle.geometry_layout.specs.Places.{freelistOf, chunkOf, clusterOf, alignOf, roundUp, aligned, rootChunkOf}
 use Rattle.geometry_layout.proofs.Ceil.{Counted, counted, ceil-most, one-more}
 

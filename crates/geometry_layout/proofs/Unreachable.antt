@@ -9,8 +9,8 @@ use borrow.Author.Tests.{ltb-true, ltb-false, le-ltb}
 use lib.Dec.{ltb}
 use lib.Pow.{pow-pos}
 use Rattle.arith.specs.Choice.{when}
-use Rattle.geometry_log.specs.Limits.{minLogBytes, maxLogBytes, maxLogBlocks, logRatio}
-use Rattle.geometry_log.specs.Log.{logBlocks}
+use Rattle.geometry.specs.Limits.{realisticLogBytes, maxLogBytes, maxLogBlocks, logRatio}
+use Rattle.geometry.specs.Log.{logBlocks}
 use Rattle.geometry_layout.specs.Places.{usableOf}
 use Rattle.geometry_layout.specs.Source.{under300, sourceWanted, sourceLog, logTooLarge}
 
@@ -29,7 +29,7 @@ capped w most b false e =
     let k : w ≤ most / 2 ^ b = le-div-iff-mul-le (pow-pos b) .1 h in
     omega arith
 
-wanted-is : (d agsize prealloc b : ℕ) → sourceWanted d agsize prealloc b ≡ min (min (max (d / logRatio) (minLogBytes / 2 ^ b)) (agsize - prealloc - 5)) maxLogBlocks
+wanted-is : (d agsize prealloc b : ℕ) → sourceWanted d agsize prealloc b ≡ min (min (max (d / logRatio) (realisticLogBytes / 2 ^ b)) (agsize - prealloc - 5)) maxLogBlocks
 unfolding sourceWanted usableOf
 wanted-is d agsize prealloc b =
     let e : agsize - (prealloc + 4) - 1 ≡ agsize - prealloc - 5 = omega arith in

@@ -5,9 +5,8 @@ use mathlib.Core.Bool.{true}
 use Prim.Native.Nat.{ℕ, _+_, _*_, _-_, _/_, _^_, _≤_, _<_}
 use Rattle.arith.specs.Numbers.{ceilDiv}
 use Rattle.geometry.specs.declared.Geometry.{Geometry}
-use Rattle.geometry_groups.specs.Limits.{minGroupBytes, maxGroups}
-use Rattle.geometry_log.specs.Limits.{minGroups, minBytes, minLogBytes, maxLogBlocks, logReserve, maxImaxpct}
-use Rattle.geometry_log.specs.Log.{headerOf, preallocOf}
+use Rattle.geometry.specs.Limits.{minGroupBytes, maxGroups, minGroups, minBytes, realisticLogBytes, maxLogBlocks, logReserve, maxImaxpct}
+use Rattle.geometry.specs.Log.{headerOf, preallocOf}
 use Rattle.geometry_layout.specs.Places.{chunkOf, clusterOf, rootChunkOf, freelistOf, groupBlocks}
 
 -- sizes in bytes and their logarithms
@@ -54,7 +53,7 @@ pub record PlaceBounds (g : Geometry) : Type 0 where
   pub log-group : g .logagno ≡ g .agcount / 2
   pub log-not-first : 0 < g .logagno
   pub log-inside : g .logagno < g .agcount
-  pub log-bytes : minLogBytes ≤ g .logblocks * g .blocksize
+  pub log-bytes : realisticLogBytes ≤ g .logblocks * g .blocksize
   pub log-blocks : g .logblocks ≤ maxLogBlocks
   -- the log fits a whole group, with 5 blocks to spare; in roomy sizing its own, with room for the free list
   pub log-room : g .«log_agbno» + g .logblocks + logReserve ≤ g .agsize

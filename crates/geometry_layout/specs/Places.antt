@@ -7,9 +7,9 @@ use Rattle.arith.specs.Choice.{when, bit}
 use Rattle.arith.specs.Numbers.{ceilDiv}
 use Rattle.params.specs.declared.Features.{Features}
 use Rattle.geometry_layout.specs.Limits.{agflHeader, agflSlot, agflReserve, chunkInodes, bigCluster, leastInode, realtimeExtent, logHeader, addressUnit}
-use Rattle.geometry_log.specs.Log.{preallocOf}
-unfoldable pub use Rattle.geometry_groups.specs.Groups.{groupBlocks}
-unfoldable pub use Rattle.geometry_log.specs.Log.{freelistOf}
+use Rattle.geometry.specs.Log.{preallocOf}
+unfoldable pub use Rattle.geometry.specs.Groups.{groupBlocks}
+unfoldable pub use Rattle.geometry.specs.Log.{freelistOf}
 
 -- ---- the head of a group, in blocks from its start: header blocks, roots by block and by count, inode root,
 -- then free inode root, rmap root and reference count root where their features are on

@@ -4,7 +4,7 @@ use mathlib.Core.Bool.{Bool}
 use Prim.Native.Nat.{ℕ, _*_, _-_, _/_, _^_, min, max}
 use lib.Dec.{ltb}
 use Rattle.arith.specs.Choice.{when}
-use Rattle.geometry_log.specs.Limits.{minBytes, minLogBytes, maxLogBytes, maxLogBlocks, logRatio}
+use Rattle.geometry.specs.Limits.{minBytes, realisticLogBytes, maxLogBytes, maxLogBlocks, logRatio}
 use Rattle.geometry_layout.specs.Places.{usableOf}
 
 -- the file system is under 300 MiB, in blocks of 2 ^ b bytes: the test of the log's size, and of the whole geometry after it
@@ -14,7 +14,7 @@ under300 d b = ltb d (minBytes / 2 ^ b)
 -- a 2048th of the bytes, in blocks; at least 64 MiB; at most one less than a whole group can hand out, and the largest log in blocks
 unfoldable pub sourceWanted : ℕ → ℕ → ℕ → ℕ → ℕ
 sourceWanted d agsize prealloc b =
-    min (min (max (d * 2 ^ b / logRatio / 2 ^ b) (minLogBytes / 2 ^ b)) (usableOf agsize prealloc - 1)) maxLogBlocks
+    min (min (max (d * 2 ^ b / logRatio / 2 ^ b) (realisticLogBytes / 2 ^ b)) (usableOf agsize prealloc - 1)) maxLogBlocks
 
 -- and at most the largest log in bytes
 unfoldable pub sourceLog : ℕ → ℕ → ℕ → ℕ → ℕ

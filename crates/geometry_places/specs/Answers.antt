@@ -4,9 +4,10 @@ use mathlib.Core.Bool.{not, cond}
 use mathlib.Core.List.{[], _∷_}
 use Prim.Native.Nat.{ℕ, _/_, _%_, _^_}
 use lib.Dec.{leb, eqb}
+use Rattle.refusals.specs.Numbers.{noAnswer, noPlace}
 use Rattle.refusals.specs.Table.{_if_, first}
 use Rattle.geometry.specs.declared.Geometry.{Geometry}
-use Rattle.geometry_log.specs.Log.{preallocOf}
+use Rattle.geometry.specs.Log.{preallocOf}
 use Rattle.geometry_answers.specs.Named.{isAnswer}
 use Rattle.geometry_layout.specs.Places.{groupBlocks, isPlace, fsbOf, inoOf, daddrOf, byteOf, rootChunkOf, initialFree}
 use Rattle.geometry_counts.specs.declared.Value64.{Value64}
@@ -33,17 +34,17 @@ unless64 n v = cond (eqb n 0) (Of64 v) (Refused64 n)
 -- the group is not there
 unfoldable pub groupRefusal : Geometry → ℕ → ℕ
 groupRefusal g k =
-    first (31 if not (isAnswer g) ∷ 29 if leb (g .agcount) k ∷ []) 0
+    first (noAnswer if not (isAnswer g) ∷ noPlace if leb (g .agcount) k ∷ []) 0
 
 -- the group, or its block, is not there
 unfoldable pub placeRefusal : Geometry → ℕ → ℕ → ℕ
 placeRefusal g k b =
-    first (31 if not (isAnswer g) ∷ 29 if not (isPlace (g .dblocks) (g .agsize) (g .agcount) k b) ∷ []) 0
+    first (noAnswer if not (isAnswer g) ∷ noPlace if not (isPlace (g .dblocks) (g .agsize) (g .agcount) k b) ∷ []) 0
 
 -- the group, its block, or the slot is not there
 unfoldable pub slotRefusal : Geometry → ℕ → ℕ → ℕ → ℕ
 slotRefusal g k b slot =
-    first (31 if not (isAnswer g) ∷ 29 if not (isPlace (g .dblocks) (g .agsize) (g .agcount) k b) ∷ 29 if leb (g .inopblock) slot ∷ []) 0
+    first (noAnswer if not (isAnswer g) ∷ noPlace if not (isPlace (g .dblocks) (g .agsize) (g .agcount) k b) ∷ noPlace if leb (g .inopblock) slot ∷ []) 0
 
 -- ---- conversions
 

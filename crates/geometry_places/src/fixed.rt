@@ -7,17 +7,17 @@ use crate::units::fsb_of;
 use crate::units::ino_of;
 use arith::numbers::minus;
 use geometry::Geometry;
+use geometry::log_size::prealloc_of;
 use geometry_answers::is_answer;
 use geometry_counts::Value64;
 use geometry_counts::inodes::root_chunk_of;
-use geometry_log::prealloc_of;
 
 // The log's first block, as a file system block.
 pub fn logstart(g: Geometry) -> Value64
     ensures { λ r. ⌜ r ≡ known64 (isAnswer g) (logStart g) ⌝ }
 {
     if !is_answer(g) {
-        return Value64::Refused(31);
+        return Value64::Refused(refusals::NO_ANSWER);
     }
     let start = fsb_of(g.agblklog, g.logagno, g.log_agbno);
     Value64::Of(start)
@@ -28,7 +28,7 @@ pub fn rootino(g: Geometry) -> Value64
     ensures { λ r. ⌜ r ≡ known64 (isAnswer g) (rootIno g) ⌝ }
 {
     if !is_answer(g) {
-        return Value64::Refused(31);
+        return Value64::Refused(refusals::NO_ANSWER);
     }
     let f = g.features;
     let bs = g.blocksize as u64;
@@ -42,7 +42,7 @@ pub fn initial_fdblocks(g: Geometry) -> Value64
     ensures { λ r. ⌜ r ≡ known64 (isAnswer g) (initialFdblocks g) ⌝ }
 {
     if !is_answer(g) {
-        return Value64::Refused(31);
+        return Value64::Refused(refusals::NO_ANSWER);
     }
     let f = g.features;
     let bs = g.blocksize as u64;

@@ -17,21 +17,21 @@ pub struct DiskAddress(pub u64);
 pub struct ByteOffset(pub u64);
 
 pub enum ToGroupBlock {
-    Refused(u8),
+    Refused(u32),
     At(GroupBlock),
 }
 
 pub enum ToFsBlock {
-    Refused(u8),
+    Refused(u32),
     At(FsBlock),
 }
 
 pub enum ToDiskAddress {
-    Refused(u8),
+    Refused(u32),
     At(DiskAddress),
 }
 
 pub enum ToByteOffset {
-    Refused(u8),
+    Refused(u32),
     At(ByteOffset),
 }

@@ -20,14 +20,14 @@ fn group_blocks(dblocks: u64, agsize: u64, agcount: u64, agno: u64) -> u64
 }
 
 // 31, 29 for a group that is not there, or 0.
-pub fn group_refusal(g: Geometry, agno: u64) -> u8
+pub fn group_refusal(g: Geometry, agno: u64) -> u32
     ensures { λ r. ⌜ r ≡ groupRefusal g agno ⌝ }
 {
     if !is_answer(g) {
-        return 31;
+        return refusals::NO_ANSWER;
     }
     if g.agcount <= agno {
-        return 29;
+        return refusals::NO_PLACE;
     }
     0
 }
@@ -45,23 +45,23 @@ pub fn ag_blocks(g: Geometry, agno: u64) -> Value64
 }
 
 // 31, 29 for a group or a block that is not there, or 0.
-pub fn place_refusal(g: Geometry, agno: u64, agbno: u64) -> u8
+pub fn place_refusal(g: Geometry, agno: u64, agbno: u64) -> u32
     ensures { λ r. ⌜ r ≡ placeRefusal g agno agbno ⌝ }
 {
     if !is_answer(g) {
-        return 31;
+        return refusals::NO_ANSWER;
     }
     if g.agcount <= agno {
-        return 29;
+        return refusals::NO_PLACE;
     }
     if group_blocks(g.dblocks, g.agsize, g.agcount, agno) <= agbno {
-        return 29;
+        return refusals::NO_PLACE;
     }
     0
 }
 
 // 31, 29 for a group, a block or a slot that is not there, or 0.
-pub fn slot_refusal(g: Geometry, agno: u64, agbno: u64, slot: u64) -> u8
+pub fn slot_refusal(g: Geometry, agno: u64, agbno: u64, slot: u64) -> u32
     ensures { λ r. ⌜ r ≡ slotRefusal g agno agbno slot ⌝ }
 {
     let n = place_refusal(g, agno, agbno);
@@ -70,7 +70,7 @@ pub fn slot_refusal(g: Geometry, agno: u64, agbno: u64, slot: u64) -> u8
     }
     let inodes = g.inopblock as u64;
     if inodes <= slot {
-        return 29;
+        return refusals::NO_PLACE;
     }
     0
 }

@@ -3,6 +3,7 @@
 use mathlib.Core.List.{List, [], _∷_}
 use Prim.Native.Nat.{ℕ, _/_, max}
 use lib.Dec.{ltb, leb, eqb}
+use Rattle.refusals.specs.Numbers.{blockNoPower, blockOf512, blockTooLarge, badSector, blockBelowSector, sectorBelowLogical, badInode}
 use Rattle.arith.specs.Choice.{when}
 use Rattle.arith.specs.Powers.{powerLog}
 use Rattle.refusals.specs.Table.{Refusal, _if_}
@@ -44,14 +45,14 @@ sizesOf p logical physical =
 -- refusals 2 to 8; `powerLog` is 0 of a number that is no power of two from 512 to 65536
 unfoldable pub sizesRefusals : ℕ → ℕ → ℕ → ℕ → List Refusal
 sizesRefusals block sector inode logical =
-    2 if eqb (powerLog block) 0  -- 2: the block size is no power of two from 512 to 65536
-    ∷ 3 if ltb block minCrcBlock  -- 3: blocks of 512 bytes
-    ∷ 4 if ltb maxSupportedBlock block  -- 4: blocks above 16384 bytes
-    ∷ 5 if eqb (powerLog sector) 0  -- 5: the sector size is no power of two from 512 to 65536
-    ∷ 5 if ltb maxSector sector  -- 5: sectors above 32768 bytes
-    ∷ 6 if ltb block sector  -- 6: a block is smaller than a sector
-    ∷ 7 if ltb sector logical  -- 7: the sector is below the logical one
-    ∷ 8 if eqb (powerLog inode) 0  -- 8: the inode size is no power of two from 512 to 65536
-    ∷ 8 if ltb maxInode inode  -- 8: inodes above 2048 bytes
-    ∷ 8 if ltb (block / 2) inode  -- 8: an inode is above half a block
+    blockNoPower if eqb (powerLog block) 0
+    ∷ blockOf512 if ltb block minCrcBlock
+    ∷ blockTooLarge if ltb maxSupportedBlock block
+    ∷ badSector if eqb (powerLog sector) 0
+    ∷ badSector if ltb maxSector sector
+    ∷ blockBelowSector if ltb block sector
+    ∷ sectorBelowLogical if ltb sector logical
+    ∷ badInode if eqb (powerLog inode) 0
+    ∷ badInode if ltb maxInode inode
+    ∷ badInode if ltb (block / 2) inode
     ∷ []

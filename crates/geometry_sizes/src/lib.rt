@@ -92,17 +92,21 @@ pub fn chosen_sizes(params: Params, logical: u32, physical: u32) -> Sizes
 }
 
 // Refusals 2 to 8, the last test first; `pow2_log` is 0 of a number that is no power of two from 512 to 65536.
-pub fn sizes_refusal(block: u32, sector: u32, inode: u32, logical: u32, rest: u8) -> u8
+pub fn sizes_refusal(block: u32, sector: u32, inode: u32, logical: u32, rest: u32) -> u32
     ensures { λ r. ⌜ r ≡ first (sizesRefusals block sector inode logical) rest ⌝ }
 {
-    let n = first(block / 2 < inode, 8, rest); // 8: an inode is above half a block
-    let n = first(DINODE_MAX_SIZE < inode, 8, n); // 8: inodes above 2048 bytes
-    let n = first(pow2_log(inode) == 0, 8, n); // 8: the inode size is no power of two from 512 to 65536
-    let n = first(sector < logical, 7, n); // 7: the sector is below the logical one
-    let n = first(block < sector, 6, n); // 6: a block is smaller than a sector
-    let n = first(MAX_SECTORSIZE < sector, 5, n); // 5: sectors above 32768 bytes
-    let n = first(pow2_log(sector) == 0, 5, n); // 5: the sector size is no power of two from 512 to 65536
-    let n = first(MAX_SUPPORTED_BLOCKSIZE < block, 4, n); // 4: blocks above 16384 bytes
-    let n = first(block < MIN_CRC_BLOCKSIZE, 3, n); // 3: blocks of 512 bytes
-    first(pow2_log(block) == 0, 2, n) // 2: the block size is no power of two from 512 to 65536
+    let n = first(block / 2 < inode, refusals::BAD_INODE, rest);
+    let n = first(DINODE_MAX_SIZE < inode, refusals::BAD_INODE, n);
+    let n = first(pow2_log(inode) == 0, refusals::BAD_INODE, n);
+    let n = first(sector < logical, refusals::SECTOR_BELOW_LOGICAL, n);
+    let n = first(block < sector, refusals::BLOCK_BELOW_SECTOR, n);
+    let n = first(MAX_SECTORSIZE < sector, refusals::BAD_SECTOR, n);
+    let n = first(pow2_log(sector) == 0, refusals::BAD_SECTOR, n);
+    let n = first(
+        MAX_SUPPORTED_BLOCKSIZE < block,
+        refusals::BLOCK_TOO_LARGE,
+        n,
+    );
+    let n = first(block < MIN_CRC_BLOCKSIZE, refusals::BLOCK_OF_512, n);
+    first(pow2_log(block) == 0, refusals::BLOCK_NO_POWER, n)
 }

@@ -3,7 +3,7 @@
 use mathlib.Core.List.{List}
 use Prim.Native.Nat.{ℕ}
 use lib.Dec.{eqb, ltb}
-use Rattle.endian.specs.Answer.{wrongLength}
+use Rattle.refusals.specs.Numbers.{wrongLength, noPlace}
 use Rattle.structs.specs.Written.{require}
 use Rattle.seqs.specs.Lists.{choose}
 use Rattle.geometry.specs.declared.Geometry.{Geometry}
@@ -13,13 +13,9 @@ use Rattle.sb_states.specs.declared.Stated.{Stated}
 use Rattle.sb_states.specs.States.{stated, finished}
 use Rattle.run.specs.Runs.{orNext}
 
--- the refusal of a group that is not there
-abbrev pub noGroup : ℕ
-noGroup = 29
-
 -- 31 for a geometry that is no answer, 25 for a plan that is refused, then 27 unless n bytes are a head's, then 29
 unfoldable pub headRefusal : Geometry → ℕ → ℕ → ℕ
-headRefusal g k n = orNext (plansNumber g) (require wrongLength (eqb n (headLength g)) (require noGroup (ltb k (g .agcount)) 0))
+headRefusal g k n = orNext (plansNumber g) (require wrongLength (eqb n (headLength g)) (require noPlace (ltb k (g .agcount)) 0))
 
 -- 31, 25, then 27 unless n bytes are a block's
 unfoldable pub logRefusal : Geometry → ℕ → ℕ

@@ -9,8 +9,8 @@ use geometry::Geometry;
 use head::ag_head;
 use plan::plan_ag;
 use plan_summary::plans_number;
+use refusals::NO_PLACE;
 use sb::SbState;
-use sb_states::NO_GROUP;
 use sb_states::Stated;
 use sb_states::finished_state;
 use sb_states::state_of;
@@ -25,12 +25,12 @@ pub(crate) fn head_number(g: Geometry, k: u64, len: usize) -> u32
     }
     let f = g.features;
     if len != head_length(f, g.sectsize, g.blocksize) {
-        return endian::WRONG_LENGTH;
+        return refusals::WRONG_LENGTH;
     }
     if k < g.agcount {
         return 0;
     }
-    NO_GROUP
+    NO_PLACE
 }
 
 // The state of group k's superblock at the end of a run.

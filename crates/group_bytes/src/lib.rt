@@ -3,7 +3,7 @@ ghost use mathlib.Core.Path.{_≡_};
 ghost use Prim.Native.Nat.{_*_};
 ghost use lib.ListN.{length};
 ghost use Rattle.structs.specs.Written.{Written};
-ghost use Rattle.geometry_log.specs.Log.{preallocOf};
+ghost use Rattle.geometry.specs.Log.{preallocOf};
 ghost use Rattle.list_spec.specs.Listing.{headWritten, headLeft, logBlock};
 ghost use Rattle.group_bytes.specs.Answers.{headRefusal, logRefusal};
 
@@ -16,7 +16,7 @@ use crate::heads::left_state;
 use crate::logs::fill_log;
 use crate::logs::log_number;
 use geometry::Geometry;
-use geometry_log::prealloc_of;
+use geometry::log_size::prealloc_of;
 use params::Features;
 use sb_states::state_of;
 

@@ -27,7 +27,7 @@ pub(crate) fn log_number(g: Geometry, len: usize) -> u32
         return plans;
     }
     if len != g.blocksize as usize {
-        return endian::WRONG_LENGTH;
+        return refusals::WRONG_LENGTH;
     }
     0
 }

@@ -16,7 +16,7 @@ pub mod roots; // roots.rt: the root blocks
 pub mod sectors; // sectors.rt: superblock, AGF, AGI and free list
 
 use geometry::Geometry;
-use geometry_log::prealloc_of;
+use geometry::log_size::prealloc_of;
 use head_frame::Frame;
 use head_frame::frame_of;
 use plan::AgPlan;
@@ -64,7 +64,7 @@ pub fn ag_head(g: Geometry, plan: AgPlan, uuid: &[u8; 16], state: SbState, buf: 
     let f = g.features;
     let blocks = prealloc_of(f, g.sectsize, g.blocksize as u64) as usize;
     if buf.len() != blocks * (g.blocksize as usize) {
-        return endian::WRONG_LENGTH;
+        return refusals::WRONG_LENGTH;
     }
     let w = framed.frame;
     fill(g, plan, w, uuid, state, buf);

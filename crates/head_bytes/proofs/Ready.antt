@@ -12,7 +12,7 @@ use borrow.Author.Tests.{eq-eqb, ne-eqb}
 use Rattle.arith.specs.Choice.{bit}
 use Rattle.seqs.specs.Lists.{choose}
 use Rattle.geometry.specs.declared.Geometry.{Geometry}
-use Rattle.geometry_log.specs.Log.{preallocOf}
+use Rattle.geometry.specs.Log.{preallocOf}
 use Rattle.geometry_answers.specs.Named.{isAnswer}
 use Rattle.geometry_layout.proofs.Bounding.{answer-bounds}
 use Rattle.sb.specs.declared.SbState.{SbState}

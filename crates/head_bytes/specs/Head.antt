@@ -5,13 +5,13 @@ use mathlib.Core.List.{List, [], _++_}
 use Prim.Native.Nat.{ℕ, _+_, _*_, _-_, _%_}
 use lib.Dec.{eqb}
 use lib.ListN.{length, take, replicate}
+use Rattle.refusals.specs.Numbers.{wrongLength, noAnswer}
 use Rattle.arith.specs.Choice.{when, bit}
-use Rattle.endian.specs.Answer.{wrongLength}
 use Rattle.structs.specs.Written.{require}
 use Rattle.seqs.specs.Lists.{choose}
 use Rattle.params.specs.declared.Features.{Features}
 use Rattle.geometry.specs.declared.Geometry.{Geometry}
-use Rattle.geometry_log.specs.Log.{preallocOf}
+use Rattle.geometry.specs.Log.{preallocOf}
 use Rattle.geometry_layout.specs.Places.{cntBlock, ibtBlock, fibtBlock, rmapBlock, refcBlock, agflSize, daddrOf}
 use Rattle.btree.specs.declared.records.InobtRec.{InobtRec}
 use Rattle.btree.specs.Records.{listed, allocBytes, inobtBytes, rmapBytes}
@@ -164,10 +164,6 @@ headBytes g p uuid s = sbBytes g s (zeros (g .sectsize)) ++ behindBytes (frameOf
 unfoldable pub headLength : Geometry → ℕ
 headLength g = preallocOf (g .features) (g .sectsize) (g .blocksize) * g .blocksize
 
--- the refusal of a geometry that is no answer of the geometry step, and of a plan that is not the planner's
-abbrev pub noPlan : ℕ
-noPlan = 31
-
 -- 31, then 27 unless the lent bytes are the head's
 unfoldable pub headNumber : Geometry → AgPlan → ℕ → ℕ
-headNumber g p len = require noPlan (isPlan g p) (require wrongLength (eqb len (headLength g)) 0)
+headNumber g p len = require noAnswer (isPlan g p) (require wrongLength (eqb len (headLength g)) 0)

@@ -3,12 +3,13 @@
 use mathlib.Core.Path.{_≡_}
 use mathlib.Core.Bool.{Bool, true, false}
 use Prim.Native.Nat.{ℕ, _+_, _*_, _/_, _^_, _≤_, _<_}
+use Rattle.refusals.specs.Numbers.{noAnswer}
 use Rattle.seqs.specs.Lists.{choose}
 use Rattle.params.specs.declared.OptU64.{OptU64}
 use Rattle.params.specs.declared.OptU64.the-variants.{Absent, Given}
 use Rattle.params.specs.declared.Features.{Features}
 use Rattle.geometry.specs.declared.Geometry.{Geometry}
-use Rattle.geometry_log.specs.Log.{headerOf}
+use Rattle.geometry.specs.Log.{headerOf}
 use Rattle.structs.specs.Sizes.{isSector, isBlock}
 use Rattle.structs.specs.Written.{null32}
 use Rattle.plan.specs.declared.AgPlan.{AgPlan}
@@ -49,7 +50,7 @@ noFrame = record { agno = 0; length = 0; header = 0; sector = 0; block = 0; agsi
 
 -- `frame_of`: 31, or the frame
 unfoldable pub framed : Geometry → AgPlan → Framed
-framed g p = choose (isPlan g p) (record { number = 0; frame = frameOf g p }) (record { number = 31; frame = noFrame })
+framed g p = choose (isPlan g p) (record { number = 0; frame = frameOf g p }) (record { number = noAnswer; frame = noFrame })
 
 -- what holds of the frame of every plan of the planner
 pub record Fine (w : Frame) : Type 0 where

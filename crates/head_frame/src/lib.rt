@@ -5,14 +5,11 @@ ghost use Prim.Native.Nat.{_*_, _<_, _^_};
 ghost use Rattle.plan_same.specs.Same.{isPlan};
 ghost use Rattle.head_frame.specs.Frames.{hasChunk, chunkIno, frameOf, noFrame, framed};
 use geometry::Geometry;
-use geometry_log::header_of;
+use geometry::log_size::header_of;
 use params::Features;
 use params::OptU64;
 use plan::AgPlan;
 use plan_same::is_plan;
-
-// The refusal of a geometry that is no answer of the geometry step, and of a plan that is not the planner's.
-pub const NO_PLAN: u32 = 31;
 
 // A group, its head and its root chunk.
 pub struct Frame {
@@ -85,7 +82,7 @@ fn no_frame() -> Framed
         features,
     };
     Framed {
-        number: NO_PLAN,
+        number: refusals::NO_ANSWER,
         frame,
     }
 }

@@ -14,9 +14,9 @@ use btree::leaf_block;
 use btree::records::ALLOC_REC;
 use btree::records::INOBT_REC;
 use btree::records::RMAP_REC;
-use btree::records::TOO_MANY_RECORDS;
 use plan_free::FreeList;
 use plan_rmap::RmapList;
+use refusals::TOO_MANY_RECORDS;
 use structs::is_block;
 
 // Room for 64 records of the largest size.
@@ -57,7 +57,7 @@ pub fn free_leaf(
     ensures { λ r. ⌜ Written (listNumber 8 (l .len) (length (now (block .entry)))) (leafBytes magic daddr agno (now (uuid .entry)) (listed allocBytes (take (l .len) (l .recs))) (l .len) (length (now (block .entry)))) (now (block .entry)) r (now (block .exit)) ⌝ }
 {
     if !is_block(block.len()) {
-        return endian::WRONG_LENGTH;
+        return refusals::WRONG_LENGTH;
     }
     if 64 < l.len {
         return TOO_MANY_RECORDS;
@@ -97,7 +97,7 @@ pub fn rmap_leaf(
     ensures { λ r. ⌜ Written (listNumber 24 (l .len) (length (now (block .entry)))) (leafBytes magic daddr agno (now (uuid .entry)) (listed rmapBytes (take (l .len) (l .recs))) (l .len) (length (now (block .entry)))) (now (block .entry)) r (now (block .exit)) ⌝ }
 {
     if !is_block(block.len()) {
-        return endian::WRONG_LENGTH;
+        return refusals::WRONG_LENGTH;
     }
     if 64 < l.len {
         return TOO_MANY_RECORDS;

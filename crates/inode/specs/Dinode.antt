@@ -5,14 +5,14 @@ use mathlib.Core.List.{List, [], _∷_, _++_}
 use mathlib.Core.Bool.{Bool, true, false, _&&_}
 use Prim.Native.Nat.{ℕ, _+_, _/_, _%_}
 use lib.Dec.{leb, eqb}
-use Rattle.endian.specs.Answer.{wrongLength}
+use Rattle.refusals.specs.Numbers.{wrongLength, timeOutOfRange}
 use Rattle.endian.specs.Fields.{Field, field, run, write}
 use Rattle.crc.specs.Crc.{stamped}
 use Rattle.structs.specs.Sizes.{isInode}
 use Rattle.structs.specs.Written.{null32, require}
 use Rattle.params.specs.declared.Timestamp.{Timestamp}
 use Rattle.inode.specs.declared.dinode.Dinode.{Dinode}
-use Rattle.inode_time.specs.Time.{outOfRange, timeInside, timeRaw, accepted}
+use Rattle.inode_time.specs.Time.{timeInside, timeRaw, accepted}
 
 -- "IN"
 abbrev pub inodeMagic : ℕ
@@ -43,7 +43,7 @@ raw flags2 t = timeRaw (isBig flags2) (t .secs) (t .nsecs)
 -- 26 where one of the four times can't be stored, else what follows
 unfoldable pub timesNumber : ℕ → Timestamp → Timestamp → Timestamp → Timestamp → ℕ → ℕ
 timesNumber flags2 a m c r rest =
-    require outOfRange (inside flags2 a) (require outOfRange (inside flags2 m) (require outOfRange (inside flags2 c) (require outOfRange (inside flags2 r) rest)))
+    require timeOutOfRange (inside flags2 a) (require timeOutOfRange (inside flags2 m) (require timeOutOfRange (inside flags2 c) (require timeOutOfRange (inside flags2 r) rest)))
 
 -- an inode's length, with the data inside
 unfoldable pub dinodeNumber : Dinode → ℕ → ℕ → ℕ

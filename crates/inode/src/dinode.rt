@@ -257,7 +257,7 @@ impl Dinode {
             return n;
         }
         if !has_room(slot.len(), data.len()) {
-            return endian::WRONG_LENGTH;
+            return refusals::WRONG_LENGTH;
         }
         put_core(
             slot,
@@ -284,7 +284,7 @@ pub fn encode_free(ino: u64, generation: u32, uuid: &[u8; 16], slot: &mut [u8]) 
     ensures { λ r. ⌜ Written (freeNumber (length (now (slot .entry)))) (freeBytes ino generation (now (uuid .entry)) (now (slot .entry))) (now (slot .entry)) r (now (slot .exit)) ⌝ }
 {
     if !is_inode(slot.len()) {
-        return endian::WRONG_LENGTH;
+        return refusals::WRONG_LENGTH;
     }
     let at: [usize; 10] = [
         off::MAGIC,

@@ -5,12 +5,9 @@ use mathlib.Core.Bool.{Bool, true, false, _&&_}
 use Prim.Native.Nat.{ℕ, suc, _+_, _-_, _*_, _/_, _%_, _^_}
 use lib.Dec.{leb, ltb}
 use lib.IntN.{ℤ, pos, negsuc, _-ℤ_}
+use Rattle.refusals.specs.Numbers.{timeOutOfRange}
 use Rattle.structs.specs.Written.{require}
 use Rattle.params.specs.declared.Timestamp.{Timestamp}
-
--- the refusal of a time out of range
-abbrev pub outOfRange : ℕ
-outOfRange = 26
 
 -- nanoseconds of a second
 abbrev pub second : ℕ
@@ -47,7 +44,7 @@ timeRaw false secs nsecs = in32 secs * 2 ^ 32 + nsecs
 timeRaw true secs nsecs = shifted secs * second + nsecs
 
 abbrev pub timeNumber : Bool → ℤ → ℕ → ℕ
-timeNumber bigtime secs nsecs = require outOfRange (timeInside bigtime secs nsecs) 0
+timeNumber bigtime secs nsecs = require timeOutOfRange (timeInside bigtime secs nsecs) 0
 
 -- a value that was accepted, 0 where it was not
 abbrev pub accepted : Bool → ℕ → ℕ

@@ -6,9 +6,6 @@ ghost use Rattle.structs.specs.Written.{require};
 ghost use Rattle.inode_time.specs.Time.{Inside, StoredAs, accepted, decoded};
 use params::Timestamp;
 
-// The refusal of a time that is out of range.
-pub const TIME_OUT_OF_RANGE: u32 = 26;
-
 pub const NANOSECONDS: u64 = 1_000_000_000;
 
 // What an inode stores of a time; `number` is 0, or 26 and the value 0.
@@ -48,7 +45,7 @@ fn refused() -> Stored
     ensures { λ r. ⌜ (r .number ≡ 26) × (r .value ≡ 0) ⌝ }
 {
     Stored {
-        number: TIME_OUT_OF_RANGE,
+        number: refusals::TIME_OUT_OF_RANGE,
         value: 0,
     }
 }

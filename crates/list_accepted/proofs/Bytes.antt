@@ -5,7 +5,7 @@ use mathlib.Core.List.{List, [], _∷_}
 use Prim.Native.Nat.{ℕ, zero, suc, _-_, _<_, min}
 use lib.ListN.{length, getD, take, replicate, length-replicate}
 use Rattle.endian.specs.Bytes.{below}
-use Rattle.geometry_log.specs.Limits.{labelRoom}
+use Rattle.geometry.specs.Limits.{labelRoom}
 use Rattle.geometry.specs.Compute.{labelOf}
 use Rattle.head_bytes.proofs.Below.{below-append, below-zeros}
 use Rattle.params.specs.declared.Presence.{Presence}

@@ -5,13 +5,12 @@ use mathlib.Core.Bool.{Bool, true, false}
 use mathlib.Core.List.{List, [], _∷_}
 use Prim.Native.Nat.{ℕ, zero, suc, _+_, _-_, _^_, _≤_, _<_, min}
 use native.Mathlib.Omega.{arith}
-use borrow.Author.Tests.{lt-ltb, ltb-true, ltb-false, eqb-true}
-use lib.Dec.{eqb, ltb, lit<}
+use borrow.Author.Tests.{lt-ltb, ltb-true, ltb-false}
+use lib.Dec.{ltb, lit<}
 use lib.ListN.{length, getD, drop, replicate, length-append, length-take, length-drop, length-replicate}
 use Rattle.endian.specs.Bytes.{below}
 use Rattle.endian.specs.Fields.{part}
 use Rattle.endian.proofs.Laws.{at-bound}
-use Rattle.seqs.specs.Lists.{choose}
 use Rattle.head_bytes.proofs.Below.{below-append, below-zeros}
 use Rattle.params.specs.Options.{or64, or32, or8}
 use Rattle.params.specs.declared.OptU64.{OptU64}
@@ -25,8 +24,8 @@ use Rattle.request.specs.Options as options
 use Rattle.request.specs.Parse.{parseDef, answer}
 use Rattle.request.specs.Defaults.{orEpoch, timeOf, seedOf}
 use Rattle.request.proofs.Values.{option-fits, label-inside, uuid-inside}
-use Rattle.run.specs.declared.Run.{Run}
-use Rattle.run.specs.Runs.{runNumber, noRun, runOf, accepted}
+use Rattle.run.specs.Runs.{accepted}
+use Rattle.run.proofs.Accepted.{run-zero}
 use Rattle.list_accepted.specs.Accepted.{signed64, TypedRequest, AcceptedRun}
 use Rattle.list_accepted.proofs.Bytes.{below-all, below-at, below-take}
 use Rattle.list_accepted.proofs.Runs.{request-zero}
@@ -143,14 +142,6 @@ well-at xs false e = absurd (omega arith)
 pub well-parsed : (xs : List ℕ) → parseDef xs .number ≡ 0 → wellFormed xs ≡ true
 unfolding parseDef
 well-parsed xs e = well-at xs (wellFormed xs) e
-
-zero-at : (n : ℕ) (t : Bool) (r : Run) → eqb n 0 ≡ t → choose t r (noRun n) .number ≡ 0 → n ≡ 0
-zero-at n true r e z = eqb-true n 0 e
-zero-at n false r e z = z
-
-pub run-zero : (r : Request) → runOf r .number ≡ 0 → runNumber r ≡ 0
-unfolding runOf
-run-zero r e = zero-at (runNumber r) (eqb (runNumber r) 0) _ refl e
 
 -- WHAT `accept` ACCEPTS IS AN ACCEPTED RUN
 pub accepted-run : (xs : List ℕ) → ((i : ℕ) → getD xs i 0 < 256) → accepted xs .number ≡ 0 → AcceptedRun (parseDef xs)

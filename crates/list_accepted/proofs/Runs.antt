@@ -1,14 +1,12 @@
 -- What an accepted run has: its geometry is an answer with accepted plans and time, its label and UUID are bytes, and its blocks lie on the device.
 -- Assumes nothing.
 use mathlib.Core.Path.{_≡_, refl, sym, ap, _∙_}
-use mathlib.Core.Bool.{Bool, true, false}
+use mathlib.Core.Bool.{true}
 use mathlib.Core.List.{List}
 use Prim.Native.Nat.{ℕ, _*_, _≤_}
-use borrow.Author.Tests.{eq-eqb, eqb-true, eqb-false}
-use lib.Dec.{eqb}
+use borrow.Author.Tests.{eq-eqb}
 use lib.ListN.{length}
 use Rattle.endian.specs.Bytes.{below}
-use Rattle.seqs.specs.Lists.{choose}
 use Rattle.geometry.specs.declared.Geometry.{Geometry}
 use Rattle.geometry.specs.Compute.{geometryOf}
 use Rattle.geometry_answers.specs.Named.{isAnswer}
@@ -22,16 +20,9 @@ use Rattle.request.specs.Defaults.{uuidOf, timeOf, seedOf}
 use Rattle.plan_totals.specs.Totals.{plansNumber}
 use Rattle.run.specs.declared.Run.{Run}
 use Rattle.run.specs.Runs.{orNext, stepOf, timeRefusal, runNumber, runOf}
+use Rattle.run.proofs.Accepted.{none}
 use Rattle.list_accepted.specs.Accepted.{AcceptedRun, Source}
 use Rattle.list_accepted.proofs.Bytes.{below-all, label-below, uuid-length, uuid-below}
-
--- the first of two numbers that isn't 0 is 0: so are both
-none-at : (a b : ℕ) (t : Bool) → eqb a 0 ≡ t → choose t b a ≡ 0 → (a ≡ 0) × (b ≡ 0)
-none-at a b true e z = (eqb-true a 0 e, z)
-none-at a b false e z = absurd (eqb-false a 0 e z)
-
-none : (a b : ℕ) → orNext a b ≡ 0 → (a ≡ 0) × (b ≡ 0)
-none a b z = none-at a b (eqb a 0) refl z
 
 all-none : (a b c d : ℕ) → a ≡ 0 → b ≡ 0 → c ≡ 0 → d ≡ 0 → orNext a (orNext b (orNext c d)) ≡ 0
 all-none a b c d e f g h = rw (e, f, g, h) refl

@@ -14,7 +14,7 @@ use Rattle.arith.specs.Choice.{when}
 use Rattle.endian.proofs.Fields.{write-length}
 use Rattle.seqs.specs.Lists.{both, choose}
 use Rattle.geometry.specs.declared.Geometry.{Geometry}
-use Rattle.geometry_log.specs.Log.{preallocOf}
+use Rattle.geometry.specs.Log.{preallocOf}
 use Rattle.geometry_layout.specs.Places.{freelistOf, groupBlocks, lsunitBytes, logsunitOf}
 use Rattle.geometry_layout.specs.Bounds.{Bounds}
 use Rattle.geometry_layout.proofs.Inside.{inside, blocks-least}

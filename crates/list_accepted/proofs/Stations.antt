@@ -16,7 +16,7 @@ use Rattle.params.specs.declared.OptTime.{OptTime}
 use Rattle.params.specs.declared.OptTime.the-variants.{Absent}
 use Rattle.geometry.specs.declared.Geometry.{Geometry}
 use Rattle.geometry.specs.declared.Computed.{Computed}
-use Rattle.geometry_groups.specs.Limits.{mib}
+use Rattle.geometry.specs.Limits.{mib}
 use Rattle.geometry.specs.Compute.{computeDef}
 use Rattle.inode_time.specs.Time.{notEarly, shifted, timeInside, timeNumber}
 use Rattle.geometry_places.specs.Answers.{rootIno}

@@ -9,7 +9,7 @@ use lib.Dec.{leb, eqb}
 use lib.Pow.{pow-mono}
 use Rattle.arith.specs.Choice.{when}
 use Rattle.geometry.specs.declared.Geometry.{Geometry}
-use Rattle.geometry_log.specs.Log.{preallocOf}
+use Rattle.geometry.specs.Log.{preallocOf}
 use Rattle.geometry_layout.specs.Bounds.{Bounds}
 use Rattle.chunk.specs.Chunk.{chunkLength}
 use Rattle.chunk.proofs.Chunks.{whole-chunk}

@@ -4,21 +4,21 @@ use mathlib.Core.Path.{_≡_, refl, sym, ap, _∙_}
 use mathlib.Core.List.{List, [], _∷_, _++_}
 use Prim.Native.Nat.{ℕ, zero, suc, _+_, _-_, _<_, _≤_, _^_}
 use native.Mathlib.Omega.{arith}
-use lib.ListN.{length, getD}
+use lib.ListN.{length, take, getD}
+use Rattle.refusals.specs.Numbers.{noPlace}
 use Rattle.structs.specs.Written.{Written}
 use Rattle.structs.proofs.Written.{written-in}
 use Rattle.list_records.specs.Records.{Record, WZ, WB, FL, All, listBytes}
 use Rattle.list_read.specs.Records.{fits}
-use Rattle.list_read.specs.Whole.{readAll, allFit}
-use Rattle.list_read.specs.Flushes.{ruled}
-use Rattle.list_read.proofs.WholeList.{list-back}
-use Rattle.list_read.proofs.Ending.{whole-list, cut-list}
+use Rattle.list_read.specs.Whole.{readList, readAs, CutOff, allFit}
+use Rattle.list_read.specs.Flushes.{WholeList}
+use Rattle.list_read.proofs.WholeList.{list-back, list-cut}
 use Rattle.list_device.specs.Device.{Fits}
 use Rattle.request.specs.declared.Request.{Request}
 use Rattle.request.specs.Parse.{parseDef}
 use Rattle.run.specs.declared.Run.{Run}
 use Rattle.run.specs.Runs.{runOf, accepted}
-use Rattle.list_spec.specs.Listing.{listOf, chunkCount, listChunk, chunksTo, recordCount, listLength}
+use Rattle.list_spec.specs.Listing.{listOf, chunkCount, listChunk, chunksTo, listLength}
 use Rattle.list_spec.proofs.Chunks.{by-chunks}
 use Rattle.list_spec.proofs.Parts.{butLast, list-last}
 use Rattle.list_spec.proofs.Cut.{told}
@@ -29,7 +29,7 @@ use Rattle.list_accepted.proofs.Heads.{run-ordered}
 use Rattle.list_accepted.proofs.Parsed.{accepted-run}
 use Rattle.group_bytes.proofs.Accepted.{or-second}
 use Rattle.list_lengths.specs.declared.Counted.{Counted}
-use Rattle.list_lengths.specs.Chunks.{noChunk, formatNumber, placeNumber, writeNumber, countAnswer, lengthAnswer, partAnswer}
+use Rattle.list_lengths.specs.Chunks.{formatNumber, placeNumber, writeNumber, countAnswer, lengthAnswer, partAnswer}
 use Rattle.list_lengths.proofs.Numbers.{place-there, place-none, write-fits}
 use Rattle.list_write.proofs.Splitting.{list-append}
 use Rattle.list_laws.specs.Whole.{largestHead, sent, sentTo, sentAll, WrittenWhole}
@@ -57,13 +57,10 @@ sent-is run device (suc n) = ap (λ (l : List ℕ). l ++ sent run device n) (sen
 sent-whole : (run : Run) (device : ℕ) → sentAll run device ≡ listBytes (listOf run device)
 sent-whole run device = sent-is run device (chunkCount run) ∙ ap listBytes (by-chunks run device)
 
--- ---- where it ends: its second flush is its last record, and a prefix of it has fewer
+-- ---- where it ends: its second flush is its last record
 
-list-ends : (run : Run) (device : ℕ) → ruled 0 (listOf run device) ≡ 0
-list-ends run device = whole-list (listOf run device) .1 (record { two = told run device .whole-flushes; front = butLast run device; last = list-last run device })
-
-a-front-refused : (run : Run) (device : ℕ) (front rest : List Record) (w : Record) → front ++ (w ∷ rest) ≡ listOf run device → ruled 0 front ≡ 28
-a-front-refused run device front rest w e = sym (cut-list front (told run device .cut-noticed front rest w e))
+pub list-ends : (run : Run) (device : ℕ) → WholeList (listOf run device)
+list-ends run device = record { two = told run device .whole-flushes; front = butLast run device; last = list-last run device }
 
 -- ---- an accepted run
 
@@ -80,7 +77,7 @@ module _ (r : Request) (a : AcceptedRun r) where
   unfolding chunkCount
   there k h = sym (place-there run k format (omega arith))
 
-  not-there : (k : ℕ) → chunkCount run ≤ k → placeNumber run k ≡ noChunk
+  not-there : (k : ℕ) → chunkCount run ≤ k → placeNumber run k ≡ noPlace
   unfolding chunkCount
   not-there k h = sym (place-none run k format (omega arith))
 
@@ -98,7 +95,7 @@ module _ (r : Request) (a : AcceptedRun r) where
   unfolding partAnswer
   part-is k h = rw (there k h) (refl, part-most (run .geometry) (run-bounds r a) k)
 
-  write-is : (k room : ℕ) → k < chunkCount run → partAnswer run k .value ≤ room → writeNumber run k (length (sent run (r .device) k)) room ≡ 0
+  pub write-is : (k room : ℕ) → k < chunkCount run → partAnswer run k .value ≤ room → writeNumber run k (length (sent run (r .device) k)) room ≡ 0
   unfolding partAnswer
   write-is k room h m = sym (write-fits run k _ room (there k h) (chunk-long run (r .device) (sound r a) k) (rw (there k h) at m))
 
@@ -112,7 +109,7 @@ module _ (r : Request) (a : AcceptedRun r) where
       let z : writeNumber run k (length old) room ≡ 0 = rw l (write-is k room h m) in
       (w .number ∙ z, written-in w z)
 
-  none-is : (k len room : ℕ) → chunkCount run ≤ k → (placeNumber run k ≡ noChunk) × (writeNumber run k len room ≡ noChunk)
+  none-is : (k len room : ℕ) → chunkCount run ≤ k → (placeNumber run k ≡ noPlace) × (writeNumber run k len room ≡ noPlace)
   unfolding writeNumber
   none-is k len room h = let n = not-there k h in (n, rw n refl)
 
@@ -121,11 +118,14 @@ module _ (r : Request) (a : AcceptedRun r) where
   bytes-is : length (sentAll run (r .device)) ≡ listLength (run .geometry)
   bytes-is = ap length (sent-whole run (r .device)) ∙ run-ordered r a .bytes
 
-  read-is : readAll (recordCount (run .geometry)) (sentAll run (r .device)) ≡ listOf run (r .device)
-  read-is =
-      let o = run-ordered r a in
-      let f = all-fit (run .geometry .blocksize) (r .device) (a .typed .device) (listOf run (r .device)) (o .fits) in
-      rw (sent-whole run (r .device), ← o .count) (list-back (listOf run (r .device)) f)
+  pub list-fits : allFit (listOf run (r .device))
+  list-fits = all-fit (run .geometry .blocksize) (r .device) (a .typed .device) (listOf run (r .device)) (run-ordered r a .fits)
+
+  read-is : readList (sentAll run (r .device)) ≡ readAs (listOf run (r .device))
+  read-is = rw (sent-whole run (r .device)) (list-back (listOf run (r .device)) list-fits (list-ends run (r .device)))
+
+  cut-is : (i : ℕ) → i < length (sentAll run (r .device)) → CutOff (listOf run (r .device)) (readList (take i (sentAll run (r .device))))
+  cut-is i h = rw (sent-whole run (r .device)) (list-cut (listOf run (r .device)) list-fits (list-ends run (r .device)) i (rw (sent-whole run (r .device)) at h))
 
   -- WHAT IS WRITTEN FOR AN ACCEPTED RUN, AND READ AGAIN, IS ITS LIST
   pub written-whole : WrittenWhole (runOf r) (r .device)
@@ -140,8 +140,7 @@ module _ (r : Request) (a : AcceptedRun r) where
         whole = sent-whole run (r .device);
         bytes = bytes-is;
         back = read-is;
-        ends = list-ends run (r .device);
-        front-refused = a-front-refused run (r .device);
+        cut = cut-is;
       }
 
 -- THE SAME FOR EVERY INPUT THAT `accept` ACCEPTS

@@ -1,16 +1,16 @@
 -- That what `writelist` sends for an accepted run, and `applylist` reads, is exactly the run's list.
 -- Assumes nothing.
 use mathlib.Core.Path.{_≡_}
-use mathlib.Core.List.{List, [], _∷_, _++_}
+use mathlib.Core.List.{List, [], _++_}
 use Prim.Native.Nat.{ℕ, zero, suc, _<_, _≤_}
-use lib.ListN.{length}
+use lib.ListN.{length, take}
+use Rattle.refusals.specs.Numbers.{noPlace}
 use Rattle.structs.specs.Written.{Written}
-use Rattle.list_records.specs.Records.{Record, listBytes}
-use Rattle.list_read.specs.Whole.{readAll}
-use Rattle.list_read.specs.Flushes.{ruled}
+use Rattle.list_records.specs.Records.{listBytes}
+use Rattle.list_read.specs.Whole.{readList, readAs, CutOff}
 use Rattle.run.specs.declared.Run.{Run}
-use Rattle.list_spec.specs.Listing.{listOf, chunkCount, listChunk, recordCount, listLength}
-use Rattle.list_lengths.specs.Chunks.{noChunk, placeNumber, writeNumber, countAnswer, lengthAnswer, partAnswer}
+use Rattle.list_spec.specs.Listing.{listOf, chunkCount, listChunk, listLength}
+use Rattle.list_lengths.specs.Chunks.{placeNumber, writeNumber, countAnswer, lengthAnswer, partAnswer}
 
 -- the largest head, LARGEST_HEAD of crate group_bytes: 10 blocks of 16,384 bytes
 abbrev pub largestHead : ℕ
@@ -41,11 +41,10 @@ pub record WrittenWhole (run : Run) (device : ℕ) : Type 0 where
   pub leaves : (k room r : ℕ) (old left : List ℕ) → k < chunkCount run → partAnswer run k .value ≤ room → length old ≡ lengthAnswer run k .value
       → Written (writeNumber run k (length old) room) (sent run device k) old r left → (r ≡ 0) × (left ≡ sent run device k)
   -- there is no other chunk
-  pub none : (k len room : ℕ) → chunkCount run ≤ k → (placeNumber run k ≡ noChunk) × (writeNumber run k len room ≡ noChunk)
+  pub none : (k len room : ℕ) → chunkCount run ≤ k → (placeNumber run k ≡ noPlace) × (writeNumber run k len room ≡ noPlace)
   -- all chunks, one after the other, are the list's bytes: as many as the closed form says
   pub whole : sentAll run device ≡ listBytes (listOf run device)
   pub bytes : length (sentAll run device) ≡ listLength (run .geometry)
-  -- read record by record, they are the list, which ends where a list does; one that ends before that is refused
-  pub back : readAll (recordCount (run .geometry)) (sentAll run device) ≡ listOf run device
-  pub ends : ruled 0 (listOf run device) ≡ 0
-  pub front-refused : (front rest : List Record) (w : Record) → front ++ (w ∷ rest) ≡ listOf run device → ruled 0 front ≡ 28
+  -- read by themselves they are the list's records; cut at any byte they are refused, and what was read until then are its first records
+  pub back : readList (sentAll run device) ≡ readAs (listOf run device)
+  pub cut : (i : ℕ) → i < length (sentAll run device) → CutOff (listOf run device) (readList (take i (sentAll run device)))

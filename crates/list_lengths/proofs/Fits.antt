@@ -9,7 +9,7 @@ use Rattle.arith.specs.Choice.{bit}
 use Rattle.arith.specs.Numbers.{ceilDiv}
 use Rattle.arith.proofs.Laws.{bit-le}
 use Rattle.params.specs.declared.Features.{Features}
-use Rattle.geometry_log.specs.Log.{headerOf, preallocOf}
+use Rattle.geometry.specs.Log.{headerOf, preallocOf}
 use Rattle.geometry_layout.specs.Places.{chunkOf}
 use Rattle.list_lengths.specs.declared.parts.Sizes.{Sizes}
 use Rattle.list_lengths.specs.Lengths.{sizesOf, blocksLength}

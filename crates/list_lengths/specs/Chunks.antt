@@ -3,8 +3,8 @@
 -- Assumes nothing.
 use Prim.Native.Nat.{ℕ}
 use lib.Dec.{leb, eqb}
+use Rattle.refusals.specs.Numbers.{wrongLength, noPlace}
 use Rattle.arith.specs.Choice.{when}
-use Rattle.endian.specs.Answer.{wrongLength}
 use Rattle.structs.specs.Written.{require}
 use Rattle.seqs.specs.Lists.{choose}
 use Rattle.geometry.specs.declared.Geometry.{Geometry}
@@ -36,13 +36,9 @@ partLength g k = partOf (sizesIn g) (g .agcount) k
 unfoldable pub formatNumber : Run → ℕ
 formatNumber run = orNext (plansNumber (run .geometry)) (timeRefusal (run .geometry) (run .time))
 
--- the refusal of a chunk that is not there
-abbrev pub noChunk : ℕ
-noChunk = 29
-
 -- the same, then 29 where there is no chunk k
 unfoldable pub placeNumber : Run → ℕ → ℕ
-placeNumber run k = orNext (formatNumber run) (when (leb (chunkCount run) k) noChunk 0)
+placeNumber run k = orNext (formatNumber run) (when (leb (chunkCount run) k) noPlace 0)
 
 -- the number of a chunk, then 27 for a buffer of another length than the chunk's or a work buffer shorter than its part; a chunk that
 -- isn't there has none

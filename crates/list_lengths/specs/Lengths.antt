@@ -4,7 +4,7 @@ use Prim.Native.Nat.{ℕ, _+_, _*_}
 use lib.Dec.{leb, eqb}
 use Rattle.arith.specs.Choice.{when}
 use Rattle.params.specs.declared.Features.{Features}
-use Rattle.geometry_log.specs.Log.{headerOf, preallocOf}
+use Rattle.geometry.specs.Log.{headerOf, preallocOf}
 use Rattle.geometry_layout.specs.Places.{chunkOf}
 use Rattle.list_lengths.specs.declared.parts.Sizes.{Sizes}
 

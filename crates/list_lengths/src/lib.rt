@@ -12,9 +12,6 @@ use parts::part_of;
 use plan_summary::plans_number;
 use run::Run;
 
-// The refusal of a chunk that is not there.
-pub const NO_CHUNK: u32 = 29;
-
 // A count of chunks or bytes; a refusal has 0 beside its number.
 pub struct Counted {
     pub number: u32,
@@ -76,7 +73,7 @@ fn place_number(run: Run, k: u64) -> u32
     if minus(k, 2) <= g.agcount {
         return 0;
     }
-    NO_CHUNK
+    refusals::NO_PLACE
 }
 
 // Whether chunk k can be made in a buffer of `len` bytes with a work buffer of `room`: 31, 25, 26, 29, 27, or 0.
@@ -89,12 +86,12 @@ pub fn write_number(run: Run, k: u64, len: usize, room: usize) -> u32
     }
     let g = run.geometry;
     if len != listed_length(g, k) {
-        return endian::WRONG_LENGTH;
+        return refusals::WRONG_LENGTH;
     }
     if listed_part(g, k) <= room {
         return 0;
     }
-    endian::WRONG_LENGTH
+    refusals::WRONG_LENGTH
 }
 
 fn refused(number: u32) -> Counted

@@ -2,9 +2,9 @@
 ghost use mathlib.Core.Path.{_≡_};
 ghost use Prim.Native.Nat.{_<_, _^_};
 ghost use Rattle.list_lengths.specs.Lengths.{sizesOf, blocksLength, lengthOf, partOf};
+use geometry::log_size::header_of;
+use geometry::log_size::prealloc_of;
 use geometry_counts::inodes::chunk_of;
-use geometry_log::header_of;
-use geometry_log::prealloc_of;
 use list_records::HEAD_SIZE;
 use list_records::MARK_SIZE;
 use params::Features;

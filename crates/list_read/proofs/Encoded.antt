@@ -1,13 +1,13 @@
 -- A record that was written is read back: its head, its bytes, and the rest of the list behind them. A part of a head is refused, or asks for more.
 -- Assumes nothing.
-use mathlib.Core.Path.{_≡_, refl, ap, sym, _∙_}
-use mathlib.Core.Bool.{Bool}
+use mathlib.Core.Path.{_≡_, refl, ap, ap₂, sym, _∙_}
+use mathlib.Core.Bool.{Bool, true}
 use mathlib.Core.List.{List, [], _∷_, _++_, append-assoc}
 use Prim.Native.Nat.{ℕ, _+_, _^_, _≤_, _<_}
 use native.Mathlib.Omega.{arith}
 use lib.Dec.{lit<}
 use lib.ListN.{length, take, drop, length-append}
-use lib.Seq.{drop-at, take-at, take-take, length-take-le}
+use lib.Seq.{drop-at, take-at, take-take, take-append-add, length-take-le}
 use Rattle.endian.specs.Bytes.{beAt, beBytes}
 use Rattle.endian.proofs.Laws.{length-be}
 use Rattle.endian.proofs.Fields.{at-part, at-written}
@@ -16,17 +16,17 @@ use Rattle.list_read.specs.Records.{flushMark, zerosMark, bytesMark, zer
 use Rattle.list_read.proofs.Heads.{write-cut, write-held, no-mark, flush-at, zeros-at, bytes-at}
 
 -- the mark, the offset and the length, before the rest of the list
-abbrev headBytes : ℕ → ℕ → ℕ → List ℕ → List ℕ
+abbrev pub headBytes : ℕ → ℕ → ℕ → List ℕ → List ℕ
 headBytes mark at len rest = beBytes 2 mark ++ (beBytes 8 at ++ (beBytes 8 len ++ rest))
 
 -- a record before the rest of the list, by its numbers
-abbrev encoded : Record → List ℕ → List ℕ
+abbrev pub encoded : Record → List ℕ → List ℕ
 encoded FL rest = beBytes 2 flushMark ++ rest
 encoded (WZ at len) rest = headBytes zerosMark at len rest
 encoded (WB at bs) rest = headBytes bytesMark at (length bs) (bs ++ rest)
 
 -- it is the record's bytes
-record-encoded : (w : Record) (rest : List ℕ) → encoded w rest ≡ recordBytes w ++ rest
+pub record-encoded : (w : Record) (rest : List ℕ) → encoded w rest ≡ recordBytes w ++ rest
 unfolding recordBytes beBytes
 record-encoded FL rest = refl
 record-encoded (WZ at len) rest = ap (λ (xs : List ℕ). 0x57 ∷ 0x5a ∷ xs) (sym (append-assoc (beBytes 8 at) (beBytes 8 len) rest))
@@ -71,6 +71,13 @@ module _ (mark at len : ℕ) (rest : List ℕ) where
   write-back last kind h l =
       write-held last kind (headBytes mark at len rest) at len head-long (sym (offset-back h)) (sym (length-back l))
 
+-- a block's head, whatever follows it
+block-head : (last : Bool) (at len : ℕ) (rest : List ℕ) → at < 2 ^ 64 → len < 2 ^ 64 → head bytes at len 18 ≡ decodeDef last (headBytes bytesMark at len rest)
+block-head last at len rest h k =
+    let xs = headBytes bytesMark at len rest in
+    let l = head-long bytesMark at len rest in
+    write-back bytesMark at len rest last bytes h k ∙ bytes-at last xs bytesMark (omega arith) (sym (mark-back bytesMark at len rest (lit< tt))) refl
+
 head-encoded : (last : Bool) (w : Record) (rest : List ℕ) → fits w → headOf w ≡ decodeDef last (encoded w rest)
 head-encoded last FL rest f =
     let a = length-append (beBytes 2 flushMark) rest in
@@ -80,29 +87,41 @@ head-encoded last (WZ at len) rest f =
     let xs = headBytes zerosMark at len rest in
     let l = head-long zerosMark at len rest in
     write-back zerosMark at len rest last zeros (f .0) (f .1) ∙ zeros-at last xs zerosMark (omega arith) (sym (mark-back zerosMark at len rest (lit< tt))) refl
-head-encoded last (WB at bs) rest f =
-    let len = length bs in
-    let xs = headBytes bytesMark at len (bs ++ rest) in
-    let l = head-long bytesMark at len (bs ++ rest) in
-    write-back bytesMark at len (bs ++ rest) last bytes (f .0) (f .1) ∙ bytes-at last xs bytesMark (omega arith) (sym (mark-back bytesMark at len (bs ++ rest) (lit< tt))) refl
+head-encoded last (WB at bs) rest f = block-head last at (length bs) (bs ++ rest) (f .0) (f .1)
 
 -- The head of a written record is read back, whatever follows it.
 pub head-back : (last : Bool) (w : Record) (rest : List ℕ) → fits w → headOf w ≡ decodeDef last (recordBytes w ++ rest)
 head-back last w rest f = head-encoded last w rest f ∙ ap (decodeDef last) (record-encoded w rest)
 
 -- ---- behind the head
-rest-of-head : (mark at len : ℕ) (rest : List ℕ) → drop 18 (headBytes mark at len rest) ≡ rest
-rest-of-head mark at len rest =
-    let m = beBytes 2 mark in
-    let a = beBytes 8 at in
-    let l = beBytes 8 len in
-    let d = length-be 2 mark in
-    let e = length-be 8 at in
-    let f = length-be 8 len in
-    let g = length-append m (a ++ l) in
-    let h = length-append a l in
-    ap (drop 18) (ap (λ (xs : List ℕ). m ++ xs) (sym (append-assoc a l rest)) ∙ sym (append-assoc m (a ++ l) rest))
-    ∙ drop-at (m ++ (a ++ l)) rest 18 (omega arith)
+module _ (mark at len : ℕ) where
+  abbrev head18 : List ℕ
+  head18 = beBytes 2 mark ++ (beBytes 8 at ++ beBytes 8 len)
+
+  long18 : length head18 ≡ 18
+  long18 =
+      let d = length-be 2 mark in
+      let e = length-be 8 at in
+      let f = length-be 8 len in
+      let g = length-append (beBytes 2 mark) (beBytes 8 at ++ beBytes 8 len) in
+      let h = length-append (beBytes 8 at) (beBytes 8 len) in
+      omega arith
+
+  head-apart : (rest : List ℕ) → headBytes mark at len rest ≡ head18 ++ rest
+  head-apart rest =
+      let m = beBytes 2 mark in
+      let a = beBytes 8 at in
+      let l = beBytes 8 len in
+      ap (λ (xs : List ℕ). m ++ xs) (sym (append-assoc a l rest)) ∙ sym (append-assoc m (a ++ l) rest)
+
+  rest-of-head : (rest : List ℕ) → drop 18 (headBytes mark at len rest) ≡ rest
+  rest-of-head rest = ap (drop 18) (head-apart rest) ∙ drop-at head18 rest 18 long18
+
+  -- a head and a part of what follows it
+  part-behind : (i : ℕ) (rest : List ℕ) → take (18 + i) (headBytes mark at len rest) ≡ headBytes mark at len (take i rest)
+  part-behind i rest =
+      let e : 18 + i ≡ length head18 + i = let l = long18 in omega arith in
+      ap₂ (λ (k : ℕ) (xs : List ℕ). take k xs) e (head-apart rest) ∙ take-append-add head18 rest i ∙ sym (head-apart (take i rest))
 
 behind-encoded : (w : Record) (rest : List ℕ) → drop (headOf w .size) (encoded w rest) ≡ bytesOf w ++ rest
 behind-encoded FL rest = drop-at (beBytes 2 flushMark) rest 2 (length-be 2 flushMark)
@@ -158,3 +177,15 @@ write-head-cut last (WB at bs) n rest two few = bytes-cut last n at (length bs) 
 -- A part of a write's head is refused where the list ends with it, and asks for more elsewhere.
 pub head-cut : (last : Bool) (w : Record) (n : ℕ) (rest : List ℕ) → 2 ≤ n → n < headOf w .size → cut last ≡ decodeDef last (take n (recordBytes w ++ rest))
 head-cut last w n rest two few = write-head-cut last w n rest two few ∙ ap (λ (xs : List ℕ). decodeDef last (take n xs)) (record-encoded w rest)
+
+-- A block's head stands whole before a part of its bytes.
+pub bytes-cut-head : (at i : ℕ) (bs rest : List ℕ) → fits (WB at bs) → i < length bs
+    → (headOf (WB at bs) ≡ decodeDef true (take (18 + i) (recordBytes (WB at bs) ++ rest))) × (length (drop 18 (take (18 + i) (recordBytes (WB at bs) ++ rest))) ≡ i)
+bytes-cut-head at i bs rest f h =
+    let zs = bs ++ rest in
+    let l = length-append bs rest in
+    let e = part-behind bytesMark at (length bs) i zs in
+    let w = ap (take (18 + i)) (record-encoded (WB at bs) rest) in (
+      block-head true at (length bs) (take i zs) (f .0) (f .1) ∙ ap (decodeDef true) (sym e ∙ w),
+      ap (λ (xs : List ℕ). length (drop 18 xs)) (sym w ∙ e) ∙ ap length (rest-of-head bytesMark at (length bs) (take i zs)) ∙ length-take-le i zs (omega arith),
+    )

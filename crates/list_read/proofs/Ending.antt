@@ -44,13 +44,17 @@ more-refused : (n : ℕ) (w : Record) (ws : List Record) → 2 ≤ n → 28 ≡ 
 unfolding ruled
 more-refused n w ws h = rw (← none-behind n (headOf w .kind) h) refl
 
+-- before it every record may stand, and a flush is counted
+pub let-by : (n : ℕ) (w : Record) → n < 2 → passed (n + byKind 0 0 1 w) ≡ nextDef n (headOf w .kind)
+let-by n FL h = one-more n flush h refl
+let-by n (WZ at len) h = rw add-zero (as-many n zeros h (λ e. omega arith))
+let-by n (WB at bs) h = rw add-zero (as-many n bytes h (λ e. omega arith))
+
 goes-on : (n : ℕ) (w : Record) (ws : List Record) → n < 2 → ruled (n + byKind 0 0 1 w) ws ≡ ruled n (w ∷ ws)
 unfolding ruled
-goes-on n FL ws h = rw (← one-more n flush h refl) refl
-goes-on n (WZ at len) ws h = rw (← as-many n zeros h (λ e. omega arith), add-zero) refl
-goes-on n (WB at bs) ws h = rw (← as-many n bytes h (λ e. omega arith), add-zero) refl
+goes-on n w ws h = rw (← let-by n w h) refl
 
-went-on : (n : ℕ) (w : Record) (ws : List Record) (b : Bool) → leb 2 n ≡ b → ruled n (w ∷ ws) ≡ 0 → (n < 2) × (ruled (n + byKind 0 0 1 w) ws ≡ 0)
+pub went-on : (n : ℕ) (w : Record) (ws : List Record) (b : Bool) → leb 2 n ≡ b → ruled n (w ∷ ws) ≡ 0 → (n < 2) × (ruled (n + byKind 0 0 1 w) ws ≡ 0)
 went-on n w ws true e z = let h = more-refused n w ws (leb-true 2 n e) in absurd (omega arith)
 went-on n w ws false e z = let h = leb-false 2 n e in (h, goes-on n w ws h ∙ z)
 

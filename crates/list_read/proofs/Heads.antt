@@ -1,13 +1,13 @@
--- The head of a record by its mark, where its write ends, and the part of its bytes that is here.
+-- The head of a record by its mark, and where its write ends.
 -- Assumes nothing.
 use mathlib.Core.Path.{_≡_, refl, sym}
 use mathlib.Core.Bool.{Bool, true, false}
 use mathlib.Core.List.{List}
-use Prim.Native.Nat.{ℕ, _+_, _-_, _≤_, _<_}
+use Prim.Native.Nat.{ℕ, _+_, _≤_, _<_}
 use lib.ListN.{length}
 use borrow.Author.Tests.{leb-true, le-leb, lt-leb, ne-eqb}
 use Rattle.endian.specs.Bytes.{beAt}
-use Rattle.list_read.specs.Records.{flushMark, zerosMark, bytesMark, flush, zeros, bytes, head, more, refused, cut, write, decodeDef, largest, withinDef, part, noBody, bodyDef}
+use Rattle.list_read.specs.Records.{flushMark, zerosMark, bytesMark, flush, zeros, bytes, head, more, refused, cut, write, decodeDef, largest, withinDef}
 
 -- ---- too few bytes
 pub cut-more : (last : Bool) → last ≡ false → more ≡ cut last
@@ -59,17 +59,3 @@ module _ (at len : ℕ) where
   pub within-end : withinDef at len ≡ true → at + len ≤ largest
   unfolding withinDef
   within-end e = leb-true (at + len) largest e
-
--- ---- the bytes behind a head
-module _ (last : Bool) (len have : ℕ) where
-  pub all-here : len ≤ have → part len 0 ≡ bodyDef last len have
-  unfolding bodyDef
-  all-here h = rw (le-leb len have h) refl
-
-  pub lacking : have < len → last ≡ true → noBody ≡ bodyDef last len have
-  unfolding bodyDef
-  lacking h e = rw (lt-leb len have h, e) refl
-
-  pub some-here : have < len → last ≡ false → part have (len - have) ≡ bodyDef last len have
-  unfolding bodyDef
-  some-here h e = rw (lt-leb len have h, e) refl

@@ -1,4 +1,5 @@
 pub mod Heads
 pub mod Encoded
-pub mod WholeList
 pub mod Ending
+pub mod WholeList
+pub mod Exact

@@ -4,6 +4,7 @@ use mathlib.Core.Path.{_≡_}
 use mathlib.Core.List.{List, [], _∷_, _++_}
 use Prim.Native.Nat.{ℕ, _+_}
 use lib.Dec.{leb, eqb}
+use Rattle.refusals.specs.Numbers.{malformed}
 use Rattle.seqs.specs.Lists.{choose}
 use Rattle.list_records.specs.Records.{Record, FL, flushes}
 use Rattle.list_read.specs.declared.Passed.{Passed}
@@ -15,7 +16,7 @@ abbrev pub passed : ℕ → Passed
 passed n = record { number = 0; flushes = n }
 
 abbrev pub behind : Passed
-behind = record { number = 28; flushes = 0 }
+behind = record { number = malformed; flushes = 0 }
 
 -- A record of a list of which `n` flushes are past: a flush is one more; a record behind the second is malformed.
 unfoldable pub nextDef : ℕ → ℕ → Passed
@@ -23,7 +24,7 @@ nextDef n kind = choose (leb 2 n) behind (passed (choose (eqb kind flush) (n + 1
 
 -- The list ends, and is cut unless two flushes are past.
 unfoldable pub endedDef : ℕ → ℕ
-endedDef n = choose (eqb n 2) 0 28
+endedDef n = choose (eqb n 2) 0 malformed
 
 -- What the rest of a list gets, `n` flushes being past: the number of the first record that is refused, or that of its end.
 unfoldable pub ruled : ℕ → List Record → ℕ

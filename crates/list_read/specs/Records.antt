@@ -2,14 +2,14 @@
 -- Assumes nothing.
 use mathlib.Core.List.{List, []}
 use mathlib.Core.Bool.{Bool}
-use Prim.Native.Nat.{ℕ, _+_, _-_, _^_, _<_}
+use Prim.Native.Nat.{ℕ, _+_, _^_, _<_}
 use lib.Dec.{leb, eqb}
 use lib.ListN.{length}
+use Rattle.refusals.specs.Numbers.{malformed}
 use Rattle.endian.specs.Bytes.{beAt}
 use Rattle.seqs.specs.Lists.{choose}
 use Rattle.list_records.specs.Records.{Record, WZ, WB, FL}
 use Rattle.list_read.specs.declared.Decoded.{Decoded}
-use Rattle.list_read.specs.declared.Piece.{Piece}
 
 -- ---- marks and kinds
 
@@ -44,7 +44,7 @@ abbrev pub more : Decoded
 more = head 0 0 0 0
 
 abbrev pub refused : Decoded
-refused = record { number = 28; kind = 0; at = 0; len = 0; size = 0 }
+refused = record { number = malformed; kind = 0; at = 0; len = 0; size = 0 }
 
 -- too few bytes for a head: malformed where the list ends with them
 abbrev pub cut : Bool → Decoded
@@ -74,20 +74,6 @@ largest = 0x7fff_ffff_ffff_ffff
 -- A write of `len` bytes at the offset `at` ends no later.
 unfoldable pub withinDef : ℕ → ℕ → Bool
 withinDef at len = leb (at + len) largest
-
--- ---- the bytes behind a head
-
--- `here` bytes of the record stand here, `left` are still to come
-abbrev pub part : ℕ → ℕ → Piece
-part here left = record { number = 0; here = here; left = left }
-
-abbrev pub noBody : Piece
-noBody = record { number = 28; here = 0; left = 0 }
-
--- The `len` bytes that a record still has, where `have` bytes are here: all of them, or as many as there are; malformed where the list
--- ends before they do.
-unfoldable pub bodyDef : Bool → ℕ → ℕ → Piece
-bodyDef last len have = choose (leb len have) (part len 0) (choose last noBody (part have (len - have)))
 
 -- ---- as they are written
 

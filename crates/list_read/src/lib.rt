@@ -1,17 +1,13 @@
-// The written records, read back: the head of each, how much of its bytes has been seen, and where the list ends. A list is read in
-// parts, so an answer also says that more bytes are needed.
+// The written records, read back: the head of each, where its write ends, and where the list ends. A list is read in parts, so an answer
+// also says that more bytes are needed.
 ghost use mathlib.Core.Path.{_≡_};
-ghost use Prim.Native.Nat.{_+_, _≤_};
-ghost use Rattle.list_read.specs.Records.{cut, refused, write, decodeDef, withinDef, bodyDef};
+ghost use Rattle.list_read.specs.Records.{cut, refused, write, decodeDef, withinDef};
 ghost use Rattle.list_read.specs.Flushes.{nextDef, endedDef};
 use list_records::BLOCK_MARK;
 use list_records::FLUSH_MARK;
 use list_records::HEAD_SIZE;
 use list_records::MARK_SIZE;
 use list_records::ZEROS_MARK;
-
-// The refusal of malformed records.
-pub const MALFORMED: u32 = 28;
 
 // What a record asks for; none is known yet where more bytes are needed.
 pub const MORE: u8 = 0;
@@ -37,13 +33,6 @@ pub struct Decoded {
     pub size: usize,
 }
 
-// How many bytes of the record stand here, and how many are still to come. `number` is 0, or 28 beside zeros.
-pub struct Piece {
-    pub number: u32,
-    pub here: usize,
-    pub left: u64,
-}
-
 // How many flushes of a list are past. `number` is 0, or 28 beside 0.
 pub struct Passed {
     pub number: u32,
@@ -54,7 +43,7 @@ fn malformed() -> Decoded
     ensures { λ r. ⌜ r ≡ refused ⌝ }
 {
     Decoded {
-        number: MALFORMED,
+        number: refusals::MALFORMED,
         kind: MORE,
         at: 0,
         len: 0,
@@ -135,31 +124,6 @@ pub fn within(at: u64, len: u64) -> bool
     true
 }
 
-// Of `len` bytes that a record still has, those among the `have` bytes that are here; `last` where the list ends with them.
-pub fn body(len: u64, have: usize, last: bool) -> Piece
-    ensures { λ r. ⌜ (r ≡ bodyDef last len have) × (r .here ≤ have) × (r .here + r .left ≤ len) ⌝ }
-{
-    if len <= have as u64 {
-        return Piece {
-            number: 0,
-            here: len as usize,
-            left: 0,
-        };
-    }
-    if last {
-        return Piece {
-            number: MALFORMED,
-            here: 0,
-            left: 0,
-        };
-    }
-    Piece {
-        number: 0,
-        here: have,
-        left: len - have as u64,
-    }
-}
-
 // One more record of a list of which `flushes` are past. None may stand behind the last flush.
 pub fn next(flushes: u8, kind: u8) -> Passed
     ensures { λ r. ⌜ r ≡ nextDef flushes kind ⌝ }
@@ -174,7 +138,7 @@ pub fn next(flushes: u8, kind: u8) -> Passed
         return Passed { number: 0, flushes };
     }
     Passed {
-        number: MALFORMED,
+        number: refusals::MALFORMED,
         flushes: 0,
     }
 }
@@ -186,5 +150,5 @@ pub fn ended(flushes: u8) -> u32
     if flushes == FLUSHES {
         return 0;
     }
-    MALFORMED
+    refusals::MALFORMED
 }

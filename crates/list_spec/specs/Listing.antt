@@ -8,7 +8,7 @@ use lib.ListN.{length}
 use Rattle.arith.specs.Choice.{when}
 use Rattle.seqs.specs.Lists.{choose}
 use Rattle.geometry.specs.declared.Geometry.{Geometry}
-use Rattle.geometry_log.specs.Log.{headerOf, preallocOf}
+use Rattle.geometry.specs.Log.{headerOf, preallocOf}
 use Rattle.geometry_layout.specs.Places.{chunkOf, lsunitBytes, logsunitOf, byteOf}
 use Rattle.geometry_places.specs.Answers.{rootChunk}
 use Rattle.log.specs.Record.{clearSunit}

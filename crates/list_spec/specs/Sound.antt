@@ -3,8 +3,7 @@
 use mathlib.Core.Path.{_≡_}
 use Prim.Native.Nat.{ℕ, _+_, _*_, _-_, _<_, _≤_}
 use lib.ListN.{length, getD}
-use Rattle.geometry_groups.specs.Limits.{minGroupBytes}
-use Rattle.geometry_log.specs.Limits.{minLogBytes}
+use Rattle.geometry.specs.Limits.{minGroupBytes, realisticLogBytes}
 use Rattle.geometry_places.specs.Answers.{rootChunk}
 use Rattle.chunk.specs.Chunk.{chunkBytes}
 use Rattle.run.specs.declared.Run.{Run}
@@ -34,7 +33,7 @@ pub record Sound (run : Run) (device : ℕ) : Type 0 where
   pub head-most : headBlocks (run .geometry) ≤ 10
   pub group-least : minGroupBytes ≤ run .geometry .agsize * run .geometry .blocksize
   pub last-least : minGroupBytes ≤ (run .geometry .dblocks - (run .geometry .agcount - 1) * run .geometry .agsize) * run .geometry .blocksize
-  pub log-least : minLogBytes ≤ run .geometry .logblocks * run .geometry .blocksize
+  pub log-least : realisticLogBytes ≤ run .geometry .logblocks * run .geometry .blocksize
   -- every part has its blocks
   pub head-long : (k : ℕ) → k < run .geometry .agcount → length (headWritten (run .geometry) (run .uuid) k) ≡ headBlocks (run .geometry) * run .geometry .blocksize
   pub finished-long : length (headFinished (run .geometry) (run .uuid)) ≡ headBlocks (run .geometry) * run .geometry .blocksize

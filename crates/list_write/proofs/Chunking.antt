@@ -11,7 +11,7 @@ use Rattle.endian.specs.Bytes.{beBytes, patch}
 use Rattle.endian.proofs.Laws.{length-be, length-patch, patch-append, put-in}
 use Rattle.structs.proofs.Reading.{patch-whole}
 use Rattle.geometry.specs.declared.Geometry.{Geometry}
-use Rattle.geometry_log.specs.Log.{preallocOf}
+use Rattle.geometry.specs.Log.{preallocOf}
 use Rattle.geometry_layout.specs.Bounds.{Bounds}
 use Rattle.geometry_layout.specs.Places.{byteOf, before}
 use Rattle.geometry_places.specs.Answers.{rootChunk}

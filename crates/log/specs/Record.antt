@@ -5,14 +5,10 @@ use mathlib.Core.Bool.{Bool, true, false}
 use Prim.Native.Nat.{ℕ, zero, suc, _+_, _*_, _-_, _/_, _^_, max}
 use lib.Dec.{leb, eqb}
 use lib.ListN.{replicate}
-use Rattle.endian.specs.Answer.{wrongLength}
+use Rattle.refusals.specs.Numbers.{wrongLength, sunitTooLarge}
 use Rattle.endian_little.specs.Bytes.{leBytes}
 use Rattle.endian.specs.Fields.{Field, field, run, write}
 use Rattle.structs.specs.Written.{null32, require}
-
--- the refusal of a stripe unit above 16,384 bytes, the largest block
-abbrev pub sunitTooLarge : ℕ
-sunitTooLarge = 35
 
 abbrev pub largestSunit : ℕ
 largestSunit = 16384

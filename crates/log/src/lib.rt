@@ -11,9 +11,6 @@ use parts::record_blocks;
 use parts::stamp_blocks;
 use parts::unmount;
 
-// The refusal of a stripe unit above `LARGEST_SUNIT`.
-pub const SUNIT_TOO_LARGE: u32 = 35;
-
 // The largest log stripe unit, in bytes.
 pub const LARGEST_SUNIT: u32 = 16384;
 
@@ -41,10 +38,10 @@ pub fn record(uuid: &[u8; 16], sunit: u32, lsn: u64, tail_lsn: u64, rec: &mut [u
     let blocks = record_blocks(sunit);
     let need = parts::BBSIZE * blocks;
     if rec.len() != need {
-        return endian::WRONG_LENGTH;
+        return refusals::WRONG_LENGTH;
     }
     if LARGEST_SUNIT < sunit {
-        return SUNIT_TOO_LARGE;
+        return refusals::SUNIT_TOO_LARGE;
     }
     let cycle = (lsn / 0x1_0000_0000) as u32;
     endian::put_same(rec, 0, rec.len(), 0);

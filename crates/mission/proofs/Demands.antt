@@ -1,18 +1,17 @@
 -- DEMANDS 1 TO 3 ARE MET: each sentence by the theorem that has it.
 -- Assumes nothing.
-use mathlib.Core.Path.{_≡_, refl, sym, _∙_}
+use mathlib.Core.Path.{_≡_, refl, sym, ap, _∙_}
 use mathlib.Core.Bool.{Bool, true, false}
 use mathlib.Core.List.{List}
 use mathlib.Core.Logic.{_⊎_, inl, inr}
 use Prim.Native.Nat.{ℕ}
-use lib.Dec.{eqb}
+use lib.Dec.{eqb, lit<}
 use borrow.Author.Tests.{eqb-true}
 use Rattle.endian.specs.Answer.{room, answer, chosen, Put}
 use Rattle.structs.specs.Written.{Written}
-use Rattle.crc_register.specs.Register.{crcBit, crcBits, crcBytes}
-use Rattle.crc.specs.Crc.{crc32cOf}
 use Rattle.crc.proofs.Laws.{length-stamped, stamped-verifies}
-use Rattle.geometry.specs.Compute.{chosenOf, refusalOf, geometryOf, computeDef}
+use Rattle.crc.proofs.Vectors.{vectors}
+use Rattle.geometry.specs.Compute.{chosenOf, refusals, refusalOf, geometryOf, computeDef}
 use Rattle.geometry.proofs.Answer.{number-of}
 use Rattle.geometry_answers.proofs.Again.{again}
 use Rattle.geometry_answers.proofs.Exact.{exact}
@@ -29,16 +28,21 @@ use Rattle.list_accepted.proofs.Parsed.{accepted-run}
 use Rattle.stations.specs.Stations.{stations}
 use Rattle.list_accepted.proofs.Stations.{k1-accepted}
 use Rattle.list_accepted.proofs.Heads.{run-ordered, run-left}
+use Rattle.list_read.specs.Whole.{readList}
 use Rattle.list_laws.proofs.Whole.{input-whole}
+use Rattle.list_laws.proofs.Sending.{sends-all}
 use Rattle.reader_exact.specs.Disk.{formatted}
 use Rattle.reader_exact.proofs.Sizings.{reported-plain, reported-old}
 use Rattle.reader_exact.proofs.Numbers.{first-numbers, group-numbers, log-numbers}
 use Rattle.reader_exact.proofs.Disk.{exact-records}
+use Rattle.reader_vouch.proofs.Leaving.{first-head, other-head, log-block}
+use Rattle.reader_pass.proofs.Left.{accepted-left, left-accepted, left-unfinished}
+use Rattle.reader_pass.proofs.Fed.{fed-left}
 use Rattle.mission.specs.Mission.{Demand1, Demand2, Demand3}
+use Rattle.mission.proofs.Checks.{heads-checked}
 use Rattle.mission.proofs.Geometries.{own-sectors, is-answer, label-size, refused-plans}
-use Rattle.mission.proofs.Leaving.{first-head, other-head, log-block}
-use Rattle.mission.proofs.Parts.{in-parts}
 use Rattle.mission.proofs.Stopped.{read-back, its-refused, its-accepted}
+use Rattle.mission.proofs.Tables.{first-least, steps-rise}
 use Rattle.mission.proofs.Totals.{used-once, all-totals}
 
 -- ---- a refused call changes nothing
@@ -66,6 +70,10 @@ demand1 =
       any-input = accepted-run;
       input-number = λ xs. number-is (parseDef xs);
       by-the-table = λ p d l f. number-of (refusalOf p d (chosenOf p d l f)) (geometryOf p (chosenOf p d l f));
+      smallest-number =
+          λ p d l f m a.
+          let e = number-of (refusalOf p d (chosenOf p d l f)) (geometryOf p (chosenOf p d l f)) in
+          rw e (first-least (refusals p d (chosenOf p d l f)) 1 m (lit< tt) (steps-rise p d (chosenOf p d l f)) a);
       own-sectors = own-sectors;
       no-empty-group = λ g a. let b = answered-bounds g a .groups in (b .group-least, b .last-least);
       no-stranger = λ g t. (exact g t .0, λ a. exact g t .1 (a .answered));
@@ -77,10 +85,10 @@ demand1 =
     }
 
 pub demand2 : Demand2
-unfolding crc32cOf crcBytes crcBits crcBit formatted
+unfolding formatted
 demand2 =
     record {
-      rfc-vectors = (refl, refl, refl, refl, refl);
+      rfc-vectors = vectors;
       checksums-verify = λ off xs h. (stamped-verifies off xs h, length-stamped off xs);
       named-again = again;
       closed-plans = λ g a k i. closed-plan g (label-size g a) (is-answer g a) k i;
@@ -89,9 +97,10 @@ demand2 =
             (λ b j. one-use g (label-size g a) (is-answer g a) k i q b j),
             (λ on b. rmap-agrees g (label-size g a) (is-answer g a) k i q on b),
           );
-      sent-and-read = λ xs o e. let w = input-whole xs o e in (w .whole, w .back);
+      sent-and-read = λ xs o e room buf p q. let s = sends-all xs o e .whole room buf p q in let w = input-whole xs o e in (s, ap readList (s ∙ sym (w .whole)) ∙ w .back);
       ordered-list = run-ordered;
       left-behind = run-left;
+      checksums-left = heads-checked;
     }
 
 pub demand3 : Demand3
@@ -104,7 +113,9 @@ demand3 =
       other-head = λ g u k xs h. other-head g u xs k h;
       log-block = log-block;
       whole-disk = exact-records;
-      in-parts = in-parts;
+      pass-accepts = λ d b n h. (accepted-left d b n, left-accepted d b n h);
+      pass-unfinished = left-unfinished;
+      pass-vouches = fed-left;
       one-use = used-once;
       totals = all-totals;
       interrupted = λ r a old n. (its-refused r a old n, its-accepted r a old n);

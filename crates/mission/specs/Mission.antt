@@ -23,7 +23,7 @@ use mathlib.Core.List.{List, [], _∷_}
 use mathlib.Core.Logic.{_↔_, _⊎_}
 use Prim.Native.Nat.{ℕ, _+_, _*_, _-_, _<_, _≤_}
 use lib.Dec.{T, eqb, ltb}
-use lib.ListN.{length, replicate}
+use lib.ListN.{length}
 use Words.*
 
 -- ==== DEMAND 1: every input is answered, a bad one by its number, and a refused call changes no lent byte
@@ -41,6 +41,9 @@ pub record Demand1 : Type 0 where
   -- The geometry step's number is that of the first test of the table of refusals that holds, and 0 where none does.
   pub by-the-table : (p : Params) (device logical physical : ℕ)
       → computeDef p device logical physical .number ≡ first (refusals p device (chosenOf p device logical physical)) 0
+  -- The table's numbers rise, so where several tests hold the number is the smallest of theirs.
+  pub smallest-number : (p : Params) (device logical physical m : ℕ) → Applies m (refusals p device (chosenOf p device logical physical))
+      → (0 < computeDef p device logical physical .number) × (computeDef p device logical physical .number ≤ m)
   -- No disk gets a layout for smaller sectors than its own.
   pub own-sectors : (p : Params) (device logical physical : ℕ) → computeDef p device logical physical .number ≡ 0
       → logical ≤ computeDef p device logical physical .geometry .sectsize
@@ -75,11 +78,7 @@ pub record Demand1 : Type 0 where
 pub record Demand2 : Type 0 where
   -- The checksum is defined a bit at a time, by RFC 3720's polynomial, and the five test vectors of that document come out of the
   -- definition.
-  pub rfc-vectors : (crc32cOf (replicate 32 0) ≡ 0x8a91_36aa)
-      × (crc32cOf (replicate 32 0xff) ≡ 0x62a8_ab43)
-      × (crc32cOf rising ≡ 0x46dd_794e)
-      × (crc32cOf falling ≡ 0x113f_db5c)
-      × (crc32cOf readCommand ≡ 0xd996_3a56)
+  pub rfc-vectors : Vectors
   -- A structure that has got its checksum, anywhere inside it, verifies and is as long as before.
   pub checksums-verify : (off : ℕ) (xs : List ℕ) → off + 4 ≤ length xs → (verified off (stamped off xs) ≡ true) × (length (stamped off xs) ≡ length xs)
   -- What the superblock names of an accepted geometry gives all of it again under its sizing of the log, whatever the disk's physical
@@ -93,17 +92,21 @@ pub record Demand2 : Type 0 where
   pub planned-once : (g : Geometry) → Answered g → (k : ℕ) → k < g .agcount → planned g k .number ≡ 0
       → ((b : ℕ) → b < groupBlocks (g .dblocks) (g .agsize) (g .agcount) k → usesOf g k b ≡ 1)
       × (g .features .rmapbt ≡ true → (b : ℕ) → mappedOf g k b ≡ usedOf g k b)
-  -- The bytes that are sent for an accepted input are its list of written records, one after the other, and reading them gives the list
-  -- again.
+  -- The bytes that are sent for an accepted input, turn by turn through buffers that hold the longest chunk, are its list of written
+  -- records, one after the other; and these bytes, read by themselves, are that list again.
   pub sent-and-read : (xs : List ℕ) → Octets xs → accepted xs .number ≡ 0
-      → (sentAll (accepted xs) (parseDef xs .device) ≡ listBytes (listOf (accepted xs) (parseDef xs .device)))
-      × (readAll (recordCount (accepted xs .geometry)) (sentAll (accepted xs) (parseDef xs .device)) ≡ listOf (accepted xs) (parseDef xs .device))
+      → (room : ℕ) (buf : List ℕ) → longestOf (begun xs) ≤ room → longestOf (begun xs) ≤ length buf
+      → (handed (begun xs .left) (begun xs) room buf ≡ listBytes (listOf (accepted xs) (parseDef xs .device)))
+      × (readList (handed (begun xs .left) (begun xs) room buf) ≡ readAs (listOf (accepted xs) (parseDef xs .device)))
   -- Every record lies at a block's start and inside the device; there are three of zeros, two flushes, the rest single blocks, as many as
   -- `Ordered` says.
   pub ordered-list : (r : Request) → AcceptedRun r → Ordered (runOf r) (r .device)
   -- Applied to a device that held anything, the records leave every head, the log, the root chunk and the zeros that `Left` names, byte for
   -- byte.
   pub left-behind : (r : Request) → AcceptedRun r → (old : Device) → Left (runOf r) (r .device) (formatted r old)
+  -- Every checksum in every head that they leave verifies: superblock, AGF, AGI, free list, and each root.
+  pub checksums-left : (r : Request) → AcceptedRun r → (old : Device) (k : ℕ) → k < runOf r .geometry .agcount
+      → Checked (runOf r .geometry) (headOn (runOf r .geometry) (formatted r old) k)
 
 -- ==== DEMAND 3: a reader that sees only the heads and the first log block, and what it vouches for
 
@@ -114,7 +117,8 @@ pub record Demand3 : Type 0 where
   -- What it reports is the geometry but for the sizing of the log: plain where plain sizing gives the same log. Of a run in plain sizing it
   -- is the geometry.
   pub reported-geometry : (g : Geometry) → (plain (reported g) ≡ plain g) × (g .roomy ≡ false → reported g ≡ g)
-  -- Whatever bytes stand there: group 0's head is accepted exactly where some accepted run leaves exactly these in group 0.
+  -- Whatever bytes stand there: group 0's head is accepted exactly where some accepted run leaves exactly these in group 0. The function
+  -- `vouches` has this sentence as its contract.
   pub first-head : (xs : List ℕ) → Octets xs → (readGroup0 xs .number ≡ 0) ↔ SomeLeaves xs
   -- With a geometry and a UUID handed in, the head of group k is accepted exactly where some accepted run of these two leaves exactly these
   -- bytes.
@@ -124,11 +128,16 @@ pub record Demand3 : Type 0 where
   -- A disk is accepted whole, the other places read with what group 0's head gave, exactly where one accepted run leaves all its heads and
   -- its log block.
   pub whole-disk : (heads : ℕ → List ℕ) (log : List ℕ) → Octets (heads 0) → ReadWhole heads log ↔ ByRecords heads log
-  -- Taken part by part, first group 0's head, then the others, then the log block, a disk ends with 0 exactly where there is one head for
-  -- each group
-  -- and it is accepted whole.
-  pub in-parts : (head : List ℕ) (others : List (List ℕ)) (log : List ℕ) → Octets head
-      → (inParts head others log .number ≡ 0) ↔ ((readGroup0 head .geometry .agcount ≡ length others + 1) × ReadWhole (headsOf head others) log)
+  -- A pass over a disk says which bytes it wants next and is fed with them: the first sector, each head, the log block. Fed from any
+  -- device, to the end, its verdict is 0 exactly where the records of one accepted run leave every head and the log block that stand there.
+  pub pass-accepts : (d : Device) → Bytes d → (n : ℕ) → turnsNeeded d ≤ n → (verdictOf (passed d n) .number ≡ 0) ↔ LeftByRun d
+  -- Before its end, on such a disk, it says 27 at the place that comes next (group 0 for the first sector, agcount for the log block).
+  pub pass-unfinished : (d : Device) → LeftByRun d → (n : ℕ) → n < turnsNeeded d
+      → (verdictOf (passed d n) .number ≡ 27) × (verdictOf (passed d n) .place ≡ n - 1)
+  -- Whatever it is fed, from a file that changes while it is read too: 0 says that one accepted run leaves all these parts, the heads
+  -- behind the first sector and the log block behind them, and that all were fed.
+  pub pass-vouches : (parts : ℕ → List ℕ) → Octets (parts 1) → (n : ℕ) → verdictOf (fedBy parts n) .number ≡ 0
+      → ByRecords (λ k. parts (k + 1)) (parts (groupsFed parts + 1)) × (groupsFed parts + 2 ≤ n)
   -- On a disk accepted whole, with the geometry that group 0's head gave, each block of each group has exactly one of five uses, decoded
   -- from the bytes.
   pub one-use : (heads : ℕ → List ℕ) (log : List ℕ) → Octets (heads 0) → ReadWhole heads log → (g : Geometry) → readGroup0 (heads 0) .geometry ≡ g

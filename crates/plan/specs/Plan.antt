@@ -4,6 +4,7 @@ use mathlib.Core.Bool.{Bool, true, false}
 use mathlib.Core.List.{List, [], _∷_, _++_}
 use Prim.Native.Nat.{ℕ, _+_, _-_}
 use lib.Dec.{leb, ltb, eqb}
+use Rattle.refusals.specs.Numbers.{freeListShort}
 use Rattle.seqs.specs.Lists.{choose, Store, packed, appended, turns, upFrom}
 use Rattle.params.specs.declared.OptU64.{OptU64}
 use Rattle.params.specs.declared.OptU64.the-variants.{Absent, Given}
@@ -135,7 +136,7 @@ turn w =
     (choose (eqb (w .want) 0) w
     (choose (picked (w .free) (w .want) .found)
     (moved w (picked (w .free) (w .want) .rec .start) (least (w .want) (picked (w .free) (w .want) .rec .count)))
-    (failed w 25)))
+    (failed w freeListShort)))
     w
 
 -- every turn moves a block at least, so there are no more turns than blocks wanted

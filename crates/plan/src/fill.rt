@@ -134,7 +134,7 @@ fn one_turn(w: Work) -> Work
             let n = least_of(want, r.count);
             return move_blocks(w, r.start, n);
         }
-        return fail(w, 25);
+        return fail(w, refusals::FREE_LIST_SHORT);
     }
     w
 }

@@ -114,7 +114,7 @@ pub fn plan_ag(g: Geometry, agno: u64) -> Planned
     let at = site_of(g, agno);
     let number = at.number;
     if number != 0 {
-        return refuse(number as u32);
+        return refuse(number);
     }
     let s = at.site;
     plan_site(s)

@@ -4,6 +4,7 @@ use mathlib.Core.Bool.{Bool, not}
 use mathlib.Core.List.{List, [], _∷_, _++_}
 use Prim.Native.Nat.{ℕ, _+_, _-_}
 use lib.Dec.{ltb, eqb}
+use Rattle.refusals.specs.Numbers.{freeListShort}
 use Rattle.seqs.specs.Lists.{both, choose, upFrom}
 use Rattle.params.specs.declared.OptU64.the-variants.{Absent, Given}
 use Rattle.btree.specs.declared.records.AllocRec.{AllocRec}
@@ -80,4 +81,4 @@ closedAgPlan s =
 
 -- 25 where the log group is short of blocks, else the plan
 unfoldable pub closedPlan : Site → Planned
-closedPlan s = choose (short s) (refusedPlan 25) (record { number = 0; plan = closedAgPlan s })
+closedPlan s = choose (short s) (refusedPlan freeListShort) (record { number = 0; plan = closedAgPlan s })

@@ -9,13 +9,13 @@ use native.Mathlib.Omega.{arith}
 use borrow.Author.Tests.{leb-true, leb-false, ltb-true, ltb-false}
 use lib.Dec.{leb, ltb}
 use lib.ListN.{length, take, drop, getD, length-take, length-drop, take-append-drop}
+use Rattle.refusals.specs.Numbers.{tooManyRecords, notValid}
 use Rattle.seqs.specs.Lists.{choose, firstIndex, spliced}
-use Rattle.seqs.specs.Runs.{notValid, valid}
+use Rattle.seqs.specs.Runs.{valid}
 use Rattle.seqs.proofs.Laws.{total-put, never, both-left, both-right, index-le, length-put}
 use Rattle.seqs.proofs.Parts.{Follows, ended, valid-uncons, valid-cons, valid-join, valid-unjoin}
 use Rattle.seqs.proofs.Members.{getD-mem, before-fail, valid-mem, valid-before, ended-le, valid-from}
 use Rattle.btree.specs.declared.records.RmapRec.{RmapRec}
-use Rattle.btree.specs.Records.{tooMany}
 use Rattle.plan_rmap.specs.declared.RmapList.{RmapList}
 use Rattle.plan_rmap.specs.declared.Inserted.{Inserted}
 use Rattle.plan_rmap.specs.Rmap.{zeroRec, rmapOf, startOf, countOf, endOf, notBefore, placeOf, joins, glued, joinsLeft, joinsRight, refusal, joinedAt, insertedAt, takes, inserted}
@@ -233,9 +233,9 @@ numberOf : {l m : Inserted} → l ≡ m → l .number ≡ m .number
 numberOf e = ap (λ (t : Inserted). t .number) e
 
 gains-if : (l : RmapList) (r : RmapRec) (t : Inserted) → t .number ≡ 0 → Answers l r t → Gains (rmapOf l) r (rmapOf (t .list))
-gains-if l r t z (long a e) = let y : 0 ≡ tooMany = sym z ∙ numberOf e in absurd (omega arith)
+gains-if l r t z (long a e) = let y : 0 ≡ tooManyRecords = sym z ∙ numberOf e in absurd (omega arith)
 gains-if l r t z (unfit a b e) = let y : 0 ≡ notValid = sym z ∙ numberOf e in absurd (omega arith)
-gains-if l r t z (full a b n o e) = let y : 0 ≡ tooMany = sym z ∙ numberOf e in absurd (omega arith)
+gains-if l r t z (full a b n o e) = let y : 0 ≡ tooManyRecords = sym z ∙ numberOf e in absurd (omega arith)
 gains-if l r t z (done a b n e g) = g
 
 -- an accepted `rmap_insert` puts the record's blocks in for its owner, each once, and changes no other
@@ -247,19 +247,19 @@ module _ (l : RmapList) (r : RmapRec) (few : l .len ≤ 64) where
   number-32 : (t : Inserted) → Answers l r t → (t .number ≡ notValid) ↔ (Accepts (rmapOf l) r → ⊥)
   number-32 t (long a e) = absurd (omega arith)
   number-32 t (unfit a b e) = (λ x. b, λ x. numberOf e)
-  number-32 t (full a b n o e) = (λ x. let y : notValid ≡ tooMany = sym x ∙ numberOf e in absurd (omega arith), λ x. absurd (x b))
+  number-32 t (full a b n o e) = (λ x. let y : notValid ≡ tooManyRecords = sym x ∙ numberOf e in absurd (omega arith), λ x. absurd (x b))
   number-32 t (done a b n e g) = (λ x. let y : notValid ≡ 0 = sym x ∙ e in absurd (omega arith), λ x. absurd (x b))
 
   -- 32 exactly where the record can't be put in
   pub insert-32 : (inserted l r .number ≡ notValid) ↔ (Accepts (rmapOf l) r → ⊥)
   insert-32 = number-32 (inserted l r) (insert-answers l r)
 
-  number-34 : (t : Inserted) → Accepts (rmapOf l) r → Answers l r t → (t .number ≡ tooMany) ↔ ((length (rmapOf l) ≡ 64) × Alone (rmapOf l) r)
+  number-34 : (t : Inserted) → Accepts (rmapOf l) r → Answers l r t → (t .number ≡ tooManyRecords) ↔ ((length (rmapOf l) ≡ 64) × Alone (rmapOf l) r)
   number-34 t c (long a e) = absurd (omega arith)
   number-34 t c (unfit a b e) = absurd (b c)
   number-34 t c (full a b n o e) = (λ x. (n, o), λ x. numberOf e)
-  number-34 t c (done a b n e g) = (λ x. let y : tooMany ≡ 0 = sym x ∙ e in absurd (omega arith), λ x. absurd (n (x .0) (x .1)))
+  number-34 t c (done a b n e g) = (λ x. let y : tooManyRecords ≡ 0 = sym x ∙ e in absurd (omega arith), λ x. absurd (n (x .0) (x .1)))
 
   -- 34 exactly where the list is full and the record joins none
-  pub insert-34 : Accepts (rmapOf l) r → (inserted l r .number ≡ tooMany) ↔ ((length (rmapOf l) ≡ 64) × Alone (rmapOf l) r)
+  pub insert-34 : Accepts (rmapOf l) r → (inserted l r .number ≡ tooManyRecords) ↔ ((length (rmapOf l) ≡ 64) × Alone (rmapOf l) r)
   insert-34 c = number-34 (inserted l r) c (insert-answers l r)

@@ -9,17 +9,17 @@ use native.Mathlib.Omega.{arith}
 use borrow.Author.Tests.{leb-true, leb-false, ltb-true, ltb-false, le-leb, lt-ltb, le-ltb}
 use lib.Dec.{leb, ltb}
 use lib.ListN.{length, take, drop, getD, length-take}
+use Rattle.refusals.specs.Numbers.{tooManyRecords, notFree, notValid}
 use Rattle.seqs.specs.Lists.{choose, spliced}
-use Rattle.seqs.specs.Runs.{notValid, valid, has}
+use Rattle.seqs.specs.Runs.{valid, has}
 use Rattle.seqs.proofs.Laws.{never, both-left, both-right, index-passes, lt-or-le, length-put}
 use Rattle.seqs.proofs.Parts.{Follows, ended, valid-cons, valid-lower, valid-join, valid-parts}
 use Rattle.seqs.proofs.Members.{getD-mem, all-fail, valid-mem, valid-apart}
 use Rattle.seqs.proofs.Weights.{additive-has}
 use Rattle.btree.specs.declared.records.AllocRec.{AllocRec}
-use Rattle.btree.specs.Records.{tooMany}
 use Rattle.plan_free.specs.declared.FreeList.{FreeList}
 use Rattle.plan_free.specs.declared.Taken.{Taken}
-use Rattle.plan_free.specs.Free.{notFree, zeroRec, freeOf, startOf, countOf, endOf, holdsRun, before, after, cut, refusal, takenAt, takenFrom, taken}
+use Rattle.plan_free.specs.Free.{zeroRec, freeOf, startOf, countOf, endOf, holdsRun, before, after, cut, refusal, takenAt, takenFrom, taken}
 use Rattle.plan_free.proofs.Laws.{holder, held, leftOf, taken-ok, taken-valid}
 use Rattle.plan_free.proofs.Uses.{free-packed, piece, taken-weighs}
 use Rattle.plan_extents.specs.Takes.{Holds, Leaves, Splits, NoneHolds, Answers, long, unsorted, unheld, split, done}
@@ -171,7 +171,7 @@ module _ (l : FreeList) (s n : ℕ) (few : l .len ≤ 64) where
   number-32 t (long a e) = absurd (omega arith)
   number-32 t (unsorted a v e) = (λ x. v, λ x. rw e)
   number-32 t (unheld a v w e) = (λ x. let y : notValid ≡ notFree = sym x ∙ ap (λ (u : Taken). u .number) e in absurd (omega arith), λ x. never (sym x ∙ v))
-  number-32 t (split a v r w e) = (λ x. let y : notValid ≡ tooMany = sym x ∙ ap (λ (u : Taken). u .number) e in absurd (omega arith), λ x. never (sym x ∙ v))
+  number-32 t (split a v r w e) = (λ x. let y : notValid ≡ tooManyRecords = sym x ∙ ap (λ (u : Taken). u .number) e in absurd (omega arith), λ x. never (sym x ∙ v))
   number-32 t (done a v r m h w e) = (λ x. let y : notValid ≡ 0 = sym x ∙ e in absurd (omega arith), λ x. never (sym x ∙ v))
 
   -- 32 exactly where the list isn't valid
@@ -183,21 +183,21 @@ module _ (l : FreeList) (s n : ℕ) (few : l .len ≤ 64) where
   number-33 t v (unsorted a w e) = never (sym w ∙ v)
   number-33 t v (unheld a w h e) = (λ x. h, λ x. rw e)
   number-33 t v (split a w r p e) =
-      (λ x. let y : notFree ≡ tooMany = sym x ∙ ap (λ (u : Taken). u .number) e in absurd (omega arith), λ x. let b = p .before in let c = p .behind in absurd (x r (p .there) (record { low = omega arith; high = omega arith })))
+      (λ x. let y : notFree ≡ tooManyRecords = sym x ∙ ap (λ (u : Taken). u .number) e in absurd (omega arith), λ x. let b = p .before in let c = p .behind in absurd (x r (p .there) (record { low = omega arith; high = omega arith })))
   number-33 t v (done a w r m h p e) = (λ x. let y : notFree ≡ 0 = sym x ∙ e in absurd (omega arith), λ x. absurd (x r m h))
 
   -- 33 exactly where no record of a valid list holds the run; so wherever start plus length is above 2^64 − 1
   pub take-33 : valid startOf countOf 0 (freeOf l) ≡ true → (taken l s n .number ≡ notFree) ↔ NoneHolds (freeOf l) s (s + n)
   take-33 v = number-33 (taken l s n) v (take-answers l s n)
 
-  number-34 : (t : Taken) → valid startOf countOf 0 (freeOf l) ≡ true → Answers l s n t → (t .number ≡ tooMany) ↔ ((r : AllocRec) × Splits (freeOf l) s (s + n) r)
+  number-34 : (t : Taken) → valid startOf countOf 0 (freeOf l) ≡ true → Answers l s n t → (t .number ≡ tooManyRecords) ↔ ((r : AllocRec) × Splits (freeOf l) s (s + n) r)
   number-34 t v (long a e) = absurd (omega arith)
   number-34 t v (unsorted a w e) = never (sym w ∙ v)
   number-34 t v (unheld a w h e) =
-      (λ x. let y : tooMany ≡ notFree = sym x ∙ ap (λ (u : Taken). u .number) e in absurd (omega arith), λ x. let p = x .1 in let b = p .before in let c = p .behind in absurd (h (x .0) (p .there) (record { low = omega arith; high = omega arith })))
+      (λ x. let y : tooManyRecords ≡ notFree = sym x ∙ ap (λ (u : Taken). u .number) e in absurd (omega arith), λ x. let p = x .1 in let b = p .before in let c = p .behind in absurd (h (x .0) (p .there) (record { low = omega arith; high = omega arith })))
   number-34 t v (split a w r p e) = (λ x. (r, p), λ x. rw e)
-  number-34 t v (done a w r m h p e) = (λ x. let y : tooMany ≡ 0 = sym x ∙ e in absurd (omega arith), λ x. absurd (p (x .0) (x .1)))
+  number-34 t v (done a w r m h p e) = (λ x. let y : tooManyRecords ≡ 0 = sym x ∙ e in absurd (omega arith), λ x. absurd (p (x .0) (x .1)))
 
   -- 34 exactly where a full list would have one record more: the run lies in the midst of a record
-  pub take-34 : valid startOf countOf 0 (freeOf l) ≡ true → (taken l s n .number ≡ tooMany) ↔ ((r : AllocRec) × Splits (freeOf l) s (s + n) r)
+  pub take-34 : valid startOf countOf 0 (freeOf l) ≡ true → (taken l s n .number ≡ tooManyRecords) ↔ ((r : AllocRec) × Splits (freeOf l) s (s + n) r)
   take-34 v = number-34 (taken l s n) v (take-answers l s n)

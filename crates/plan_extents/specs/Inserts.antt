@@ -7,10 +7,10 @@ use mathlib.Core.Logic.{_⊎_}
 use Prim.Native.Nat.{ℕ, _+_, _≤_, _<_, _^_}
 use lib.Dec.{eqb}
 use lib.ListN.{length}
+use Rattle.refusals.specs.Numbers.{tooManyRecords, notValid}
 use Rattle.seqs.specs.Lists.{choose, total}
-use Rattle.seqs.specs.Runs.{notValid, valid, has}
+use Rattle.seqs.specs.Runs.{valid, has}
 use Rattle.btree.specs.declared.records.RmapRec.{RmapRec}
-use Rattle.btree.specs.Records.{tooMany}
 use Rattle.plan_rmap.specs.declared.RmapList.{RmapList}
 use Rattle.plan_rmap.specs.declared.Inserted.{Inserted}
 use Rattle.plan_rmap.specs.Rmap.{rmapOf, startOf, countOf, endOf, joins, refusal}
@@ -50,7 +50,7 @@ Alone xs r = (x : RmapRec) → List·Memᴰ x xs → (joins x r ≡ false) × (j
 
 -- what `rmap_insert` answers, case by case
 pub data Answers (l : RmapList) (r : RmapRec) (t : Inserted) : Type 0 where
-  long : 64 < l .len → t ≡ refusal tooMany → Answers l r t
+  long : 64 < l .len → t ≡ refusal tooManyRecords → Answers l r t
   unfit : l .len ≤ 64 → (Accepts (rmapOf l) r → ⊥) → t ≡ refusal notValid → Answers l r t
-  full : l .len ≤ 64 → Accepts (rmapOf l) r → length (rmapOf l) ≡ 64 → Alone (rmapOf l) r → t ≡ refusal tooMany → Answers l r t
+  full : l .len ≤ 64 → Accepts (rmapOf l) r → length (rmapOf l) ≡ 64 → Alone (rmapOf l) r → t ≡ refusal tooManyRecords → Answers l r t
   done : l .len ≤ 64 → Accepts (rmapOf l) r → (length (rmapOf l) ≡ 64 → Alone (rmapOf l) r → ⊥) → t .number ≡ 0 → Gains (rmapOf l) r (rmapOf (t .list)) → Answers l r t

@@ -5,12 +5,12 @@ use mathlib.Core.Bool.{true, false}
 use mathlib.Core.List.{List, List·Memᴰ}
 use Prim.Native.Nat.{ℕ, _+_, _≤_, _<_}
 use lib.ListN.{length}
-use Rattle.seqs.specs.Runs.{notValid, valid, weigh, has}
+use Rattle.refusals.specs.Numbers.{tooManyRecords, notFree, notValid}
+use Rattle.seqs.specs.Runs.{valid, weigh, has}
 use Rattle.btree.specs.declared.records.AllocRec.{AllocRec}
-use Rattle.btree.specs.Records.{tooMany}
 use Rattle.plan_free.specs.declared.FreeList.{FreeList}
 use Rattle.plan_free.specs.declared.Taken.{Taken}
-use Rattle.plan_free.specs.Free.{notFree, freeOf, startOf, countOf, endOf, refusal}
+use Rattle.plan_free.specs.Free.{freeOf, startOf, countOf, endOf, refusal}
 
 -- the run from s up to, not including, e lies within the record
 pub record Holds (s e : ℕ) (r : AllocRec) : Type 0 where
@@ -40,8 +40,8 @@ NoneHolds xs s e = (r : AllocRec) → List·Memᴰ r xs → Holds s e r → ⊥
 
 -- what `take` answers, case by case in the order of the numbers
 pub data Answers (l : FreeList) (s n : ℕ) (t : Taken) : Type 0 where
-  long : 64 < l .len → t ≡ refusal tooMany → Answers l s n t
+  long : 64 < l .len → t ≡ refusal tooManyRecords → Answers l s n t
   unsorted : l .len ≤ 64 → valid startOf countOf 0 (freeOf l) ≡ false → t ≡ refusal notValid → Answers l s n t
   unheld : l .len ≤ 64 → valid startOf countOf 0 (freeOf l) ≡ true → NoneHolds (freeOf l) s (s + n) → t ≡ refusal notFree → Answers l s n t
-  split : l .len ≤ 64 → valid startOf countOf 0 (freeOf l) ≡ true → (r : AllocRec) → Splits (freeOf l) s (s + n) r → t ≡ refusal tooMany → Answers l s n t
+  split : l .len ≤ 64 → valid startOf countOf 0 (freeOf l) ≡ true → (r : AllocRec) → Splits (freeOf l) s (s + n) r → t ≡ refusal tooManyRecords → Answers l s n t
   done : l .len ≤ 64 → valid startOf countOf 0 (freeOf l) ≡ true → (r : AllocRec) → List·Memᴰ r (freeOf l) → Holds s (s + n) r → ((x : AllocRec) → Splits (freeOf l) s (s + n) x → ⊥) → t .number ≡ 0 → Answers l s n t

@@ -9,15 +9,15 @@ use borrow.Author.Tests.{leb-true, ltb-true, le-leb, lt-leb}
 use lib.Dec.{leb, ltb}
 use lib.ListN.{length, take, getD}
 use lib.Seq.{slice, length-take-le, getD-take}
+use Rattle.refusals.specs.Numbers.{tooManyRecords, notFree, notValid}
 use Rattle.seqs.specs.Lists.{choose, firstIndex, spliced, packed, appended}
-use Rattle.seqs.specs.Runs.{notValid, valid}
+use Rattle.seqs.specs.Runs.{valid}
 use Rattle.seqs.proofs.Validity.{valid-at}
 use Rattle.seqs.proofs.Laws.{both-left, both-right, index-passes, appended-append, length-spliced, splice-packed}
 use Rattle.btree.specs.declared.records.AllocRec.{AllocRec}
-use Rattle.btree.specs.Records.{tooMany}
 use Rattle.plan_free.specs.declared.FreeList.{FreeList}
 use Rattle.plan_free.specs.declared.Taken.{Taken}
-use Rattle.plan_free.specs.Free.{notFree, packFree, zeroRec, freeOf, startOf, countOf, toFree, endOf, holdsRun, before, after, cut, refusal, takenAt, takenFrom, taken}
+use Rattle.plan_free.specs.Free.{packFree, zeroRec, freeOf, startOf, countOf, toFree, endOf, holdsRun, before, after, cut, refusal, takenAt, takenFrom, taken}
 
 -- ---- the record that the search finds in a struct's list
 module _ (xs : List AllocRec) (n i : ℕ) (k : n ≤ length xs) (h : i < n) where
@@ -28,7 +28,7 @@ module _ (xs : List AllocRec) (n i : ℕ) (k : n ≤ length xs) (h : i < n) wher
       leb-true _ _ (both-right (leb (getD xs i zeroRec .start) s) _ (rw (getD-take n xs i zeroRec h) at p))
 
 module _ (xs : List AllocRec) (n i s e : ℕ) (k : n ≤ length xs) (h : i < n) where
-  pub taken-at-full : 64 < n - 1 + length (cut s e (getD xs i zeroRec)) → takenAt (take n xs) i s e ≡ refusal tooMany
+  pub taken-at-full : 64 < n - 1 + length (cut s e (getD xs i zeroRec)) → takenAt (take n xs) i s e ≡ refusal tooManyRecords
   unfolding takenAt
   taken-at-full m =
       let l = length-spliced zeroRec xs n i (i + 1) (cut s e (getD xs i zeroRec)) k (omega arith) in
@@ -77,7 +77,7 @@ from-ok : (xs : List AllocRec) (s e : ℕ) → valid startOf countOf 0 xs ≡ tr
 unfolding takenFrom takenAt
 from-ok xs s e v q =
     let t = number-then (ltb (holder xs s e) (length xs)) (takenAt xs (holder xs s e) s e) (refusal notFree) (λ n. omega arith) q in
-    let k = number-then (leb (length (leftOf xs s e)) 64) (record { number = 0; list = packFree (leftOf xs s e) }) (refusal tooMany) (λ n. omega arith) (t .1) in
+    let k = number-then (leb (length (leftOf xs s e)) 64) (record { number = 0; list = packFree (leftOf xs s e) }) (refusal tooManyRecords) (λ n. omega arith) (t .1) in
     let h : holder xs s e < length xs = ltb-true _ _ (t .0) in
     let p = index-passes (holdsRun s e) xs zeroRec h in
     record {
@@ -92,7 +92,7 @@ from-ok xs s e v q =
 pub taken-ok : (l : FreeList) (s n : ℕ) → taken l s n .number ≡ 0 → TakenOk (freeOf l) s (s + n) (taken l s n)
 unfolding taken
 taken-ok l s n q =
-    let a = number-first (ltb 64 (l .len)) (refusal tooMany) (choose (valid startOf countOf 0 (freeOf l)) (choose (ltb (s + n) (2 ^ 64)) (takenFrom (freeOf l) s (s + n)) (refusal notFree)) (refusal notValid)) (λ n. omega arith) q in
+    let a = number-first (ltb 64 (l .len)) (refusal tooManyRecords) (choose (valid startOf countOf 0 (freeOf l)) (choose (ltb (s + n) (2 ^ 64)) (takenFrom (freeOf l) s (s + n)) (refusal notFree)) (refusal notValid)) (λ n. omega arith) q in
     let b = number-then (valid startOf countOf 0 (freeOf l)) (choose (ltb (s + n) (2 ^ 64)) (takenFrom (freeOf l) s (s + n)) (refusal notFree)) (refusal notValid) (λ n. omega arith) (a .1) in
     let c = number-then (ltb (s + n) (2 ^ 64)) (takenFrom (freeOf l) s (s + n)) (refusal notFree) (λ n. omega arith) (b .1) in
     rw (a .0, b .0, c .0) (from-ok (freeOf l) s (s + n) (b .0) (c .1))

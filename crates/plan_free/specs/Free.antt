@@ -5,17 +5,13 @@ use mathlib.Core.List.{List, [], _∷_, _++_}
 use Prim.Native.Nat.{ℕ, _+_, _-_, _^_}
 use lib.Dec.{leb, ltb, eqb}
 use lib.ListN.{length, getD}
+use Rattle.refusals.specs.Numbers.{tooManyRecords, notFree, notValid}
 use Rattle.seqs.specs.Lists.{both, choose, firstIndex, spliced, Store, live, packed, fold}
-use Rattle.seqs.specs.Runs.{notValid, valid}
+use Rattle.seqs.specs.Runs.{valid}
 use Rattle.btree.specs.declared.records.AllocRec.{AllocRec}
-use Rattle.btree.specs.Records.{tooMany}
 use Rattle.plan_free.specs.declared.FreeList.{FreeList}
 use Rattle.plan_free.specs.declared.Taken.{Taken}
 use Rattle.plan_free.specs.declared.Choice.{Choice}
-
--- the refusal of a run that no record holds
-abbrev pub notFree : ℕ
-notFree = 33
 
 -- what stands in a slot past the count
 abbrev pub zeroRec : AllocRec
@@ -68,7 +64,7 @@ refusal n = record { number = n; list = packFree [] }
 
 -- the records left, if they are at most 64
 abbrev pub kept : List AllocRec → Taken
-kept xs = choose (leb (length xs) 64) (record { number = 0; list = packFree xs }) (refusal tooMany)
+kept xs = choose (leb (length xs) 64) (record { number = 0; list = packFree xs }) (refusal tooManyRecords)
 
 -- the run taken out of the record at index i
 unfoldable pub takenAt : List AllocRec → ℕ → ℕ → ℕ → Taken
@@ -82,7 +78,7 @@ takenFrom xs s e = choose (ltb (firstIndex (holdsRun s e) xs) (length xs)) (take
 -- start plus len is above 2^64 − 1
 unfoldable pub taken : FreeList → ℕ → ℕ → Taken
 taken l start len =
-    choose (ltb 64 (l .len)) (refusal tooMany)
+    choose (ltb 64 (l .len)) (refusal tooManyRecords)
     (choose (valid startOf countOf 0 (freeOf l))
     (choose (ltb (start + len) (2 ^ 64)) (takenFrom (freeOf l) start (start + len)) (refusal notFree))
     (refusal notValid))

@@ -12,9 +12,6 @@ use crate::list::is_valid;
 use crate::list::push;
 use btree::AllocRec;
 
-// The refusal of a run that no record holds.
-pub const NOT_FREE: u32 = 33;
-
 // 2^64 − 1.
 const MAX: u64 = 0xffff_ffff_ffff_ffff;
 
@@ -108,7 +105,7 @@ fn take_at(l: FreeList, i: usize, s: u64, e: u64) -> Taken
     let r = l.recs[i];
     let k = pieces(r, s, e);
     if k > 65 - n {
-        return refused(btree::records::TOO_MANY_RECORDS);
+        return refused(refusals::TOO_MANY_RECORDS);
     }
     let none = empty();
     let head = append(none, l, 0, i);
@@ -125,18 +122,18 @@ pub fn take(free: FreeList, start: u64, len: u64) -> Taken
 {
     let n = free.len;
     if n > 64 {
-        return refused(btree::records::TOO_MANY_RECORDS);
+        return refused(refusals::TOO_MANY_RECORDS);
     }
     if !is_valid(free) {
-        return refused(seqs::NOT_VALID);
+        return refused(refusals::NOT_VALID);
     }
     if len > MAX - start {
-        return refused(NOT_FREE);
+        return refused(refusals::NOT_FREE);
     }
     let end = start + len;
     let i = find(free, start, end);
     if i >= n {
-        return refused(NOT_FREE);
+        return refused(refusals::NOT_FREE);
     }
     take_at(free, i, start, end)
 }

@@ -5,10 +5,10 @@ use mathlib.Core.List.{List, [], _∷_}
 use Prim.Native.Nat.{ℕ, zero, _+_, _-_}
 use lib.Dec.{leb, ltb, eqb}
 use lib.ListN.{length, getD}
+use Rattle.refusals.specs.Numbers.{tooManyRecords, notValid}
 use Rattle.seqs.specs.Lists.{both, choose, firstIndex, spliced, Store, live, packed}
-use Rattle.seqs.specs.Runs.{notValid, valid}
+use Rattle.seqs.specs.Runs.{valid}
 use Rattle.btree.specs.declared.records.RmapRec.{RmapRec}
-use Rattle.btree.specs.Records.{tooMany}
 use Rattle.plan_rmap.specs.declared.RmapList.{RmapList}
 use Rattle.plan_rmap.specs.declared.Inserted.{Inserted}
 
@@ -70,7 +70,7 @@ abbrev pub refusal : ℕ → Inserted
 refusal n = record { number = n; list = packRmap [] }
 
 abbrev pub kept : List RmapRec → Inserted
-kept xs = choose (leb (length xs) 64) (record { number = 0; list = packRmap xs }) (refusal tooMany)
+kept xs = choose (leb (length xs) 64) (record { number = 0; list = packRmap xs }) (refusal tooManyRecords)
 
 -- the record put at index p, joined with the neighbours that it joins: left and right say with which
 abbrev pub joinedAt : Bool → Bool → List RmapRec → ℕ → RmapRec → List RmapRec
@@ -91,7 +91,7 @@ takes xs p r = both (valid startOf countOf 0 xs) (valid startOf countOf 0 (splic
 -- stay so
 unfoldable pub inserted : RmapList → RmapRec → Inserted
 inserted l r =
-    choose (ltb 64 (l .len)) (refusal tooMany)
+    choose (ltb 64 (l .len)) (refusal tooManyRecords)
     (choose (takes (rmapOf l) (placeOf (r .start) (rmapOf l)) r)
     (insertedAt (rmapOf l) (placeOf (r .start) (rmapOf l)) r)
     (refusal notValid))

@@ -139,7 +139,7 @@ fn splice(l: RmapList, i: usize, j: usize, x: RmapRec) -> Inserted
 {
     let n = l.len;
     if i + 1 + (n - j) > 64 {
-        return refused(btree::records::TOO_MANY_RECORDS);
+        return refused(refusals::TOO_MANY_RECORDS);
     }
     let none = empty();
     let head = append(none, l, 0, i);
@@ -179,11 +179,11 @@ pub fn rmap_insert(rmap: RmapList, rec: RmapRec) -> Inserted
 {
     let n = rmap.len;
     if n > 64 {
-        return refused(btree::records::TOO_MANY_RECORDS);
+        return refused(refusals::TOO_MANY_RECORDS);
     }
     let p = place(rmap, rec.start);
     if !can_take(rmap, p, rec) {
-        return refused(seqs::NOT_VALID);
+        return refused(refusals::NOT_VALID);
     }
     insert_at(rmap, p, rec)
 }

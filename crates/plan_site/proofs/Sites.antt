@@ -13,7 +13,7 @@ use Rattle.arith.specs.Choice.{when, bit}
 use Rattle.arith.proofs.Laws.{bit-le}
 use Rattle.params.specs.declared.Features.{Features}
 use Rattle.geometry.specs.declared.Geometry.{Geometry}
-use Rattle.geometry_log.specs.Log.{headerOf, preallocOf}
+use Rattle.geometry.specs.Log.{headerOf, preallocOf}
 use Rattle.geometry_answers.specs.Named.{isAnswer}
 use Rattle.geometry_layout.specs.Places.{ibtBlock, rmapBlock, refcBlock, freelistOf, chunkOf, groupBlocks}
 use Rattle.geometry_layout.specs.Bounds.{SizeBounds, GroupBounds, Bounds}

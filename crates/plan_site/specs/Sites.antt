@@ -6,7 +6,7 @@ use Prim.Native.Nat.{ℕ, _+_, _^_, _≤_, _<_}
 use lib.Dec.{eqb}
 use Rattle.arith.specs.Choice.{bit}
 use Rattle.geometry.specs.declared.Geometry.{Geometry}
-use Rattle.geometry_log.specs.Log.{headerOf, preallocOf}
+use Rattle.geometry.specs.Log.{headerOf, preallocOf}
 use Rattle.geometry_layout.specs.Places.{ibtBlock, rmapBlock, refcBlock, freelistOf, chunkOf, rootChunkOf, groupBlocks}
 use Rattle.geometry_counts.specs.declared.Value64.{Value64}
 use Rattle.geometry_counts.specs.declared.Value64.the-variants.{Refused, Of}

@@ -3,19 +3,19 @@ ghost use mathlib.Core.Path.{_≡_};
 ghost use mathlib.Core.Bool.{true};
 ghost use Prim.Native.Nat.{_+_, _<_, _^_};
 ghost use Rattle.arith.specs.Choice.{bit};
-ghost use Rattle.geometry_log.specs.Log.{headerOf, preallocOf};
+ghost use Rattle.geometry.specs.Log.{headerOf, preallocOf};
 ghost use Rattle.geometry_layout.specs.Places.{groupBlocks, rmapBlock, refcBlock, freelistOf, chunkOf, rootChunkOf};
 ghost use Rattle.geometry_answers.specs.Named.{isAnswer};
 ghost use Rattle.geometry_counts.specs.Known.{number64};
 ghost use Rattle.plan_site.specs.Sites.{value64, siteOf, noSite, sited, Narrow};
 use arith::choice::bit_of;
 use geometry::Geometry;
+use geometry::log_size::header_of;
+use geometry::log_size::prealloc_of;
 use geometry_counts::Value64;
 use geometry_counts::head::freelist_of;
 use geometry_counts::inodes::chunk_of;
 use geometry_counts::inodes::root_chunk_of;
-use geometry_log::header_of;
-use geometry_log::prealloc_of;
 use geometry_places::refusal::ag_blocks;
 use params::Features;
 
@@ -40,7 +40,7 @@ pub struct Site {
 
 // The number is 0 for a group of an answer; a refusal has the site of zeros.
 pub struct Sited {
-    pub number: u8,
+    pub number: u32,
     pub site: Site,
 }
 
@@ -52,7 +52,7 @@ fn narrow(n: u64) -> u32
     n as u32
 }
 
-fn refused(n: u8) -> Sited
+fn refused(n: u32) -> Sited
     ensures { λ r. ⌜ r ≡ record { number = n; site = noSite } ⌝ }
 {
     let site = Site {
@@ -104,7 +104,7 @@ fn site_with(g: Geometry, agno: u64, length: u64) -> Site
 }
 
 // The number of a refusal, or 0.
-pub fn number_of(v: Value64) -> u8
+pub fn number_of(v: Value64) -> u32
     ensures { λ r. ⌜ r ≡ number64 v ⌝ }
 {
     match v {

@@ -80,18 +80,6 @@ module _ (g : Geometry) (l : length (g .label) ≡ 12) (h : isAnswer g ≡ true)
   pub few-lists : siteOf g (g .logagno) .need ≤ 10
   few-lists = let w = site-sound g (g .logagno) l h .need-most in omega arith
 
-small-at : (a b : Bool) → choose {A = ℕ} a (choose b 25 0) 31 ≤ 31
-small-at true true = omega arith
-small-at true false = omega arith
-small-at false b = omega arith
-
-const-small : (g : Geometry) → constNumber g ≤ 31
-unfolding constNumber
-const-small g = small-at (isAnswer g) (short (siteOf g (g .logagno)))
-
-pub small-number : (g : Geometry) → length (g .label) ≡ 12 → plansNumber g ≤ 31
-small-number g l = rw (plans-number g l) (const-small g)
-
 -- ---- what an answer of `summary_of` says
 
 number-at : (g : Geometry) (n : ℕ) (t : Bool) → eqb n 0 ≡ t

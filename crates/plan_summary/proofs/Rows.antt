@@ -10,7 +10,7 @@ use lib.ListN.{length}
 use Rattle.arith.specs.Choice.{when}
 use Rattle.seqs.specs.Lists.{both, choose}
 use Rattle.geometry.specs.declared.Geometry.{Geometry}
-use Rattle.geometry_log.specs.Log.{preallocOf}
+use Rattle.geometry.specs.Log.{preallocOf}
 use Rattle.geometry_answers.specs.Named.{isAnswer}
 use Rattle.geometry_layout.specs.Places.{groupBlocks, freelistOf, chunkOf, rootChunkOf}
 use Rattle.geometry_places.specs.Answers.{groupRefusal}

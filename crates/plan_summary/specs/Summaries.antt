@@ -2,10 +2,11 @@
 -- Assumes nothing.
 use Prim.Native.Nat.{ℕ, _*_, _-_, max}
 use lib.Dec.{ltb, eqb}
+use Rattle.refusals.specs.Numbers.{noPlace}
 use Rattle.arith.specs.Choice.{when}
 use Rattle.seqs.specs.Lists.{choose}
 use Rattle.geometry.specs.declared.Geometry.{Geometry}
-use Rattle.geometry_log.specs.Log.{preallocOf}
+use Rattle.geometry.specs.Log.{preallocOf}
 use Rattle.geometry_layout.specs.Places.{freelistOf, chunkOf, rootChunkOf}
 use Rattle.plan_totals.specs.declared.Row.{Row}
 use Rattle.plan_totals.specs.Totals.{plansNumber, constCount, noRow, closedTotal}
@@ -71,7 +72,7 @@ freeIn s k = lengthIn s k - s .head - logIn s k - s .list - chunkIn s k
 unfoldable pub longestIn : Summary → ℕ → ℕ
 longestIn s k = when (eqb k 0) (max (s .«chunk_at» - s .head - s .list) (lengthIn s k - s .«chunk_at» - s .chunk)) (freeIn s k)
 
--- `row_at`: 29, or the row of group k
+-- the row of group k, or 29
 unfoldable pub rowIn : Summary → ℕ → Row
 rowIn s k =
     choose (ltb k (s .agcount))
@@ -85,4 +86,4 @@ rowIn s k =
       free = freeIn s k;
       longest = longestIn s k;
     })
-    (noRow 29)
+    (noRow noPlace)

@@ -1,4 +1,4 @@
-// The plans of all groups in a few numbers: whether all are accepted, and each group's row of the table, in constant time.
+// The plans of all groups in a few numbers, in constant time: whether all are accepted, and what each group's row comes from.
 ghost use mathlib.Core.Path.{_≡_};
 ghost use mathlib.Core.Bool.{true};
 ghost use Prim.Native.Nat.{_*_, _≤_, _<_, _^_};
@@ -6,18 +6,15 @@ ghost use Rattle.geometry_answers.specs.Named.{isAnswer};
 ghost use Rattle.plan_site.specs.Sites.{siteOf, Sound};
 ghost use Rattle.plan_closed.specs.Closed.{short};
 ghost use Rattle.plan_totals.specs.Totals.{plansNumber, freeCountAnswer, constCount, closedTotal};
-ghost use Rattle.plan_summary.specs.Summaries.{summaryOf, noSummary, summarised, lengthIn, logIn, chunkIn, freeIn, longestIn, rowIn};
+ghost use Rattle.plan_summary.specs.Summaries.{summaryOf, noSummary, summarised};
 
 pub mod records; // records.rt: the free records of one plan
 
-use arith::choice::pick_u64;
-use arith::numbers::max_u64;
 use arith::numbers::minus;
 use geometry::Geometry;
 use geometry_counts::Value64;
 use plan_site::Site;
 use plan_site::site_of;
-use plan_totals::Row;
 use plan_totals::Total;
 
 // Blocks; `chunk_at` is a place in group 0.
@@ -41,8 +38,9 @@ pub struct Summarised {
     pub summary: Summary,
 }
 
-fn refused(n: u32) -> Summarised
-    ensures { λ r. ⌜ r ≡ record { number = n; summary = noSummary } ⌝ }
+// The summary of zeros: no groups.
+pub fn no_summary() -> Summary
+    ensures { λ r. ⌜ r ≡ noSummary ⌝ }
 {
     let total = Total {
         length: 0,
@@ -51,7 +49,7 @@ fn refused(n: u32) -> Summarised
         chunk: 0,
         free: 0,
     };
-    let summary = Summary {
+    Summary {
         agcount: 0,
         agsize: 0,
         last: 0,
@@ -63,7 +61,13 @@ fn refused(n: u32) -> Summarised
         chunk: 0,
         count: 0,
         total,
-    };
+    }
+}
+
+fn refused(n: u32) -> Summarised
+    ensures { λ r. ⌜ r ≡ record { number = n; summary = noSummary } ⌝ }
+{
+    let summary = no_summary();
     Summarised { number: n, summary }
 }
 
@@ -139,76 +143,14 @@ pub fn summary_of(g: Geometry) -> Summarised
     let at = site_of(g, g.logagno);
     let number = at.number;
     if number != 0 {
-        return refused(number as u32);
+        return refused(number);
     }
     let s = at.site;
     if is_short(s) {
-        return refused(25);
+        return refused(refusals::FREE_LIST_SHORT);
     }
     let summary = summary_with(g, s);
     Summarised { number: 0, summary }
-}
-
-fn length_in(s: Summary, k: u64) -> u64
-    ensures { λ r. ⌜ r ≡ lengthIn s k ⌝ }
-{
-    pick_u64(k == minus(s.agcount, 1), s.last, s.agsize)
-}
-
-fn log_in(s: Summary, k: u64) -> u64
-    ensures { λ r. ⌜ r ≡ logIn s k ⌝ }
-{
-    pick_u64(k == s.logagno, s.logblocks, 0)
-}
-
-fn chunk_in(s: Summary, k: u64) -> u64
-    ensures { λ r. ⌜ r ≡ chunkIn s k ⌝ }
-{
-    pick_u64(k == 0, s.chunk, 0)
-}
-
-fn free_in(s: Summary, k: u64) -> u64
-    ensures { λ r. ⌜ r ≡ freeIn s k ⌝ }
-{
-    let after = minus(minus(length_in(s, k), s.head), log_in(s, k));
-    minus(minus(after, s.list), chunk_in(s, k))
-}
-
-// Before or after the chunk in group 0.
-fn longest_in(s: Summary, k: u64) -> u64
-    ensures { λ r. ⌜ r ≡ longestIn s k ⌝ }
-{
-    let before = minus(minus(s.chunk_at, s.head), s.list);
-    let after = minus(minus(length_in(s, k), s.chunk_at), s.chunk);
-    pick_u64(k == 0, max_u64(before, after), free_in(s, k))
-}
-
-// The row of group k, or 29.
-pub fn row_at(s: Summary, k: u64) -> Row
-    ensures { λ r. ⌜ r ≡ rowIn s k ⌝ }
-{
-    if k < s.agcount {
-        return Row {
-            number: 0,
-            group: k,
-            length: length_in(s, k),
-            log: log_in(s, k),
-            list: s.list,
-            chunk: chunk_in(s, k),
-            free: free_in(s, k),
-            longest: longest_in(s, k),
-        };
-    }
-    Row {
-        number: 29,
-        group: 0,
-        length: 0,
-        log: 0,
-        list: 0,
-        chunk: 0,
-        free: 0,
-        longest: 0,
-    }
 }
 
 // Whether every plan of the geometry is accepted: 0, 31, or 25.
@@ -226,7 +168,7 @@ pub fn free_count(g: Geometry) -> Value64
     let s = summary_of(g);
     let number = s.number;
     if number != 0 {
-        return Value64::Refused(number as u8);
+        return Value64::Refused(number);
     }
     let t = s.summary;
     Value64::Of(t.count)

@@ -55,7 +55,7 @@ pub fn freeblks(p: AgPlan) -> Value64
 {
     let l = p.free;
     if 64 < l.len {
-        return Value64::Refused(34);
+        return Value64::Refused(refusals::TOO_MANY_RECORDS);
     }
     Value64::Of(sum_of(l))
 }
@@ -66,7 +66,7 @@ pub fn longest(p: AgPlan) -> Value64
 {
     let l = p.free;
     if 64 < l.len {
-        return Value64::Refused(34);
+        return Value64::Refused(refusals::TOO_MANY_RECORDS);
     }
     Value64::Of(longest_of(l))
 }

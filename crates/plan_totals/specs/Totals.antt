@@ -2,15 +2,15 @@
 -- Assumes nothing.
 use Prim.Native.Nat.{ℕ, zero, suc, _+_, _*_, _-_}
 use lib.Dec.{ltb, eqb}
+use Rattle.refusals.specs.Numbers.{tooManyRecords, noAnswer, freeListShort}
 use Rattle.seqs.specs.Lists.{choose, fold}
 use Rattle.params.specs.declared.OptU64.{OptU64}
 use Rattle.params.specs.declared.OptU64.the-variants.{Absent, Given}
 use Rattle.geometry.specs.declared.Geometry.{Geometry}
-use Rattle.geometry_log.specs.Log.{preallocOf}
+use Rattle.geometry.specs.Log.{preallocOf}
 use Rattle.geometry_answers.specs.Named.{isAnswer}
 use Rattle.geometry_layout.specs.Places.{freelistOf, chunkOf}
 use Rattle.btree.specs.declared.records.AllocRec.{AllocRec}
-use Rattle.btree.specs.Records.{tooMany}
 use Rattle.geometry_counts.specs.declared.Value64.{Value64}
 use Rattle.geometry_counts.specs.declared.Value64.the-variants.{Refused, Of}
 use Rattle.geometry_places.specs.Answers.{unless64}
@@ -44,7 +44,7 @@ longestOf l = fold maxCount 0 (freeOf l)
 
 -- `freeblks` and `longest` answer 34 above 64 records
 unfoldable pub ofFew : FreeList → ℕ → Value64
-ofFew l n = choose (ltb 64 (l .len)) (Refused tooMany) (Of n)
+ofFew l n = choose (ltb 64 (l .len)) (Refused tooManyRecords) (Of n)
 
 -- ---- sums over groups
 
@@ -60,7 +60,7 @@ firstTo (suc n) f = choose (eqb (firstTo n f) 0) (f n) (firstTo n f)
 
 -- the number of the whole geometry: 31, or the first that planning a group gives
 unfoldable pub plansNumber : Geometry → ℕ
-plansNumber g = choose (isAnswer g) (firstTo (g .agcount) (λ k. planned g k .number)) 31
+plansNumber g = choose (isAnswer g) (firstTo (g .agcount) (λ k. planned g k .number)) noAnswer
 
 -- blocks that a plan leaves free or puts on the free list
 abbrev pub freeOfPlan : AgPlan → ℕ
@@ -78,7 +78,7 @@ freeCountAnswer g = unless64 (plansNumber g) (freeCount g)
 
 -- 25 where the log group is short of blocks
 unfoldable pub constNumber : Geometry → ℕ
-constNumber g = choose (isAnswer g) (choose (short (siteOf g (g .logagno))) 25 0) 31
+constNumber g = choose (isAnswer g) (choose (short (siteOf g (g .logagno))) freeListShort 0) noAnswer
 
 -- all blocks but heads, log and root chunk
 unfoldable pub constCount : Geometry → ℕ
@@ -138,7 +138,7 @@ afterList s = s .length - (listAt s + s .need)
 
 unfoldable pub closedRow : Site → Row
 closedRow s =
-    choose (short s) (noRow 25)
+    choose (short s) (noRow freeListShort)
     (record {
       number = 0;
       group = s .agno;

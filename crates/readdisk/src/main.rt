@@ -1,18 +1,19 @@
 // Reads the disk or image that PATH names and prints planlist's table of it, or `refused N`. It is opened for reading alone.
-// `reader_disk` says whether an accepted run leaves it, and `plan_summary` gives the rows of the geometry that its superblock names; here bytes
-// are only read, and lines written. No line is printed before every head and the log's block are accepted; what the bytes of such
-// a disk say of a group is its row (`whole-printed`, crate reader_uses).
-mod heads; // the heads and the log's block
+// A pass (`reader_pass`) says which bytes it wants next and whether an accepted run leaves the disk, and `plan_table` makes the table of the
+// geometry that its superblock names; here bytes are only read, and lines written. No line is printed before every head and the log's block
+// are accepted; what the bytes of such a disk say of a group is its row (`whole-printed`, crate reader_uses).
 mod input; // reading
 mod printed; // the table
 mod words; // standard error
 
 ghost use mathlib.Core.Path.{_≡_};
-ghost use Prim.Native.Nat.{_≤_};
 ghost use lib.ListN.{length};
 use arith::numbers::min_usize;
-use heads::Pass;
 use libc::STDERR_FILENO;
+use libc::STDOUT_FILENO;
+use reader_pass::Pass;
+use reader_pass::Verdict;
+use reader_pass::Wanted;
 
 // How it stands with the reading and the writing: nothing stopped it, or why it stopped.
 pub(crate) const WHOLE: u8 = 0;
@@ -33,91 +34,129 @@ fn few_bytes() -> [u8; 40960]
 }
 
 // Room for the largest head: 10 blocks of 16,384 bytes.
-const MOST: usize = 163840;
-
 fn most_bytes() -> [u8; 163840]
     ensures { λ r. ⌜ 163840 ≡ length r ⌝ }
 {
     [0; 163840]
 }
 
-// Where the reading stopped, and why.
-fn report(p: Pass) {
-    let d = p.disk;
-    let g = d.geometry;
-    words::say_place(p.place, g.agcount);
-    words::say_stop(p.stop);
+// The pass, what it wants next, and how it stands with the reading.
+struct Reading {
+    stop: u8,
+    pass: Pass,
+    wanted: Wanted,
+}
+
+fn read_so_far(stop: u8, pass: Pass) -> Reading {
+    let wanted = reader_pass::wants(pass);
+    Reading { stop, pass, wanted }
+}
+
+// Reads at the offset and feeds what was read, in buffers of its length.
+fn read_and_feed(fd: i32, p: Pass, offset: u64, work: &mut [u8], buf: &mut [u8]) -> Reading {
+    let stop = input::fill(fd, offset, buf);
+    if stop != WHOLE {
+        return read_so_far(stop, p);
+    }
+    let fed = reader_pass::feed(p, buf, work);
+    read_so_far(WHOLE, fed)
+}
+
+// One turn. Buffers that are shorter than what is wanted give the pass fewer bytes, and it refuses them.
+fn turn(fd: i32, r: Reading, work: &mut [u8], buf: &mut [u8]) -> Reading {
+    let p = r.pass;
+    let w = r.wanted;
+    let n = min_usize(w.length, min_usize(work.len(), buf.len()));
+    read_and_feed(fd, p, w.offset, &mut work[..n], &mut buf[..n])
+}
+
+fn goes_on(r: Reading) -> bool {
+    let w = r.wanted;
+    r.stop == WHOLE && !w.done
+}
+
+// All turns that are still to come.
+fn read_on(fd: i32, first: Reading, work: &mut [u8], buf: &mut [u8]) -> Reading {
+    let mut r = first;
+    let mut turns = u64::MAX;
+    while 0 < turns && goes_on(r) {
+        r = turn(fd, r, work, buf);
+        turns -= 1;
+    }
+    r
 }
 
 // The table of an accepted disk, or the refusal.
-fn answer(p: Pass) -> u8 {
-    let d = p.disk;
-    let g = d.geometry;
-    let uuid = d.uuid;
-    let v = reader_disk::finish(d);
+fn answer(v: Verdict) -> u8 {
+    let g = v.geometry;
+    let uuid = v.uuid;
     if v.number != 0 {
         words::say_place(v.place, g.agcount);
         words::say_refused();
         return printed::print_refused(v.number);
     }
     words::say_disk(g, uuid);
-    let s = plan_summary::summary_of(g);
-    let table = s.summary;
-    printed::print_table(table)
+    printed::print_table(g)
 }
 
-// What is said of a disk that was read.
-fn say_read(p: Pass) {
-    if p.stop != WHOLE {
-        report(p);
-        return;
-    }
-    let stop = answer(p);
+// What is said where the answer wasn't written.
+fn say_written(stop: u8) {
     if stop != WHOLE {
         io::write_all(STDERR_FILENO, b"table");
         words::say_stop(stop);
     }
 }
 
-// The disk whose heads have as many bytes as each buffer.
-fn read_disk(fd: i32, work: &mut [u8], buf: &mut [u8]) {
-    let first = heads::begin(fd, buf);
-    let others = heads::take_heads(fd, first, work, buf);
-    let p = heads::take_log(fd, others, buf);
-    say_read(p);
+// A disk that ends early is refused by the number of a pass that isn't finished.
+fn refuse_short(stop: u8, number: u32) {
+    if stop == ENDED {
+        say_written(printed::print_refused(number));
+    }
 }
 
-fn read_few(fd: i32, n: usize)
-    requires { ⌜ n ≤ 40960 ⌝ }
-{
+// What is said of a disk that was read.
+fn say_read(r: Reading) {
+    let v = reader_pass::finish(r.pass);
+    let g = v.geometry;
+    if r.stop != WHOLE {
+        words::say_place(v.place, g.agcount);
+        words::say_stop(r.stop);
+        refuse_short(r.stop, v.number);
+        return;
+    }
+    say_written(answer(v));
+}
+
+fn read_few(fd: i32, first: Reading) {
     let mut work = few_bytes();
     let mut buf = few_bytes();
-    read_disk(fd, &mut work[..n], &mut buf[..n]);
+    let r = read_on(fd, first, &mut work, &mut buf);
+    say_read(r);
 }
 
-fn read_most(fd: i32, n: usize)
-    requires { ⌜ n ≤ 163840 ⌝ }
-{
+fn read_most(fd: i32, first: Reading) {
     let mut work = most_bytes();
     let mut buf = most_bytes();
-    read_disk(fd, &mut work[..n], &mut buf[..n]);
+    let r = read_on(fd, first, &mut work, &mut buf);
+    say_read(r);
 }
 
-// Its first sector says how long a head is.
+// The first turn says how long a head is.
 fn read_open(fd: i32) {
-    let mut sector = [0u8; 512];
-    let stop = input::fill(fd, 0, &mut sector);
-    if stop != WHOLE {
-        words::say_place(0, 0);
-        words::say_stop(stop);
+    let mut work = [0u8; 512];
+    let mut buf = [0u8; 512];
+    let first = turn(
+        fd,
+        read_so_far(WHOLE, reader_pass::begin()),
+        &mut work,
+        &mut buf,
+    );
+    let w = first.wanted;
+    if w.length <= FEW {
+        read_few(fd, first);
         return;
     }
-    let n = heads::named_bytes(&sector);
-    if n <= FEW {
-        read_few(fd, n);
-        return;
-    }
-    read_most(fd, min_usize(n, MOST));
+    read_most(fd, first);
 }
 
 // Opens the file that the argument names.
@@ -125,20 +164,39 @@ fn open() -> i32 {
     let mut path = io::buffer();
     let n = os::arg(1, &mut path);
     if n == 0 && os::errno() != 0 {
+        os::fail(b"path");
         return -1;
     }
-    os::open_read(&path[..n])
+    let fd = os::open_read(&path[..n]);
+    if fd < 0 {
+        io::write_all(STDERR_FILENO, b"open: ");
+        os::fail(&path[..n]);
+    }
+    fd
+}
+
+fn usage(fd: i32) {
+    io::write_all(fd, b"usage: readdisk PATH\n");
+}
+
+// Whether the first argument is this word.
+fn is_word(word: &[u8]) -> bool {
+    let mut argument = io::buffer();
+    let n = os::arg(1, &mut argument);
+    check::same(&argument[..n], word)
 }
 
 fn main() {
+    if is_word(b"--help") {
+        usage(STDOUT_FILENO);
+        return;
+    }
     if os::arg_count() != 2 {
-        io::write_all(STDERR_FILENO, b"usage: readdisk PATH\n");
+        usage(STDERR_FILENO);
         return;
     }
     let fd = open();
-    if fd < 0 {
-        os::fail(b"open");
-        return;
+    if 0 <= fd {
+        read_open(fd);
     }
-    read_open(fd);
 }

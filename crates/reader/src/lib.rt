@@ -3,23 +3,19 @@
 ghost use mathlib.Core.Path.{_≡_};
 ghost use Rattle.plan.specs.Plan.{refusedPlan};
 ghost use Rattle.reader_exact.specs.Read.{notFound, readAs, readGroup0, readGroup, readLog};
-
-pub mod heads; // heads.rt: a head, made and compared
-pub mod logs; // logs.rt: the log's first block, made and compared
-
-use crate::heads::group_number;
-use crate::logs::log_number;
 use geometry::Geometry;
 use params::OptU64;
 use plan::AgPlan;
 use plan::Agfl;
 use plan::Planned;
 use plan::plan_ag;
-use reader_compare::NOT_LEFT;
-use reader_compare::WRONG_LENGTH;
+use reader_compare::heads::group_number;
+use reader_compare::logs::log_number;
 use reader_exact::Found;
 use reader_names::named_by;
 use reader_names::uuid_of;
+use refusals::NOT_LEFT;
+use refusals::WRONG_LENGTH;
 
 fn no_plan(n: u32) -> Planned
     ensures { λ r. ⌜ r ≡ refusedPlan n ⌝ }

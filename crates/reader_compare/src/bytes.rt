@@ -19,7 +19,7 @@ fn all_same(a: &[u8], b: &[u8]) -> bool
 }
 
 // The slices are of one length and hold the same bytes.
-pub fn same_bytes(a: &[u8], b: &[u8]) -> bool
+pub(crate) fn same_bytes(a: &[u8], b: &[u8]) -> bool
     ensures { λ r. ⌜ r ≡ eqList eqb (now (a .entry)) (now (b .entry)) ⌝ }
 {
     if a.len() != b.len() {

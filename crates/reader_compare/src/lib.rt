@@ -1,10 +1,13 @@
-// A place of the disk: whether it holds the bytes that are left there, which the caller made.
+// A place of the disk: the bytes that an accepted run leaves there are made, and compared with those that stand there. Whoever calls from
+// another crate hands in no bytes to compare with, so that 0 always means that a run leaves these.
 ghost use mathlib.Core.Path.{_≡_};
 ghost use Rattle.refusals.specs.Table.{first};
 ghost use Rattle.reader_exact.specs.Read.{placeTests};
 ghost use Rattle.reader_compare.specs.Places.{comparedNumber};
 
-pub mod bytes; // bytes.rt: whether two slices hold the same bytes
+mod bytes; // bytes.rt: whether two slices hold the same bytes
+pub mod heads; // heads.rt: a head, made and compared
+pub mod logs; // logs.rt: the log's first block, made and compared
 
 use bytes::same_bytes;
 use geometry::Geometry;
@@ -12,40 +15,30 @@ use geometry_answers::is_answer;
 use group_bytes::head_length;
 use plan_summary::plans_number;
 
-// The refusals: a length that is not the place's, a group that is not there, bytes that no accepted run leaves here, and a geometry that is
-// no answer of the geometry step.
-pub const WRONG_LENGTH: u32 = 27;
-
-pub const NO_GROUP: u32 = 29;
-
-pub const NOT_LEFT: u32 = 30;
-
-pub const NO_ANSWER: u32 = 31;
-
 // The number of a place: 31, 29 where it is past the last, 27 for another length, 30 unless it holds what is left there, or 0.
-pub fn place_number(g: Geometry, past: bool, size: usize, left: &[u8], bytes: &[u8]) -> u32
+pub(crate) fn place_number(g: Geometry, past: bool, size: usize, left: &[u8], bytes: &[u8]) -> u32
     ensures { λ r. ⌜ r ≡ first (placeTests g past size (now (left .entry)) (now (bytes .entry))) 0 ⌝ }
 {
     if !is_answer(g) {
-        return NO_ANSWER;
+        return refusals::NO_ANSWER;
     }
     if past {
-        return NO_GROUP;
+        return refusals::NO_PLACE;
     }
     if bytes.len() != size {
-        return WRONG_LENGTH;
+        return refusals::WRONG_LENGTH;
     }
     if plans_number(g) != 0 {
-        return NOT_LEFT;
+        return refusals::NOT_LEFT;
     }
     if same_bytes(bytes, left) {
         return 0;
     }
-    NOT_LEFT
+    refusals::NOT_LEFT
 }
 
-// The number of group agno's head, whose left bytes the caller made: 31, 29, 27, 30, or 0.
-pub fn compare_head(g: Geometry, agno: u64, left: &[u8], head: &[u8]) -> u32
+// The number of group agno's head, whose left bytes were made: 31, 29, 27, 30, or 0.
+pub(crate) fn compare_head(g: Geometry, agno: u64, left: &[u8], head: &[u8]) -> u32
     ensures { λ r. ⌜ r ≡ comparedNumber g agno (now (left .entry)) (now (head .entry)) ⌝ }
 {
     let f = g.features;

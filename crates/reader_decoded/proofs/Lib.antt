@@ -5,3 +5,4 @@ pub mod Numbers
 pub mod Sectors
 pub mod Trees
 pub mod Super
+pub mod Checks

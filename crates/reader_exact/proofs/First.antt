@@ -56,7 +56,7 @@ found-none n g u e = rw e
 -- ---- from the bytes to a run
 
 -- what passed the tests, under a sizing
-record Passed (roomy : Bool) (xs : List ℕ) : Type 0 where
+pub record Passed (roomy : Bool) (xs : List ℕ) : Type 0 where
   pub long : 512 ≤ length xs
   pub number : namedBy roomy xs .number ≡ 0
   pub plans : plansNumber (namedBy roomy xs .geometry) ≡ 0
@@ -81,7 +81,7 @@ module _ (roomy : Bool) (xs : List ℕ) where
   unfolding firstTests
   tests-clear e = passed (firstTests xs (namedBy roomy xs) u) tt e
 
-  tests-passed : readAs roomy xs .number ≡ 0 → Passed roomy xs
+  pub tests-passed : readAs roomy xs .number ≡ 0 → Passed roomy xs
   unfolding firstTests
   tests-passed e =
       let c = tests-clear (sym number-as ∙ e) in
@@ -92,7 +92,7 @@ module _ (roomy : Bool) (xs : List ℕ) where
         same = same-bytes xs (headLeft g u 0) (not-false (eqList eqb xs (headLeft g u 0)) (c .1 .1 .1 .1 .0));
       }
 
-  read-is : readAs roomy xs .number ≡ 0 → readAs roomy xs ≡ found g u (planned g 0 .plan)
+  pub read-is : readAs roomy xs .number ≡ 0 → readAs roomy xs ≡ found (namedBy roomy xs .geometry) (uuidAt xs) (planned (namedBy roomy xs .geometry) 0 .plan)
   unfolding readAs
   read-is e = found-none number g u (sym number-as ∙ e)
 

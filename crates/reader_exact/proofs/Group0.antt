@@ -12,7 +12,7 @@ use lib.ListN.{length}
 use Rattle.arith.specs.Choice.{when}
 use Rattle.refusals.specs.Table.{first}
 use Rattle.seqs.specs.Lists.{choose}
-use Rattle.geometry_log.specs.Log.{preallocOf}
+use Rattle.geometry.specs.Log.{preallocOf}
 use Rattle.geometry.specs.declared.Geometry.{Geometry}
 use Rattle.geometry_layout.proofs.Sizings.{old-accepts}
 use Rattle.plan_totals.specs.Totals.{plansNumber}

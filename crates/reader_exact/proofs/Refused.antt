@@ -12,7 +12,7 @@ use Rattle.arith.specs.Choice.{when, bit}
 use Rattle.endian.specs.Bytes.{beAt}
 use Rattle.refusals.specs.Table.{first}
 use Rattle.geometry.specs.declared.Geometry.{Geometry}
-use Rattle.geometry_log.specs.Log.{preallocOf}
+use Rattle.geometry.specs.Log.{preallocOf}
 use Rattle.geometry_answers.specs.declared.Named.{Named}
 use Rattle.geometry_answers.specs.Named.{namesOf, isAnswer}
 use Rattle.geometry_layout.proofs.Sizings.{old-accepts}

@@ -5,7 +5,7 @@ use mathlib.Core.List.{List, [], _∷_}
 use Prim.Native.Nat.{ℕ}
 use lib.Dec.{ltb, leb, eqb}
 use lib.ListN.{length, replicate}
-use Rattle.endian.specs.Answer.{wrongLength}
+use Rattle.refusals.specs.Numbers.{wrongLength, noPlace, notLeft, noAnswer}
 use Rattle.refusals.specs.Table.{Refusal, _if_, first}
 use Rattle.seqs.specs.Lists.{choose}
 use Rattle.geometry.specs.declared.Geometry.{Geometry}
@@ -21,16 +21,6 @@ use Rattle.head_bytes.specs.Head.{headLength}
 use Rattle.list_spec.specs.Listing.{logBlock, headLeft}
 use Rattle.reader_names.specs.Named.{namedBy, uuidAt}
 use Rattle.reader_exact.specs.declared.Found.{Found}
-
--- the refusals besides 27: group number not below agcount; no accepted run leaves these bytes here; geometry handed in is no answer
-abbrev pub noGroup : ℕ
-noGroup = 29
-
-abbrev pub notLeft : ℕ
-notLeft = 30
-
-abbrev pub noAnswer : ℕ
-noAnswer = 31
 
 -- the least that a superblock needs
 abbrev pub leastSector : ℕ
@@ -80,7 +70,7 @@ readGroup0 xs = lesser (readAs true xs) (readAs false xs)
 unfoldable pub placeTests : Geometry → Bool → ℕ → List ℕ → List ℕ → List Refusal
 placeTests g past size left xs =
     noAnswer if not (isAnswer g)
-    ∷ noGroup if past
+    ∷ noPlace if past
     ∷ wrongLength if not (eqb (length xs) size)
     ∷ leftTests g left xs
 

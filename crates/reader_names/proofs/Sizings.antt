@@ -1,6 +1,6 @@
 -- The two geometries that one name gives, under the two sizings, differ in log and sizing alone; and their heads have the length that the name gives.
 -- Assumes nothing.
-use mathlib.Core.Path.{_≡_, refl, ap, sym, _∙_}
+use mathlib.Core.Path.{_≡_, refl, ap, ap₂, sym, _∙_}
 use mathlib.Core.Bool.{Bool, true, false}
 use Prim.Native.Nat.{ℕ, _*_}
 use lib.ListN.{length}
@@ -36,16 +36,20 @@ module _ (n : Named) where
   unfolding chosen geometryOf namedOptions
   chosen-false = refl
 
-  chosen-plain : sized (chosen false) (chosen false .logblocks) false ≡ chosen false
-  chosen-plain = ap (sized (chosen false) (chosen false .logblocks)) (sym chosen-false)
+  -- what is accepted under a sizing is what is accepted under plain sizing, but for log and sizing
+  pub but-for-log : (roomy : Bool) → namedAnswer roomy n .number ≡ 0 → namedAnswer false n .number ≡ 0 → plain (namedAnswer roomy n .geometry) ≡ sized (namedAnswer false n .geometry) (namedAnswer roomy n .geometry .logblocks) false
+  but-for-log true y z =
+      let t = answer-chosen true y in
+      let f = answer-chosen false z in
+      ap plain t ∙ chosen-both ∙ ap₂ (λ (g : Geometry) (m : ℕ). sized g m false) (sym f) (ap (λ (g : Geometry). g .logblocks) (sym t))
+  but-for-log false y z = refl
 
   -- where both are accepted with the same log, one is the other but for the sizing
   pub one-name : namedAnswer true n .number ≡ 0 → namedAnswer false n .number ≡ 0 → namedAnswer true n .geometry .logblocks ≡ namedAnswer false n .geometry .logblocks → plain (namedAnswer true n .geometry) ≡ namedAnswer false n .geometry
   one-name y z e =
-      let t = answer-chosen true y in
-      let f = answer-chosen false z in
-      let l : chosen true .logblocks ≡ chosen false .logblocks = ap (λ (g : Geometry). g .logblocks) (sym t) ∙ e ∙ ap (λ (g : Geometry). g .logblocks) f in
-      ap plain t ∙ chosen-both ∙ ap (λ (m : ℕ). sized (chosen false) m false) l ∙ chosen-plain ∙ sym f
+      let old = namedAnswer false n .geometry in
+      let o : old .roomy ≡ false = ap (λ (g : Geometry). g .roomy) (answer-chosen false z) ∙ chosen-false in
+      but-for-log true y z ∙ ap (λ (m : ℕ). sized old m false) e ∙ ap (sized old (old .logblocks)) (sym o)
 
   chosen-sizes : (roomy : Bool) → (chosen roomy .features ≡ n .features) × ((chosen roomy .sectsize ≡ n .sectsize) × (chosen roomy .blocksize ≡ n .blocksize))
   unfolding chosen geometryOf chosenOf withSizes withGroups sizesOf namedOptions

@@ -122,7 +122,7 @@ pub fn named_by(head: &[u8], roomy: bool) -> Computed
     if head.len() < LEAST_SECTOR {
         let geometry = Geometry::zero();
         return Computed {
-            number: 27,
+            number: refusals::WRONG_LENGTH,
             geometry,
         };
     }

@@ -6,7 +6,7 @@ use Rattle.arith.specs.Numbers.{ceilDiv}
 use Rattle.endian.specs.Bytes.{beBytes, beAt, numbersAt, patch}
 use Rattle.seqs.specs.Lists.{fold, total}
 use Rattle.seqs.specs.Runs.{inside, has}
-use Rattle.geometry_log.specs.Log.{headerOf, preallocOf}
+use Rattle.geometry.specs.Log.{headerOf, preallocOf}
 use Rattle.geometry_layout.specs.Places.{agflSize, chunkOf}
 use Rattle.btree.specs.Decode.{allocOf}
 use Rattle.ag.specs.Decode.{agfOf, agiOf}

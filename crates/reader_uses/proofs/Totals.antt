@@ -11,7 +11,7 @@ use lib.ListN.{length}
 use Rattle.seqs.specs.Lists.{choose, total}
 use Rattle.params.specs.declared.OptU64.the-variants.{Absent, Given}
 use Rattle.geometry.specs.declared.Geometry.{Geometry}
-use Rattle.geometry_log.specs.Log.{preallocOf}
+use Rattle.geometry.specs.Log.{preallocOf}
 use Rattle.geometry_layout.specs.Places.{chunkOf}
 use Rattle.plan_site.specs.Sites.{siteOf}
 use Rattle.plan_free.specs.Free.{countOf}

@@ -9,7 +9,7 @@ use lib.ListN.{length}
 use Rattle.seqs.specs.Lists.{choose, fold, total}
 use Rattle.seqs.specs.Runs.{weigh, blocks, has}
 use Rattle.geometry.specs.declared.Geometry.{Geometry}
-use Rattle.geometry_log.specs.Log.{preallocOf}
+use Rattle.geometry.specs.Log.{preallocOf}
 use Rattle.geometry_layout.specs.Places.{groupBlocks, chunkOf}
 use Rattle.plan_free.specs.Free.{startOf, countOf}
 use Rattle.plan_totals.specs.declared.Row.{Row}

@@ -63,7 +63,7 @@ fn next_chunk(run: Run, device: u64, k: u64, whole: bool, s: Sum, buf: &mut [u8]
         return add_chunk(run, device, k, whole, s, &mut buf[0..n]);
     }
     Sum {
-        number: endian::WRONG_LENGTH,
+        number: refusals::WRONG_LENGTH,
         length: 0,
         register: 0,
     }

@@ -5,8 +5,9 @@ use mathlib.Core.Bool.{Bool, true, _&&_}
 use Prim.Native.Nat.{ℕ, _^_, _-_}
 use lib.Dec.{eqb}
 use lib.ListN.{length, take, replicate}
+use Rattle.refusals.specs.Numbers.{malformed}
 use Rattle.endian.specs.Bytes.{beBytes}
-use Rattle.request.specs.Parse.{malformed, parseDef}
+use Rattle.request.specs.Parse.{parseDef}
 
 abbrev pub joined : List (List ℕ) → List ℕ
 joined [] = []

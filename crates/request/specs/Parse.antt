@@ -3,16 +3,13 @@
 use mathlib.Core.List.{List}
 use mathlib.Core.Bool.{Bool, true, false}
 use Prim.Native.Nat.{ℕ}
+use Rattle.refusals.specs.Numbers.{malformed}
 use Rattle.endian.specs.Bytes.{beAt}
 use Rattle.params.specs.Params.{noOptions}
 use Rattle.params.specs.declared.Params.{Params}
 use Rattle.request.specs.declared.Request.{Request}
 use Rattle.request_input.specs.Records.{wellFormed}
 use Rattle.request.specs.Options.{paramsOf}
-
--- the refusal of malformed input records
-abbrev pub malformed : ℕ
-malformed = 28
 
 abbrev pub request : ℕ → Params → ℕ → ℕ → ℕ → Request
 request number params device logical physical = record { number = number; params = params; device = device; logical = logical; physical = physical }

@@ -8,12 +8,9 @@ ghost use lib.ListN.{length};
 ghost use Rattle.request.specs.Parse.{longestInput, parseDef, refusal};
 use params::Params;
 
-// The refusal of malformed input records.
-pub const MALFORMED: u8 = 28;
-
 // The options and the device; `number` is 0, or 28 beside no options and zeros.
 pub struct Request {
-    pub number: u8,
+    pub number: u32,
     pub params: Params,
     pub device: u64, // bytes
     pub logical: u32, // bytes of the logical sector
@@ -25,7 +22,7 @@ fn malformed() -> Request
 {
     let params = Params::new();
     Request {
-        number: MALFORMED,
+        number: refusals::MALFORMED,
         params,
         device: 0,
         logical: 0,

@@ -31,14 +31,14 @@ fn time_refusal(g: Geometry, t: Timestamp) -> u32
 }
 
 // The first number that refuses, of the records, the geometry step, the plans and the time.
-fn number_of(records: u8, step: u8, g: Geometry, t: Timestamp) -> u32
+fn number_of(records: u32, step: u32, g: Geometry, t: Timestamp) -> u32
     ensures { λ r. ⌜ r ≡ orNext records (orNext step (orNext (plansNumber g) (timeRefusal g t))) ⌝ }
 {
     if records != 0 {
-        return records as u32;
+        return records;
     }
     if step != 0 {
-        return step as u32;
+        return step;
     }
     let plans = plans_number(g);
     if plans != 0 {

@@ -4,8 +4,8 @@ use mathlib.Core.Bool.{Bool, true, false, _||_}
 use mathlib.Core.List.{List, [], _∷_, _++_}
 use Prim.Native.Nat.{ℕ, _+_, _*_, _-_}
 use lib.Dec.{ltb, eqb}
+use Rattle.refusals.specs.Numbers.{wrongLength, noAnswer}
 use Rattle.arith.specs.Choice.{bit}
-use Rattle.endian.specs.Answer.{wrongLength}
 use Rattle.endian.specs.Fields.{Field, field, run, write}
 use Rattle.crc.specs.Crc.{stamped}
 use Rattle.structs.specs.Written.{require}
@@ -116,10 +116,6 @@ crcAt = 224
 -- the fields, and then the checksum of the whole sector
 unfoldable pub sbBytes : Geometry → SbState → List ℕ → List ℕ
 sbBytes g s xs = stamped crcAt (write (sbFields g s) xs)
-
--- the refusal of a geometry that is no answer of the geometry step
-abbrev pub noAnswer : ℕ
-noAnswer = 31
 
 -- 31, then 27 unless the sector has the geometry's length
 unfoldable pub sbNumber : Geometry → ℕ → ℕ

@@ -32,9 +32,6 @@ pub mod put; // the parts at their places
 // XFS_SB_MAGIC, "XFSB".
 pub const MAGIC: u64 = 0x5846_5342;
 
-// The refusal of a geometry that is no answer of the geometry step.
-pub const NO_ANSWER: u32 = 31;
-
 // The offset of sb_crc.
 const CRC: usize = 224;
 
@@ -209,9 +206,9 @@ pub fn encode(g: Geometry, s: SbState, sector: &mut [u8]) -> u32
             fill(g, s, sector);
             return 0;
         }
-        return endian::WRONG_LENGTH;
+        return refusals::WRONG_LENGTH;
     }
-    NO_ANSWER
+    refusals::NO_ANSWER
 }
 
 // sb_versionnum of a geometry; 31 for one that is no answer of the geometry step, here and in the next three.

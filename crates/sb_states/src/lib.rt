@@ -18,9 +18,6 @@ use structs::NULL64;
 // The inodes of the root chunk that are in use: root directory, realtime bitmap, realtime summary.
 const IN_USE: u64 = 3;
 
-// The refusal of a group number not below agcount.
-pub const NO_GROUP: u32 = 29;
-
 // The number is 0 for a state of the run; a refusal has zeros.
 pub struct Stated {
     pub number: u32,
@@ -128,7 +125,7 @@ fn number_of(g: Geometry, agno: u64) -> u32
         return plans;
     }
     if g.agcount <= agno {
-        return NO_GROUP;
+        return refusals::NO_PLACE;
     }
     0
 }

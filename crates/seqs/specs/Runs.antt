@@ -7,10 +7,6 @@ use lib.Dec.{leb, ltb}
 use lib.ListN.{getD}
 use Rattle.seqs.specs.Lists.{both, choose}
 
--- the refusal of a list that isn't valid
-abbrev pub notValid : ℕ
-notValid = 32
-
 -- a run that may follow what ends at lo: not before it, not empty, its end at most 2^32 − 1
 abbrev pub follows : ℕ → ℕ → ℕ → Bool
 follows lo start count = both (leb lo start) (both (ltb 0 count) (ltb (start + count) (2 ^ 32)))

@@ -3,9 +3,6 @@ ghost use mathlib.Core.Path.{_≡_};
 ghost use Prim.Native.Nat.{_+_};
 ghost use Rattle.seqs.specs.Runs.{follows};
 
-// The refusal of a list that isn't sorted by start, apart, without empty runs and within 32 bits.
-pub const NOT_VALID: u32 = 32;
-
 // No run ends above 2^32 − 1.
 const ENDS_BELOW: u64 = 0x1_0000_0000;
 

@@ -12,7 +12,7 @@ use Rattle.params.specs.declared.Params.{Params}
 use Rattle.params.specs.Params.{noOptions, withSectorSize, withAgcount, withAgsize, withFeatures, withRoomy}
 use Rattle.geometry.specs.declared.Geometry.{Geometry}
 use Rattle.geometry.specs.declared.Computed.{Computed}
-use Rattle.geometry_groups.specs.Limits.{mib}
+use Rattle.geometry.specs.Limits.{mib}
 use Rattle.geometry.specs.Compute.{computeDef}
 use Rattle.geometry_layout.specs.Places.{inoOf, rootChunkOf}
 use Rattle.plan_site.specs.Sites.{siteOf}

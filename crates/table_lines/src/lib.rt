@@ -71,7 +71,7 @@ fn refused() -> Written
     ensures { λ r. ⌜ (r .number ≡ 27) × (r .end ≡ 0) ⌝ }
 {
     Written {
-        number: endian::WRONG_LENGTH,
+        number: refusals::WRONG_LENGTH,
         end: 0,
     }
 }

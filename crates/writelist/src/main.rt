@@ -1,56 +1,21 @@
 // Reads input records from standard input and writes the list of written records of the run that they ask for to standard output, or
-// prints `refused N`. The records come from `list_write`, chunk by chunk; here they are only lent buffers and written.
+// prints `refused N`. `list_send` says what comes next; here buffers are only lent and written.
 // Give each disk its UUID in an `ID` record: without one it is zeros, and Linux doesn't mount such a disk.
 ghost use mathlib.Core.Path.{_≡_};
+ghost use mathlib.Core.Bool.{true};
 ghost use lib.ListN.{length};
-use arith::numbers::minus;
+ghost use Rattle.list_send.specs.Sending.{sentDef, allSent};
 use libc::STDERR_FILENO;
 use libc::STDIN_FILENO;
 use libc::STDOUT_FILENO;
-use run::Run;
+use list_send::Sending;
+use list_send::begin;
+use list_send::left_of;
+use list_send::longest;
+use list_send::number_of;
+use list_send::send;
 
-// What was read, and whether there may be more.
-struct Input {
-    n: usize,
-    more: bool,
-    failed: bool,
-}
-
-// Reads once, behind the first `n` bytes.
-fn read_more(n: usize, buf: &mut [u8]) -> Input {
-    if buf.len() <= n {
-        return Input {
-            n: n,
-            more: false,
-            failed: false,
-        };
-    }
-    let rest = &mut buf[n..];
-    let got = libc::read(STDIN_FILENO, rest);
-    let read = io::count(got, rest);
-    Input {
-        n: n + read,
-        more: 0 < read,
-        failed: got < 0,
-    }
-}
-
-// Fills the buffer. A proved loop has to end, so it counts its turns down; every turn but the last reads a byte at least.
-fn read_input(buf: &mut [u8]) -> Input {
-    let mut i = Input {
-        n: 0,
-        more: true,
-        failed: false,
-    };
-    let mut turns = buf.len();
-    while 0 < turns && i.more {
-        i = read_more(i.n, buf);
-        turns -= 1;
-    }
-    i
-}
-
-// Bytes of ten blocks of 4096 bytes, each with the 18 bytes before it: room for the chunks and parts of most disks.
+// Bytes of ten blocks of 4096 bytes, each with the 18 bytes before it: enough for the chunks and parts of most disks.
 const FEW: usize = 41140;
 
 fn few_bytes() -> [u8; 41140]
@@ -59,7 +24,7 @@ fn few_bytes() -> [u8; 41140]
     [0; 41140]
 }
 
-// Room for the longest chunk: a head of 10 blocks of 16,384 bytes, each with the 18 bytes before it.
+// Enough for the longest chunk: a head of 10 blocks of 16,384 bytes, each with the 18 bytes before it.
 fn most_bytes() -> [u8; 164020]
     ensures { λ r. ⌜ 164020 ≡ length r ⌝ }
 {
@@ -74,56 +39,56 @@ fn flush(buf: &[u8], end: usize) -> bool {
     false
 }
 
-// Makes chunk k in a buffer of its length.
-fn make(run: Run, device: u64, k: u64, n: usize, work: &mut [u8], buf: &mut [u8]) -> u32 {
-    if n <= buf.len() {
-        return list_write::write_chunk(run, device, k, work, &mut buf[0..n]);
-    }
-    list_lengths::NO_CHUNK
+// What is left to send after a turn, and whether its bytes were written.
+struct Turn {
+    sending: Sending,
+    written: bool,
 }
 
-// Makes chunk k and writes it; false where a write failed.
-fn write_one(run: Run, device: u64, k: u64, work: &mut [u8], buf: &mut [u8]) -> bool {
-    let length = list_lengths::chunk_length(run, k);
-    let n = length.value as usize;
-    if make(run, device, k, n, work, buf) != 0 {
-        return false;
+// Takes the next chunk and writes it.
+fn take_turn(s: Sending, work: &mut [u8], buf: &mut [u8]) -> Turn
+    ensures { λ r. ⌜ r .sending ≡ sentDef s (length (now (work .entry))) (length (now (buf .entry))) .sending ⌝ }
+{
+    let sent = send(s, work, buf);
+    let sending = sent.sending;
+    if sent.number != 0 {
+        return Turn {
+            sending,
+            written: false,
+        };
     }
-    flush(buf, n)
+    let written = flush(buf, sent.length);
+    Turn { sending, written }
 }
 
-// Writes all chunks; false where a write failed, and then nothing more is written.
-fn write_list(run: Run, device: u64, work: &mut [u8], buf: &mut [u8]) -> bool {
-    let count = list_lengths::chunk_count(run);
-    let n = count.value;
-    let mut left = n;
-    let mut written = true;
-    while 0 < left && written {
-        written = write_one(run, device, n - left, work, buf);
+// Writes all chunks; where a write fails, nothing more is written. Where none fails, as many turns were taken as there are chunks.
+fn write_list(first: Sending, work: &mut [u8], buf: &mut [u8]) -> Turn
+    ensures { λ r. ⌜ (r .written ≡ true → r .sending ≡ allSent first (now (work .entry)) (now (buf .entry))) ⌝ }
+{
+    let mut left = left_of(first);
+    let mut t = Turn {
+        sending: first,
+        written: true,
+    };
+    while 0 < left && t.written {
+        t = take_turn(t.sending, work, buf);
         left -= 1;
     }
-    written
+    t
 }
 
-fn write_few(run: Run, device: u64) -> bool {
+fn write_few(s: Sending) -> bool {
     let mut work = few_bytes();
     let mut buf = few_bytes();
-    write_list(run, device, &mut work, &mut buf)
+    let t = write_list(s, &mut work, &mut buf);
+    t.written
 }
 
-fn write_most(run: Run, device: u64) -> bool {
+fn write_most(s: Sending) -> bool {
     let mut work = most_bytes();
     let mut buf = most_bytes();
-    write_list(run, device, &mut work, &mut buf)
-}
-
-// Whether the small buffers are enough: the first head and the root chunk, which is the chunk before the last, are the longest
-// (`room-enough` of list_laws).
-fn needs_few(run: Run) -> bool {
-    let count = list_lengths::chunk_count(run);
-    let head = list_lengths::chunk_length(run, 1);
-    let root = list_lengths::chunk_length(run, minus(count.value, 2));
-    head.value <= FEW as u64 && root.value <= FEW as u64
+    let t = write_list(s, &mut work, &mut buf);
+    t.written
 }
 
 fn print_refused(number: u32) -> bool {
@@ -134,46 +99,50 @@ fn print_refused(number: u32) -> bool {
 
 // Writes what the input asks for; false where a write failed.
 fn answer(input: &[u8]) -> bool {
-    let r = request::parse(input);
-    let run = run::run_of(r);
-    if run.number != 0 {
-        return print_refused(run.number);
+    let s = begin(input);
+    let number = number_of(s);
+    if number != 0 {
+        return print_refused(number);
     }
-    if needs_few(run) {
-        return write_few(run, r.device);
+    if longest(s) <= FEW as u64 {
+        return write_few(s);
     }
-    write_most(run, r.device)
+    write_most(s)
 }
 
-// The same for the first n bytes that were read.
-fn answer_first(input: &[u8], n: usize) -> bool {
-    if n <= input.len() {
-        return answer(&input[..n]);
-    }
-    false
-}
-
-// What to hand in, on standard error.
-fn usage() {
-    io::write_all(STDERR_FILENO, b"usage: writelist < INPUT > LIST\n");
+// What to hand in.
+fn usage(fd: i32) {
+    io::write_all(fd, b"usage: writelist < INPUT > LIST\n");
     io::write_all(
-        STDERR_FILENO,
+        fd,
         b"Give each disk its UUID by an ID record: without one it is zeros, and Linux doesn't mount such a disk.\n",
     );
 }
 
+// Whether the first argument is this word.
+fn is_word(word: &[u8]) -> bool {
+    let mut argument = io::buffer();
+    let n = os::arg(1, &mut argument);
+    check::same(&argument[..n], word)
+}
+
 fn main() {
+    if is_word(b"--help") {
+        usage(STDOUT_FILENO);
+        return;
+    }
     if os::arg_count() != 1 {
-        usage();
+        usage(STDERR_FILENO);
         return;
     }
     let mut input = request::input_buffer();
-    let i = read_input(&mut input);
+    let i = input_bytes::read_input(STDIN_FILENO, &mut input);
     if i.failed {
         os::fail(b"standard input");
         return;
     }
-    if !answer_first(&input, i.n) {
+    let n = i.n;
+    if !answer(&input[..n]) {
         os::fail(b"standard output");
     }
 }

@@ -25,4 +25,4 @@ pub plan-ag-spec : {M : Type 1} → statement M
 plan-ag-spec =
     tie.close
     (tie.spec
-    (λ c κs. search needs) (λ c. search needs) (λ c κs. search needs) returns plan-site-requires returns-2)
+    (λ c κs. search needs) (λ c κs. search needs) returns plan-site-requires returns-2)

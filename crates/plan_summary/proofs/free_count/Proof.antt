@@ -1,6 +1,6 @@
 -- `plan_summary::free_count` meets its contract.
 -- Assumes nothing.
-use Rattle.plan_summary.proofs.Laws.{its-number, its-summary, small-number, count-is}
+use Rattle.plan_summary.proofs.Laws.{its-number, its-summary, count-is}
 use Rattle.geometry_counts.specs.declared.Value64.the-variants.{Of}
 use Rattle.plan_summary.specs.declared.Summary.{Summary}
 use Rattle.plan_summary.specs.declared.Summarised.{Summarised}
@@ -8,14 +8,10 @@ use Rattle.plan_totals.specs.Totals.{freeCountAnswer}
 use Rattle.geometry_places.specs.Answers.{unless64}
 use borrow.Author.Tests.{ne-eqb}
 use lib.ListN.{length}
-use native.Mathlib.Omega.{arith}
 use mathlib.Core.Path.{_≡_, sym, ap, _∙_}
 use borrow.Author.Needs.{needs}
 use Rattle.plan_summary.proofs.free_count.Statement.{statement}
 use Rattle.plan_summary.proofs.free_count.Tie as tie
-
-cast-t6 : tie.Need-cast-t6
-cast-t6 c = let s = c .before .before in let l : length (s .args .g .label) ≡ 12 = search (needs, s .good .0 .1 .1 .1 .1 .1 .1 .1 .1 .1 .1 .1 .1 .1 .1 .1 .1 .1 .1 .1) in let g = s .args .g in omega (arith, ap (λ (x : Summarised). x .number) (c .before .summary-of .ensures) ∙ its-number g, small-number g l)
 
 returns : tie.Need-returns
 unfolding freeCountAnswer unless64
@@ -26,4 +22,4 @@ returns-2 c = let s = c .before .before .before in let l : length (s .args .g .l
 
 pub free-count-spec : {M : Type 1} → statement M
 free-count-spec = tie.close (tie.spec
-    (λ c κs. search needs) cast-t6 returns returns-2)
+    (λ c κs. search needs) returns returns-2)

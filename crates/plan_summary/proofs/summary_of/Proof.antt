@@ -37,5 +37,5 @@ pub summary-of-spec : {M : Type 1} → statement M
 summary-of-spec =
     tie.close
     (tie.spec
-    (λ c κs. search needs) (λ c. search needs) (λ c κs. search needs) returns is-short-requires
+    (λ c κs. search needs) (λ c κs. search needs) returns is-short-requires
     (λ c κs. search needs) returns-2 summary-with-requires returns-3)

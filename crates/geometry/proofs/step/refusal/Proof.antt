@@ -2,8 +2,8 @@
 -- Assumes nothing.
 use borrow.Author.Needs.{needs}
 use Rattle.geometry_sizes.specs.Sizes.{sizesRefusals}
-use Rattle.geometry_groups.specs.Groups.{optionsRefusals, groupsRefusals}
-use Rattle.geometry_log.specs.Log.{lastRefusals}
+use Rattle.geometry.specs.Groups.{optionsRefusals, groupsRefusals}
+use Rattle.geometry.specs.Log.{lastRefusals}
 use Rattle.geometry.specs.Compute.{refusals, refusalOf}
 use Rattle.geometry.proofs.step.refusal.Statement.{statement}
 use Rattle.geometry.proofs.step.refusal.Tie as tie

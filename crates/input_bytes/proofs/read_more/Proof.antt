@@ -1,0 +1,14 @@
+-- `input_bytes::read_more` meets its contract.
+-- Assumes nothing.
+use mathlib.Core.Path.{refl}
+use native.Mathlib.Omega.{arith}
+use borrow.Author.Needs.{needs}
+use Rattle.input_bytes.proofs.read_more.Statement.{statement}
+use Rattle.input_bytes.proofs.read_more.Tie as tie
+
+pub read-more-spec : {M : Type 1} → statement M
+read-more-spec =
+    tie.close
+    (tie.spec
+    (λ c. search needs) (λ c. search needs) (λ c. search needs) (λ c κs. search needs) (λ c κs. search needs)
+    (λ c. search needs) (λ c. search needs) (λ c. search needs) (λ c. (omega arith, omega arith, refl)))

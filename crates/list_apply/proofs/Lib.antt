@@ -1,0 +1,5 @@
+pub mod Steps
+pub mod Turns
+pub mod Ended
+pub mod Pieces
+pub mod Applied

@@ -1,0 +1,3 @@
+pub mod Applying
+pub mod Turns
+pub mod Lists

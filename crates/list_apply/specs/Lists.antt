@@ -1,0 +1,62 @@
+-- A list's bytes, fed as they are wanted through a buffer of `size` bytes, and what is done for them.
+-- Assumes nothing.
+use mathlib.Core.Path.{_≡_}
+use mathlib.Core.Bool.{true}
+use mathlib.Core.List.{List, [], _∷_, _++_}
+use Prim.Native.Nat.{ℕ}
+use lib.Dec.{eqb}
+use lib.ListN.{take, drop}
+use Rattle.seqs.specs.Lists.{choose, turns}
+use Rattle.list_records.specs.Records.{Record, WZ, WB, FL, All, listBytes}
+use Rattle.list_device.specs.Device.{Device, applied}
+use Rattle.list_read.specs.Records.{flush, zeros, bytes, headOf}
+use Rattle.list_apply.specs.declared.Applying.{Applying as State}
+use Rattle.list_apply.specs.declared.Step.{Step}
+use Rattle.list_apply.specs.Applying.{ended, tooFar, firstDone, begun, inLimit, wantedOf, fed}
+
+-- the state, the bytes that are still to come, and what was done so far
+pub record Point : Type 0 where
+  pub applying : State
+  pub rest : List ℕ
+  pub done : List Record
+
+abbrev pub point : State → List ℕ → List Record → Point
+point a rest done = record { applying = a; rest = rest; done = done }
+
+-- what a step asks for, as records: the bytes are the first of those that were fed
+unfoldable pub asked : Step → List ℕ → List Record
+asked s xs =
+    choose (eqb (s .action) firstDone) (WZ (s .at) (s .len) ∷ FL ∷ [])
+    (choose (eqb (s .action) flush) (FL ∷ [])
+    (choose (eqb (s .action) zeros) (WZ (s .at) (s .len) ∷ [])
+    (choose (eqb (s .action) bytes) (WB (s .at) (take (s .len) xs) ∷ []) [])))
+
+-- A turn: the bytes that are wanted are fed. A mark stays where it is until all of its head is wanted.
+unfoldable pub turnOn : ℕ → Point → Point
+turnOn size p =
+    let n = wantedOf (p .applying) size in
+    let s = fed (p .applying) (take n (p .rest)) size in
+    point (s .applying) (choose (s .applying .marked) (p .rest) (drop n (p .rest))) (p .done ++ asked s (take n (p .rest)))
+
+-- q is reached from p in some turns
+abbrev pub Reach : ℕ → Point → Point → Type 0
+Reach size p q = (n : ℕ) × (turns (turnOn size) n p ≡ q)
+
+-- a record ends no later than the limit, and where a file can
+abbrev pub Within : ℕ → Record → Type 0
+Within limit w = inLimit limit (headOf w .at) (headOf w .len) ≡ true
+
+-- The turns over a list's bytes end as a list does, with no byte left, and what was done leaves on every device what the records leave.
+pub record Applies (size limit : ℕ) (ws : List Record) : Type 0 where
+  pub last : Point
+  pub reached : Reach size (point (begun limit) (listBytes ws) []) last
+  pub whole : last .applying .stop ≡ ended
+  pub read : last .rest ≡ []
+  pub left : (d : Device) (x : ℕ) → applied (last .done) d x ≡ applied ws d x
+
+-- The turns over a list's bytes stop at a record that doesn't fit, and nothing was done.
+pub record Untouched (size limit : ℕ) (ws : List Record) : Type 0 where
+  pub last : Point
+  pub reached : Reach size (point (begun limit) (listBytes ws) []) last
+  pub stopped : last .applying .stop ≡ tooFar
+  pub nothing : last .done ≡ []

@@ -1,0 +1,182 @@
+-- The turns of a sending program hand out the list of the run that its input asks for, and nothing of a refused one.
+-- Assumes nothing.
+use mathlib.Core.Path.{_≡_, refl, sym, ap, ap₂, _∙_}
+use mathlib.Core.List.{List, [], _∷_, _++_, append-assoc, append-nil}
+use Prim.Native.Nat.{ℕ, zero, suc, _+_, _-_, _<_, _≤_, max}
+use native.Mathlib.Omega.{arith}
+use lib.Dec.{eqb}
+use lib.ListN.{length, take, drop, getD, length-append}
+use lib.Seq.{take-at}
+use borrow.Author.Tests.{eq-eqb, ne-eqb, le-leb}
+use Rattle.endian.specs.Bytes.{patch}
+use Rattle.endian.proofs.Laws.{patch-split, length-patch}
+use Rattle.request.specs.declared.Request.{Request}
+use Rattle.request.specs.Parse.{parseDef}
+use Rattle.run.specs.declared.Run.{Run}
+use Rattle.run.specs.Runs.{runOf, accepted}
+use Rattle.list_records.specs.Records.{listBytes}
+use Rattle.list_spec.specs.Listing.{listOf, chunkCount}
+use Rattle.list_accepted.specs.Accepted.{AcceptedRun}
+use Rattle.list_accepted.proofs.Runs.{run-bounds}
+use Rattle.list_accepted.proofs.Parsed.{accepted-run}
+use Rattle.list_lengths.specs.declared.Counted.{Counted}
+use Rattle.list_lengths.specs.Chunks.{writeNumber, countAnswer, lengthAnswer, partAnswer}
+use Rattle.list_send.specs.declared.Sending.{Sending as State}
+use Rattle.list_send.specs.declared.Sent.{Sent}
+use Rattle.list_send.specs.Sending.{sending, begun, nextOf, stepped, pieceOf, wantedOf, longestOf, sendNumber, unsent, sentDef, bufferAfter, workAfter, sentOn, handed}
+use Rattle.list_laws.specs.Whole.{sent, sentTo, sentAll, WrittenWhole}
+use Rattle.list_laws.specs.Room.{longestChunk, Holds, Sufficient}
+use Rattle.list_laws.specs.Sending.{SendsAll, SendsNone}
+use Rattle.list_laws.proofs.Whole.{written-whole, write-is}
+use Rattle.list_laws.proofs.Lent.{room-enough}
+
+-- what stands first in a buffer after it was put there
+first-put : (bs xs : List ℕ) → length bs ≤ length xs → take (length bs) (patch 0 bs xs) ≡ bs
+first-put bs xs h = ap (take (length bs)) (patch-split 0 bs xs (omega arith)) ∙ take-at bs (drop (0 + length bs) xs) (length bs) refl
+
+-- ---- an accepted run, m of its chunks still to come
+module _ (r : Request) (a : AcceptedRun r) (accepts : runOf r .number ≡ 0) where
+  abbrev run : Run
+  run = runOf r
+
+  abbrev device : ℕ
+  device = r .device
+
+  abbrev count : ℕ
+  count = chunkCount run
+
+  abbrev at : ℕ → State
+  at m = sending run device count m
+
+  abbrev longest : ℕ
+  longest = max (lengthAnswer run 1 .value) (lengthAnswer run (count - 2) .value)
+
+  -- a turn with buffers that are long enough
+  module _ (m room len : ℕ) (some : 0 < m) (most : m ≤ count) (p : longest ≤ room) (q : longest ≤ len) where
+    abbrev piece : List ℕ
+    piece = sent run device (count - m)
+
+    there : count - m < count
+    there = omega arith
+
+    enough : (n : ℕ) → longest ≤ n → Holds run n (count - m)
+    enough n h = room-enough r a .few n (count - m) there (omega arith) (omega arith)
+
+    wanted : wantedOf (at m) ≡ record { number = 0; value = length piece }
+    unfolding wantedOf
+    wanted = rw (eq-eqb (run .number) 0 accepts, ne-eqb m 0 (λ e. omega arith)) (written-whole r a .long (count - m) there)
+
+    piece-within : length piece ≤ len
+    piece-within = let h = enough len q .0 in let e = ap (λ (c : Counted). c .value) (written-whole r a .long (count - m) there) in omega arith
+
+    number : sendNumber (at m) room len ≡ 0
+    unfolding sendNumber
+    number = rw (wanted, le-leb (length piece) len piece-within) (write-is r a (count - m) room there (enough room p .1))
+
+    answer : sentDef (at m) room len ≡ record { number = 0; length = length piece; sending = at (m - 1) }
+    unfolding sentDef
+    answer = rw (number, wanted) refl
+
+  -- ---- a turn hands out the next chunk
+  module _ (room : ℕ) (p : longest ≤ room) where
+    handed-on : (m : ℕ) (xs : List ℕ) → suc m ≤ count → longest ≤ length xs
+        → handed (suc m) (at (suc m)) room xs ≡ sent run device (count - suc m) ++ handed m (at m) room (patch 0 (sent run device (count - suc m)) xs)
+    unfolding handed
+    handed-on m xs h q =
+        let s : 0 < suc m = omega arith in
+        let k = sent run device (count - suc m) in
+        let e : suc m - 1 ≡ m = omega arith in
+        rw (answer (suc m) room (length xs) s h p q, number (suc m) room (length xs) s h p q, first-put k xs (piece-within (suc m) room (length xs) s h p q), e) refl
+
+    -- behind those that were sent before, all of them
+    all-handed : (m : ℕ) (xs : List ℕ) → m ≤ count → longest ≤ length xs → sentTo run device (count - m) ++ handed m (at m) room xs ≡ sentAll run device
+    unfolding handed sentTo
+    all-handed zero xs h q = let e : count - 0 ≡ count = omega arith in append-nil (sentTo run device (count - 0)) ∙ ap (sentTo run device) e
+    all-handed (suc m) xs h q =
+        let k = count - suc m in
+        let ys = patch 0 (sent run device k) xs in
+        let e : suc k ≡ count - m = omega arith in
+        let l : length ys ≡ length xs = length-patch 0 (sent run device k) xs in
+        ap (λ (bs : List ℕ). sentTo run device k ++ bs) (handed-on m xs h q)
+        ∙ sym (append-assoc (sentTo run device k) (sent run device k) (handed m (at m) room ys))
+        ∙ ap (λ (j : ℕ). sentTo run device j ++ handed m (at m) room ys) e
+        ∙ all-handed m ys (omega arith) (omega arith)
+
+    whole-list : (xs : List ℕ) → longest ≤ length xs → handed count (at count) room xs ≡ listBytes (listOf run device)
+    unfolding sentTo
+    whole-list xs q =
+        let e : count - count ≡ 0 = omega arith in
+        ap (λ (k : ℕ). sentTo run device k ++ handed count (at count) room xs) (sym e) ∙ all-handed count xs (omega arith) q ∙ written-whole r a .whole
+
+    -- ---- and leaves one fewer
+    after-turns : (n len : ℕ) → n ≤ count → longest ≤ len → sentOn n (at count) room len ≡ at (count - n)
+    unfolding sentOn
+    after-turns zero len h q = let e : count ≡ count - 0 = omega arith in ap at e
+    after-turns (suc n) len h q =
+        let e : count - n - 1 ≡ count - suc n = omega arith in
+        ap (λ (s : State). sentDef s room len .sending) (after-turns n len (omega arith) q)
+        ∙ ap (λ (t : Sent). t .sending) (answer (count - n) room len (omega arith) (omega arith) p q)
+        ∙ ap at e
+
+    accepted-turn : (n len : ℕ) → n < count → longest ≤ len → sendNumber (sentOn n (at count) room len) room len ≡ 0
+    accepted-turn n len h q = rw (after-turns n len (omega arith) q) (number (count - n) room len (omega arith) (omega arith) p q)
+
+    no-more : (len : ℕ) → longest ≤ len → sentOn count (at count) room len .left ≡ 0
+    no-more len q = rw (after-turns count len (omega arith) q) (omega arith)
+
+  longest-most : longest ≤ longestChunk
+  unfolding chunkCount
+  longest-most =
+      let s = room-enough r a .most in
+      let c = run-bounds r a .groups .count-least in
+      omega (arith, s 1 (omega arith) .0, s (count - 2) (omega arith) .0)
+
+-- ---- for every input
+module _ (xs : List ℕ) (bytes : (i : ℕ) → getD xs i 0 < 256) where
+  abbrev request : Request
+  request = parseDef xs
+
+  module _ (e : accepted xs .number ≡ 0) where
+    taken : AcceptedRun request
+    taken = accepted-run xs bytes e
+
+    zero-is : runOf request .number ≡ 0
+    unfolding accepted
+    zero-is = e
+
+    begun-is : begun xs ≡ at request taken zero-is (chunkCount (runOf request))
+    unfolding begun accepted
+    begun-is = rw (eq-eqb (runOf request .number) 0 zero-is, written-whole request taken .counted) refl
+
+    -- WHAT IS SENT FOR AN ACCEPTED INPUT IS ITS LIST
+    pub sends-all : SendsAll (begun xs) (accepted xs) (parseDef xs .device)
+    unfolding longestOf accepted
+    sends-all =
+        rw begun-is (record {
+          turns = refl;
+          most = longest-most request taken zero-is;
+          accepts = λ k room len h p q. accepted-turn request taken zero-is room p k len h q;
+          whole = λ room ys p q. whole-list request taken zero-is room p ys q;
+          ends = λ room len p q. no-more request taken zero-is room p len q;
+        })
+
+  -- AND OF A REFUSED ONE NOTHING
+  module _ (e : accepted xs .number ≡ 0 → ⊥) where
+    begun-none : begun xs ≡ sending (accepted xs) (request .device) 0 0
+    unfolding begun
+    begun-none = rw (ne-eqb (accepted xs .number) 0 e) refl
+
+    none-number : (room len : ℕ) → sendNumber (sending (accepted xs) (request .device) 0 0) room len ≡ accepted xs .number
+    unfolding sendNumber wantedOf
+    none-number room len = rw (ne-eqb (accepted xs .number) 0 e, ne-eqb (accepted xs .number) 0 e) refl
+
+    pub sends-none : SendsNone (begun xs) (accepted xs .number)
+    unfolding sentDef
+    sends-none =
+        let f = ne-eqb (accepted xs .number) 0 e in
+        rw begun-none (record {
+          turns = refl;
+          answers = λ room len. rw (none-number room len, f) refl;
+          buffer = λ room ys. rw (none-number room (length ys), f) refl;
+          work = λ len ws. rw (none-number (length ws) len, f) refl;
+        })

@@ -1,0 +1,33 @@
+-- That the turns of a sending program hand out the list of the run that its input asks for, and nothing of a refused one.
+-- Assumes nothing.
+use mathlib.Core.Path.{_≡_}
+use mathlib.Core.List.{List}
+use Prim.Native.Nat.{ℕ, _<_, _≤_}
+use lib.ListN.{length}
+use Rattle.run.specs.declared.Run.{Run}
+use Rattle.list_records.specs.Records.{listBytes}
+use Rattle.list_spec.specs.Listing.{listOf, chunkCount}
+use Rattle.list_send.specs.declared.Sending.{Sending as State}
+use Rattle.list_send.specs.Sending.{longestOf, sendNumber, unsent, sentDef, bufferAfter, workAfter, sentOn, handed}
+use Rattle.list_laws.specs.Room.{longestChunk}
+
+-- From the state s on, with two buffers that hold the longest chunk: `room` bytes to work in, and one that held `xs` at first.
+pub record SendsAll (s : State) (run : Run) (device : ℕ) : Type 0 where
+  -- as many turns as the list has chunks
+  pub turns : s .left ≡ chunkCount run
+  -- no buffer needs to be longer than the longest chunk of any run
+  pub most : longestOf s ≤ longestChunk
+  -- none of them is refused
+  pub accepts : (n room len : ℕ) → n < s .left → longestOf s ≤ room → longestOf s ≤ len → sendNumber (sentOn n s room len) room len ≡ 0
+  -- THE BYTES THAT THEY HAND OUT, ONE AFTER THE OTHER, ARE THE LIST
+  pub whole : (room : ℕ) (xs : List ℕ) → longestOf s ≤ room → longestOf s ≤ length xs
+      → handed (s .left) s room xs ≡ listBytes (listOf run device)
+  -- and no chunk is left then
+  pub ends : (room len : ℕ) → longestOf s ≤ room → longestOf s ≤ len → sentOn (s .left) s room len .left ≡ 0
+
+-- In the state s no turn is due, and one that is tried gets this number and leaves both buffers as they were.
+pub record SendsNone (s : State) (number : ℕ) : Type 0 where
+  pub turns : s .left ≡ 0
+  pub answers : (room len : ℕ) → sentDef s room len ≡ unsent s number
+  pub buffer : (room : ℕ) (xs : List ℕ) → bufferAfter s room xs ≡ xs
+  pub work : (len : ℕ) (ws : List ℕ) → workAfter s len ws ≡ ws

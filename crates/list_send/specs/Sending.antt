@@ -1,0 +1,112 @@
+-- Sending a run's list turn by turn: what comes next, what a turn answers, and what all turns have handed out.
+-- Assumes nothing.
+use mathlib.Core.Path.{_≡_}
+use mathlib.Core.List.{List, [], _++_}
+use Prim.Native.Nat.{ℕ, zero, suc, _-_, _≤_, max}
+use lib.Dec.{leb, eqb}
+use lib.ListN.{length, take}
+use Rattle.refusals.specs.Numbers.{wrongLength, noPlace}
+use Rattle.endian.specs.Answer.{chosen}
+use Rattle.endian.specs.Bytes.{patch}
+use Rattle.seqs.specs.Lists.{choose}
+use Rattle.structs.specs.Written.{require}
+use Rattle.request.specs.Parse.{parseDef}
+use Rattle.run.specs.declared.Run.{Run}
+use Rattle.run.specs.Runs.{orNext, accepted}
+use Rattle.list_records.specs.Records.{listBytes}
+use Rattle.list_spec.specs.Listing.{listChunk}
+use Rattle.list_lengths.specs.declared.Counted.{Counted}
+use Rattle.list_lengths.specs.Chunks.{writeNumber, countAnswer, lengthAnswer}
+use Rattle.list_write.specs.Writing.{partBytes}
+use Rattle.list_send.specs.declared.Sending.{Sending as State}
+use Rattle.list_send.specs.declared.Sent.{Sent}
+
+-- ---- the state
+
+-- `left` of `count` chunks are to come
+abbrev pub sending : Run → ℕ → ℕ → ℕ → State
+sending run device count left = record { run = run; device = device; count = count; left = left }
+
+-- before the first chunk; of a refused run there is none
+unfoldable pub begun : List ℕ → State
+begun xs =
+    let run = accepted xs in
+    let n = choose (eqb (run .number) 0) (countAnswer run .value) 0 in
+    sending run (parseDef xs .device) n n
+
+-- the number of the chunk that comes next
+abbrev pub nextOf : State → ℕ
+nextOf s = s .count - s .left
+
+-- with one fewer to come
+abbrev pub stepped : State → State
+stepped s = sending (s .run) (s .device) (s .count) (s .left - 1)
+
+-- ---- a turn
+
+-- the bytes of the next chunk
+abbrev pub pieceOf : State → List ℕ
+pieceOf s = listBytes (listChunk (s .run) (s .device) (nextOf s))
+
+abbrev pub refused : ℕ → Counted
+refused n = record { number = n; value = 0 }
+
+-- how many there are: the run's number comes first, then 29 where all are sent
+unfoldable pub wantedOf : State → Counted
+wantedOf s =
+    choose (eqb (s .run .number) 0)
+    (choose (eqb (s .left) 0) (refused noPlace) (lengthAnswer (s .run) (nextOf s)))
+    (refused (s .run .number))
+
+-- as many as the first head and the root chunk have, whichever has more
+unfoldable pub longestOf : State → ℕ
+longestOf s = max (lengthAnswer (s .run) 1 .value) (lengthAnswer (s .run) (s .count - 2) .value)
+
+-- with a work buffer of `room` bytes and a buffer of `len`: 27 where the chunk is longer than the buffer, and then what `write_chunk` answers
+-- in as many bytes as the chunk has
+unfoldable pub sendNumber : State → ℕ → ℕ → ℕ
+sendNumber s room len =
+    orNext (wantedOf s .number)
+    (require wrongLength (leb (wantedOf s .value) len) (writeNumber (s .run) (nextOf s) (wantedOf s .value) room))
+
+-- refused, and everything as it was
+abbrev pub unsent : State → ℕ → Sent
+unsent s n = record { number = n; length = 0; sending = s }
+
+-- what a turn answers
+unfoldable pub sentDef : State → ℕ → ℕ → Sent
+sentDef s room len =
+    let n = sendNumber s room len in
+    choose (eqb n 0) (record { number = 0; length = wantedOf s .value; sending = stepped s }) (unsent s n)
+
+-- and leaves in a buffer that held xs: the chunk at its start, or what stood there
+abbrev pub bufferAfter : State → ℕ → List ℕ → List ℕ
+bufferAfter s room xs = chosen (eqb (sendNumber s room (length xs)) 0) (patch 0 (pieceOf s) xs) xs
+
+-- and in a work buffer that held ws: the part that the chunk is split from
+abbrev pub workAfter : State → ℕ → List ℕ → List ℕ
+workAfter s len ws = chosen (eqb (sendNumber s (length ws) len) 0) (patch 0 (partBytes (s .run) (nextOf s)) ws) ws
+
+-- All of a turn: what it answers, and what it leaves in both buffers. The bytes that it hands out lie inside the buffer.
+pub record Turn (s : State) (r : Sent) (work buf workLeft left : List ℕ) : Type 0 where
+  pub answered : r ≡ sentDef s (length work) (length buf)
+  pub buffer : left ≡ bufferAfter s (length work) buf
+  pub part : workLeft ≡ workAfter s (length buf) work
+  pub inside : r .length ≤ length left
+
+-- ---- n turns with the same buffers
+
+-- the state after them
+unfoldable pub sentOn : ℕ → State → ℕ → ℕ → State
+sentOn zero s room len = s
+sentOn (suc n) s room len = sentDef (sentOn n s room len) room len .sending
+
+-- the state after all that are due, with these buffers
+abbrev pub allSent : State → List ℕ → List ℕ → State
+allSent s work buf = sentOn (s .left) s (length work) (length buf)
+
+-- the bytes that they hand out, one after the other
+unfoldable pub handed : ℕ → State → ℕ → List ℕ → List ℕ
+handed zero s room xs = []
+handed (suc n) s room xs =
+    take (sentDef s room (length xs) .length) (bufferAfter s room xs) ++ handed n (sentDef s room (length xs) .sending) room (bufferAfter s room xs)

@@ -1,0 +1,176 @@
+-- No line of an accepted geometry's table is longer than 147 bytes, so that as many buffers of so many bytes as lines hold the table.
+-- Assumes nothing.
+use mathlib.Core.Path.{_≡_, refl, sym, ap, _∙_}
+use mathlib.Core.Bool.{Bool, true, false}
+use mathlib.Core.List.{List, [], _∷_, _++_}
+use Prim.Native.Nat.{ℕ, _+_, _*_, _-_, _^_, _≤_, _<_}
+use native.Mathlib.Omega.{arith}
+use borrow.Author.Tests.{leb-true, leb-false, ne-eqb}
+use lib.Dec.{ltb, leb, lit<}
+use lib.ListN.{length, length-append}
+use Rattle.seqs.specs.Lists.{choose}
+use Rattle.seqs.proofs.Laws.{choose-elim}
+use Rattle.endian.specs.Bytes.{below}
+use Rattle.table_lines.specs.declared.Sums.{Sums}
+use Rattle.table_lines.specs.Lines.{line, headerBytes, totalBytes, refusedBytes}
+use Rattle.table_lines.proofs.Digits.{length-64}
+use Rattle.table_lines.proofs.Stores.{length-line}
+use Rattle.table_lines.proofs.Longest.{row-most}
+use Rattle.geometry.specs.declared.Geometry.{Geometry}
+use Rattle.geometry_answers.specs.Named.{isAnswer}
+use Rattle.geometry_layout.proofs.Bounding.{answer-bounds}
+use Rattle.geometry_layout.proofs.Inside.{few-blocks}
+use Rattle.plan_site.specs.declared.Site.{Site}
+use Rattle.plan_site.specs.Sites.{siteOf, Sound}
+use Rattle.plan_site.proofs.Sites.{site-sound}
+use Rattle.plan_closed.specs.Closed.{short, listAt, isFirst}
+use Rattle.plan_totals.specs.declared.Row.{Row}
+use Rattle.plan_totals.specs.declared.Total.{Total}
+use Rattle.plan_totals.specs.Totals.{plansNumber, noRow, larger, beforeChunk, afterChunk, afterList, rowOf, closedRow, constCount, closedTotal}
+use Rattle.plan_totals.proofs.Rows.{row-closed}
+use Rattle.plan_totals.proofs.Whole.{all-planned}
+use Rattle.plan_summary.specs.Summaries.{summaryOf, rowIn}
+use Rattle.plan_summary.proofs.Laws.{few-groups, each-fits}
+use Rattle.plan_summary.proofs.Rows.{rows-agree}
+use Rattle.plan_table.specs.declared.Table.{Table}
+use Rattle.plan_table.specs.Printed.{rowLine, totalLine, tableBytes}
+use Rattle.plan_table.specs.Filling.{refusal, Short, LongEnough, lineAt, partsOf}
+use Rattle.plan_table.proofs.Begun.{refusal-rest, whole, table-rest}
+use Rattle.plan_table.proofs.Short.{parts-whole}
+
+choose-lt : (t : Bool) (a b m : ℕ) → a < m → b < m → choose t a b < m
+choose-lt true a b m h k = h
+choose-lt false a b m h k = k
+
+-- ---- the header and the sums
+
+header-short : length headerBytes ≤ 147
+unfolding headerBytes
+header-short = omega arith
+
+no-numbers : length (line []) ≡ 0
+unfolding line
+no-numbers = refl
+
+total-short : (t : Total) → t .length < 2 ^ 64 → t .log < 2 ^ 64 → t .list < 2 ^ 64 → t .chunk < 2 ^ 64 → t .free < 2 ^ 64 → length (totalLine t) ≤ 147
+unfolding totalBytes
+total-short t a b c d e =
+    let ns = t .length ∷ t .log ∷ t .list ∷ t .chunk ∷ t .free ∷ [] in
+    let w = length-append (116 ∷ 111 ∷ 116 ∷ 97 ∷ 108 ∷ 32 ∷ []) (line ns) in
+    omega
+    (arith, w, no-numbers, length-line (t .length) (t .log ∷ t .list ∷ t .chunk ∷ t .free ∷ []), length-line (t .log) (t .list ∷ t .chunk ∷ t .free ∷ []), length-line (t .list) (t .chunk ∷ t .free ∷ []), length-line (t .chunk) (t .free ∷ []), length-line (t .free) [], length-64 (t .length) a, length-64 (t .log) b, length-64 (t .list) c, length-64 (t .chunk) d, length-64 (t .free) e)
+
+-- ---- a refusal
+
+refused-short : (n : ℕ) → n < 2 ^ 64 → length (refusedBytes n) ≤ 147
+unfolding refusedBytes
+refused-short n b =
+    let w = length-append (114 ∷ 101 ∷ 102 ∷ 117 ∷ 115 ∷ 101 ∷ 100 ∷ 32 ∷ []) (line (n ∷ [])) in
+    omega (arith, w, no-numbers, length-line n [], length-64 n b)
+
+refusal-short : (n : ℕ) → (n ≡ 0 → ⊥) → n < 2 ^ 64 → Short (refusal n)
+unfolding lineAt
+refusal-short n h b k = rw (ne-eqb n 0 h) (refused-short n b)
+
+-- A REFUSAL IS ONE PART: its line, in a buffer of 147 bytes or more
+pub refused-whole : (n : ℕ) → (n ≡ 0 → ⊥) → n < 2 ^ 64 → (m : ℕ) → 147 ≤ m → partsOf (refusal n) (m ∷ []) ≡ refusedBytes n
+refused-whole n h b m e = parts-whole (refusal n) (m ∷ []) (refusal-short n h b) (e, tt) (omega arith) ∙ refusal-rest n h
+
+-- ---- a row
+
+abbrev numbers : Row → List ℕ
+numbers r = r .group ∷ r .length ∷ r .log ∷ r .list ∷ r .chunk ∷ r .free ∷ r .longest ∷ []
+
+module _ (s : Site) (ok : Sound s) (few : s .agno < 2 ^ 64) where
+  abbrev m : ℕ
+  m = 2 ^ 64
+
+  length-fits : s .length < m
+  length-fits = let w = ok .length-most in omega arith
+
+  before-fits : beforeChunk s < m
+  before-fits = let w = ok .chunk-ends in omega arith
+
+  after-fits : afterChunk s < m
+  after-fits = let w = ok .length-most in omega arith
+
+  list-fits : afterList s < m
+  list-fits = let w = ok .length-most in omega arith
+
+  closed-at : (t : Bool) → short s ≡ t → below m (numbers (closedRow s))
+  unfolding closedRow
+  closed-at true e = rw e (lit< tt, (lit< tt, (lit< tt, (lit< tt, (lit< tt, (lit< tt, (lit< tt, tt)))))))
+  closed-at false e =
+      let w = ok .length-most in
+      let v = ok .chunk-ends in
+      let n = ok .need-most in
+      let o = ok .log-most in
+      rw e (
+        few,
+        (
+          length-fits,
+          (
+            choose-lt (s .«has_log») (s .«log_blocks») 0 m (omega arith) (lit< tt),
+            (
+              omega arith,
+              (
+                choose-lt (isFirst s) (s .«chunk_blocks») 0 m (omega arith) (lit< tt),
+                (
+                  choose-lt (isFirst s) (beforeChunk s + afterChunk s) (afterList s) m (omega arith) list-fits,
+                  (
+                    choose-lt (isFirst s) (larger (beforeChunk s) (afterChunk s)) (afterList s) m (choose-lt (ltb (beforeChunk s) (afterChunk s)) (afterChunk s) (beforeChunk s) m after-fits before-fits) list-fits,
+                    tt,
+                  ),
+                ),
+              ),
+            ),
+          ),
+        ),
+      )
+
+-- ---- a table
+
+module _ (g : Geometry) (l : length (g .label) ≡ 12) (e : plansNumber g ≡ 0) where
+  here : isAnswer g ≡ true
+  here = all-planned g l e .0
+
+  group-is : (k : ℕ) → siteOf g k .agno ≡ k
+  unfolding siteOf
+  group-is k = refl
+
+  row-short : (k : ℕ) → k < g .agcount → length (rowLine (rowIn (summaryOf g) k)) ≤ 147
+  row-short k h =
+      let f = few-groups g l here in
+      let z = group-is k in
+      let r : rowIn (summaryOf g) k ≡ closedRow (siteOf g k) = rows-agree g l e k ∙ row-closed g l here k h in
+      rw r
+      (row-most
+      (record { group = closedRow (siteOf g k) .group; length = closedRow (siteOf g k) .length; log = closedRow (siteOf g k) .log; list = closedRow (siteOf g k) .list; chunk = closedRow (siteOf g k) .chunk; free = closedRow (siteOf g k) .free; longest = closedRow (siteOf g k) .longest })
+      (closed-at (siteOf g k) (site-sound g k l here) (omega arith) (short (siteOf g k)) refl))
+
+  blocks-fit : g .dblocks < 2 ^ 64
+  blocks-fit = let w = few-blocks g (answer-bounds g l here) in omega arith
+
+  sums-short : length (totalLine (summaryOf g .total)) ≤ 147
+  unfolding summaryOf closedTotal constCount siteOf
+  sums-short =
+      let s = site-sound g 0 l here in
+      let d = blocks-fit in
+      let a = s .log-most in
+      let b = s .chunk-ends in
+      let n = s .need-most in
+      let c = each-fits (g .agcount) (siteOf g 0 .need) (few-groups g l here) (omega arith) in
+      total-short (summaryOf g .total) d (omega arith) c (omega arith) (omega arith)
+
+  short-whole : Short (whole g)
+  unfolding lineAt summaryOf
+  short-whole n =
+      choose-elim (λ (x : List ℕ). length x ≤ 147) (leb n 1) (totalLine (summaryOf g .total)) _ (λ a. sums-short)
+      (λ a.
+      choose-elim (λ (x : List ℕ). length x ≤ 147) (leb (n - 1) (g .agcount)) (rowLine (rowIn (summaryOf g) (g .agcount - (n - 1)))) headerBytes
+      (λ b. row-short (g .agcount - (n - 1)) (let u = leb-false n 1 a in let v = leb-true (n - 1) (g .agcount) b in omega arith))
+      (λ b. header-short))
+
+  -- THE PARTS OF A TABLE ARE THE TABLE: in buffers of 147 bytes and more, as many as it has lines or more
+  pub table-whole : (ns : List ℕ) → LongEnough ns → g .agcount + 2 ≤ length ns → partsOf (whole g) ns ≡ tableBytes g
+  table-whole ns h k = parts-whole (whole g) ns short-whole h k ∙ table-rest g l e

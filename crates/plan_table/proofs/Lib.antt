@@ -1,0 +1,5 @@
+pub mod Steps
+pub mod Begun
+pub mod Parts
+pub mod Short
+pub mod Bounded

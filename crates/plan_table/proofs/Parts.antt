@@ -1,0 +1,103 @@
+-- The parts of a table, one after the other, are the whole.
+-- Assumes nothing.
+use mathlib.Core.Path.{_≡_, refl, sym, ap, _∙_}
+use mathlib.Core.Bool.{Bool, true, false}
+use mathlib.Core.List.{List, [], _∷_, _++_, append-nil, append-assoc}
+use Prim.Native.Nat.{ℕ, zero, suc, _+_, _-_, _≤_, _<_}
+use native.Mathlib.Omega.{arith}
+use borrow.Author.Tests.{lt-ltb, eqb-false}
+use lib.Dec.{ltb, leb, eqb}
+use lib.ListN.{length, drop, replicate}
+use Rattle.seqs.specs.Lists.{both, choose}
+use Rattle.plan_table.specs.declared.Table.{Table}
+use Rattle.plan_table.specs.Filling.{lineAt, linesOf, joined, restOf, fitting, partLines, partOf, nextOf, filled, partsOf, afterParts, Reached, Printing}
+
+-- ---- one part
+
+-- the lines that fit are the first ones
+abbrev First : List (List ℕ) → List (List ℕ) → Type 0
+First ls fs = joined fs ++ joined (drop (length fs) ls) ≡ joined ls
+
+first-at : (l : List ℕ) (ls fs : List (List ℕ)) (t : Bool) → First ls fs → First (l ∷ ls) (choose t (l ∷ fs) [])
+unfolding joined
+first-at l ls fs true e = append-assoc l (joined fs) (joined (drop (length fs) ls)) ∙ ap (λ (x : List ℕ). l ++ x) e
+first-at l ls fs false e = refl
+
+fitting-first : (n at : ℕ) (ls : List (List ℕ)) → First ls (fitting n at ls)
+unfolding fitting joined
+fitting-first n at [] = refl
+fitting-first n at (l ∷ ls) = first-at l ls (fitting n (at + length l) ls) (leb (at + length l) n) (fitting-first n (at + length l) ls)
+
+-- the last lines without the first k of them
+drop-lines : (t : Table) (k n : ℕ) → drop k (linesOf t n) ≡ linesOf t (n - k)
+unfolding linesOf
+drop-lines t zero n = let e : n - 0 ≡ n = omega arith in rw e
+drop-lines t (suc k) zero = let e : 0 - suc k ≡ 0 = omega arith in rw e
+drop-lines t (suc k) (suc n) = let e : suc n - suc k ≡ n - k = omega arith in rw e (drop-lines t k n)
+
+-- lines are the same in a state that differs only in how many are left
+same-lines : (t : Table) (m n : ℕ) → linesOf (record { number = t .number; left = m; summary = t .summary }) n ≡ linesOf t n
+unfolding linesOf lineAt
+same-lines t m zero = refl
+same-lines t m (suc n) = ap (λ (x : List (List ℕ)). lineAt t (suc n) ∷ x) (same-lines t m n)
+
+-- A PART AND WHAT IS LEFT BEHIND IT ARE WHAT WAS LEFT, whatever the buffer's length
+pub part-rest : (t : Table) (n : ℕ) → partOf t n ++ restOf (nextOf t n) ≡ restOf t
+unfolding partLines
+part-rest t n =
+    let ls = linesOf t (t .left) in
+    let k = length (fitting n 0 ls) in
+    ap (λ (x : List (List ℕ)). joined (fitting n 0 ls) ++ joined x) (same-lines t (t .left - k) (t .left - k) ∙ sym (drop-lines t k (t .left)))
+    ∙ fitting-first n 0 ls
+
+-- ---- all parts
+
+-- NO BYTE IS LOST AND NONE COMES TWICE: the parts and what is left behind them are what was left, whatever the buffers' lengths
+pub parts-rest : (t : Table) (ns : List ℕ) → partsOf t ns ++ restOf (afterParts t ns) ≡ restOf t
+unfolding partsOf afterParts
+parts-rest t [] = refl
+parts-rest t (n ∷ ns) =
+    append-assoc (partOf t n) (partsOf (nextOf t n) ns) (restOf (afterParts (nextOf t n) ns))
+    ∙ ap (λ (x : List ℕ). partOf t n ++ x) (parts-rest (nextOf t n) ns)
+    ∙ part-rest t n
+
+none-left : (t : Table) → t .left ≡ 0 → restOf t ≡ []
+unfolding linesOf joined
+none-left t e = rw e
+
+-- where no line is left behind them, the parts are the whole
+pub parts-done : (t : Table) (ns : List ℕ) → afterParts t ns .left ≡ 0 → partsOf t ns ≡ restOf t
+parts-done t ns e =
+    sym (append-nil (partsOf t ns)) ∙ ap (λ (x : List ℕ). partsOf t ns ++ x) (sym (none-left (afterParts t ns) e)) ∙ parts-rest t ns
+
+-- ---- parts of one length
+
+-- one part more
+pub one-more : (t : Table) (n k : ℕ) → afterParts t (replicate (suc k) n) ≡ nextOf (afterParts t (replicate k n)) n
+unfolding afterParts
+one-more t n zero = refl
+one-more t n (suc k) = one-more (nextOf t n) n k
+
+pub reached-more : (n : ℕ) (t s : Table) {u : Table} → Reached n t s → u ≡ nextOf s n → Reached n t u
+reached-more n t s r e = record { parts = suc (r .parts); state-is = e ∙ ap (λ (x : Table). nextOf x n) (r .state-is) ∙ sym (one-more t n (r .parts)) }
+
+-- A LOOP THAT WRITES EACH PART WRITES THE WHOLE
+pub printing-whole : (n : ℕ) (t s : Table) (p : Printing n t s true) → partsOf t (replicate (p .reached .parts) n) ≡ restOf t
+printing-whole n t s p =
+    parts-done t (replicate (p .reached .parts) n) (ap (λ (x : Table). x .left) (sym (p .reached .state-is)) ∙ p .whole refl)
+
+-- ---- that it ends
+
+some-put : (left k : ℕ) → 0 < left → choose {A = ℕ} (both (ltb 0 left) (eqb k 0)) 27 0 ≡ 0 → 0 < k
+some-put left k h = rw (lt-ltb 0 left h) (by (eqb k 0) refl)
+  where
+    by : (t : Bool) → eqb k 0 ≡ t → choose {A = ℕ} t 27 0 ≡ 0 → 0 < k
+    by true e z = absurd (omega arith)
+    by false e z = let w = eqb-false k 0 e in omega arith
+
+-- a turn that is refused or whose write fails is the last, and every other puts a line
+pub part-falls : (t : Table) (n : ℕ) (written : Bool) → 0 < t .left → (written ≡ true → filled t n .number ≡ 0)
+    → nextOf t n .left + choose written 1 0 < t .left + 1
+unfolding filled
+part-falls t n true h e = let k = some-put (t .left) (length (partLines t n)) h (e refl) in omega arith
+part-falls t n false h e = omega arith

@@ -1,0 +1,43 @@
+-- How many parts a table has: one for each line at most, where each buffer is as long as the longest line.
+-- Assumes nothing.
+use mathlib.Core.Path.{_≡_, refl, ap, _∙_}
+use mathlib.Core.Bool.{true}
+use mathlib.Core.List.{List, [], _∷_}
+use Prim.Native.Nat.{ℕ, zero, suc, _+_, _-_, _≤_, _<_}
+use native.Mathlib.Omega.{arith}
+use borrow.Author.Tests.{le-leb}
+use lib.Dec.{leb}
+use lib.ListN.{length}
+use Rattle.plan_table.specs.declared.Table.{Table}
+use Rattle.plan_table.specs.Filling.{Short, LongEnough, lineAt, linesOf, restOf, fitting, partLines, nextOf, partsOf, afterParts}
+use Rattle.plan_table.proofs.Steps.{first-line}
+use Rattle.plan_table.proofs.Parts.{parts-done}
+
+-- the first line fits
+fits-one : (n : ℕ) (l : List ℕ) (ls : List (List ℕ)) → length l ≤ n → 0 < length (fitting n 0 (l ∷ ls))
+unfolding fitting
+fits-one n l ls h = rw (le-leb (0 + length l) n (omega arith)) (omega arith)
+
+-- a part has a line, where one is left
+some-lines : (t : Table) (n : ℕ) → Short t → 147 ≤ n → 0 < t .left → 0 < length (partLines t n)
+unfolding partLines
+some-lines t n s h some =
+    rw (first-line t (t .left) some) (fits-one n (lineAt t (t .left)) (linesOf t (t .left - 1)) (let w = s (t .left) in omega arith))
+
+same-short : (t : Table) (n : ℕ) → Short t → Short (nextOf t n)
+unfolding lineAt
+same-short t n s = s
+
+-- behind as many parts as lines no line is left
+all-done : (t : Table) (ns : List ℕ) → Short t → LongEnough ns → t .left ≤ length ns → afterParts t ns .left ≡ 0
+unfolding afterParts
+all-done t [] s e h = omega arith
+all-done t (n ∷ ns) s e h = all-done (nextOf t n) ns (same-short t n s) (e .1) (fewer (t .left) refl)
+  where
+    fewer : (k : ℕ) → t .left ≡ k → nextOf t n .left ≤ length ns
+    fewer zero z = omega arith
+    fewer (suc k) z = let w = some-lines t n s (e .0) (omega arith) in omega arith
+
+-- THE PARTS, ONE AFTER THE OTHER, ARE THE WHOLE: in buffers of 147 bytes and more, as many as lines are left or more
+pub parts-whole : (t : Table) (ns : List ℕ) → Short t → LongEnough ns → t .left ≤ length ns → partsOf t ns ≡ restOf t
+parts-whole t ns s e h = parts-done t ns (all-done t ns s e h)

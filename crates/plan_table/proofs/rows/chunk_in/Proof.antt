@@ -1,0 +1,14 @@
+-- `plan_table::rows::chunk_in` meets its contract.
+-- Assumes nothing.
+use Rattle.plan_summary.specs.Summaries.{chunkIn}
+use borrow.Author.Needs.{needs}
+use Rattle.plan_table.proofs.rows.chunk_in.Statement.{statement}
+use Rattle.plan_table.proofs.rows.chunk_in.Tie as tie
+
+returns : tie.Need-returns
+unfolding chunkIn
+returns c = c .pick-u64 .ensures
+
+pub chunk-in-spec : {M : Type 1} → statement M
+chunk-in-spec = tie.close (tie.spec
+    (λ c κs. search needs) returns)

@@ -1,0 +1,18 @@
+-- `plan_table::rows::free_in` meets its contract.
+-- Assumes nothing.
+use Rattle.plan_summary.specs.Summaries.{freeIn}
+use mathlib.Core.Path.{_∙_}
+use borrow.Author.Needs.{needs}
+use Rattle.plan_table.proofs.rows.free_in.Statement.{statement}
+use Rattle.plan_table.proofs.rows.free_in.Tie as tie
+
+returns : tie.Need-returns
+unfolding freeIn
+returns c = c .minus4 .ensures ∙ rw (c .before .chunk-in .ensures, c .before .before .minus3 .ensures, c .before .before .before .minus2 .ensures, c .before .before .before .before .log-in .ensures, c .before .before .before .before .before .minus .ensures, c .before .before .before .before .before .before .length-in .ensures)
+
+pub free-in-spec : {M : Type 1} → statement M
+free-in-spec =
+    tie.close
+    (tie.spec
+    (λ c κs. search needs) (λ c κs. search needs) (λ c κs. search needs) (λ c κs. search needs)
+    (λ c κs. search needs) (λ c κs. search needs) (λ c κs. search needs) returns)

@@ -1,0 +1,18 @@
+-- `plan_table::rows::longest_in` meets its contract.
+-- Assumes nothing.
+use Rattle.plan_summary.specs.Summaries.{longestIn}
+use mathlib.Core.Path.{_∙_}
+use borrow.Author.Needs.{needs}
+use Rattle.plan_table.proofs.rows.longest_in.Statement.{statement}
+use Rattle.plan_table.proofs.rows.longest_in.Tie as tie
+
+returns : tie.Need-returns
+unfolding longestIn
+returns c = c .pick-u64 .ensures ∙ rw (c .before .free-in .ensures, c .before .before .max-u64 .ensures, c .before .before .before .minus4 .ensures, c .before .before .before .before .minus3 .ensures, c .before .before .before .before .before .length-in .ensures, c .before .before .before .before .before .before .minus2 .ensures, c .before .before .before .before .before .before .before .minus .ensures)
+
+pub longest-in-spec : {M : Type 1} → statement M
+longest-in-spec =
+    tie.close
+    (tie.spec
+    (λ c κs. search needs) (λ c κs. search needs) (λ c κs. search needs) (λ c κs. search needs)
+    (λ c κs. search needs) (λ c κs. search needs) (λ c κs. search needs) (λ c κs. search needs) returns)

@@ -1,0 +1,55 @@
+-- What planlist prints: the table of a geometry, or the line of a refusal.
+-- Assumes nothing.
+use mathlib.Core.List.{List, [], _∷_, _++_}
+use Prim.Native.Nat.{ℕ, zero, suc}
+use lib.Dec.{eqb}
+use Rattle.seqs.specs.Lists.{choose}
+use Rattle.table_lines.specs.Lines.{rowBytes, headerBytes, totalBytes, refusedBytes}
+use Rattle.geometry.specs.declared.Geometry.{Geometry}
+use Rattle.plan_totals.specs.declared.Row.{Row}
+use Rattle.plan_totals.specs.declared.Total.{Total}
+use Rattle.plan_totals.specs.Totals.{plansNumber, noRow, rowOf, totalOf}
+use Rattle.run.specs.Runs.{accepted}
+
+-- a row's line
+abbrev pub rowLine : Row → List ℕ
+rowLine r =
+    rowBytes
+    (record {
+      group = r .group;
+      length = r .length;
+      log = r .log;
+      list = r .list;
+      chunk = r .chunk;
+      free = r .free;
+      longest = r .longest;
+    })
+
+-- the line of the sums
+abbrev pub totalLine : Total → List ℕ
+totalLine t = totalBytes (record { length = t .length; log = t .log; list = t .list; chunk = t .chunk; free = t .free })
+
+-- the lines of groups 0 to n − 1: the row of each one's plan
+unfoldable pub rowLines : Geometry → ℕ → List ℕ
+rowLines g zero = []
+rowLines g (suc n) = rowLines g n ++ rowLine (rowOf g n)
+
+-- the table: the header, a line for each group, and the sums of the rows
+unfoldable pub tableBytes : Geometry → List ℕ
+tableBytes g = headerBytes ++ (rowLines g (g .agcount) ++ totalLine (totalOf g))
+
+-- the table where the number is 0, else the line of the refusal
+abbrev pub tableOr : ℕ → Geometry → List ℕ
+tableOr n g = choose (eqb n 0) (tableBytes g) (refusedBytes n)
+
+-- what is printed of a geometry: its table, or 31, or 25 where a plan is refused
+unfoldable pub tableAnswer : Geometry → List ℕ
+tableAnswer g = tableOr (plansNumber g) g
+
+-- WHAT PLANLIST PRINTS of its input: the table of the run that the records ask for, or its refusal
+unfoldable pub planBytes : List ℕ → List ℕ
+planBytes xs = tableOr (accepted xs .number) (accepted xs .geometry)
+
+-- `row_at`: 31, 25 where a plan is refused, 29, or the row of group k's plan
+unfoldable pub rowAnswer : Geometry → ℕ → Row
+rowAnswer g k = choose (eqb (plansNumber g) 0) (rowOf g k) (noRow (plansNumber g))

@@ -1,0 +1,158 @@
+// What planlist prints, part by part: a table begins with the input or with a geometry, and `fill` puts its next whole lines into a
+// lent buffer until none is left.
+ghost use mathlib.Core.Path.{_≡_};
+ghost use Prim.Native.Nat.{_<_};
+ghost use lib.Dec.{ltb, eqb};
+ghost use lib.ListN.{length};
+ghost use Rattle.refusals.specs.Numbers.{wrongLength};
+ghost use Rattle.seqs.specs.Lists.{both, choose};
+ghost use Rattle.endian.specs.Bytes.{patch};
+ghost use Rattle.plan_table.specs.Printed.{rowAnswer, tableAnswer, planBytes};
+ghost use Rattle.plan_table.specs.Filling.{refusal, begunTable, begun, restOf, partOf, filled, Stepped};
+
+pub mod rows; // rows.rt: a group's row from the summary of all groups
+pub mod lines; // lines.rt: each line of a table
+
+use geometry::Geometry;
+use lines::put_line;
+use plan_summary::Summary;
+use plan_summary::no_summary;
+use plan_summary::summary_of;
+use plan_totals::Row;
+use rows::no_row;
+use rows::row_in;
+
+// A table, of which the last `left` lines aren't printed yet. The number is 0, or that of a refusal, which has one line.
+pub struct Table {
+    pub number: u32,
+    pub left: u64,
+    pub summary: Summary,
+}
+
+// Where the next lines end in the buffer, and the table behind them; 27 where not even one of the lines that are left fits.
+pub struct Filled {
+    pub number: u32,
+    pub end: usize,
+    pub table: Table,
+}
+
+fn refused(n: u32) -> Table
+    ensures { λ r. ⌜ r ≡ refusal n ⌝ }
+{
+    let summary = no_summary();
+    Table {
+        number: n,
+        left: 1,
+        summary,
+    }
+}
+
+// The table of a geometry, or the line of 31 or 25.
+pub fn begin_table(g: Geometry) -> Table
+    ensures { λ r. ⌜ (r ≡ begunTable g) × (restOf r ≡ tableAnswer g) ⌝ }
+{
+    let made = summary_of(g);
+    let number = made.number;
+    if number != 0 {
+        return refused(number);
+    }
+    let summary = made.summary;
+    Table {
+        number: 0,
+        left: g.agcount + 2,
+        summary,
+    }
+}
+
+// What planlist prints of its input.
+pub fn begin(input: &[u8]) -> Table
+    ensures { λ r. ⌜ (r ≡ begun (now (input .entry))) × (restOf r ≡ planBytes (now (input .entry))) ⌝ }
+{
+    let run = run::accept(input);
+    let n = run.number;
+    if n != 0 {
+        return refused(n);
+    }
+    let g = run.geometry;
+    begin_table(g)
+}
+
+// How many lines are left, where the next one begins, and whether it had no room.
+struct Place {
+    left: u64,
+    end: usize,
+    full: bool,
+}
+
+// The next line, where it fits.
+fn step(t: Table, at: Place, buf: &mut [u8]) -> Place
+    requires { ⌜ 0 < at .left ⌝ }
+    ensures { λ r. ⌜ Stepped t (at .left) (at .end) (now (buf .entry)) (r .left) (r .end) (r .full) (now (buf .exit)) ⌝ }
+{
+    let w = put_line(t, at.left, buf, at.end);
+    if w.number != 0 {
+        return Place {
+            left: at.left,
+            end: at.end,
+            full: true,
+        };
+    }
+    Place {
+        left: at.left - 1,
+        end: w.end,
+        full: false,
+    }
+}
+
+// 27 where `n` lines were left and none was put.
+fn number_of(n: u64, left: u64) -> u32
+    ensures { λ r. ⌜ r ≡ choose (both (ltb 0 n) (eqb left n)) wrongLength 0 ⌝ }
+{
+    if n == 0 {
+        return 0;
+    }
+    if left == n {
+        return refusals::WRONG_LENGTH;
+    }
+    0
+}
+
+// The next lines of a table, as many as fit whole, from the buffer's start on.
+pub fn fill(t: Table, buf: &mut [u8]) -> Filled
+    ensures { λ r. ⌜ r ≡ filled t (length (now (buf .entry))) ⌝ }
+    ensures { λ r. ⌜ now (buf .exit) ≡ patch 0 (partOf t (length (now (buf .entry)))) (now (buf .entry)) ⌝ }
+{
+    let mut at = Place {
+        left: t.left,
+        end: 0,
+        full: false,
+    };
+    while 0 < at.left && !at.full {
+        at = step(t, at, buf);
+    }
+    let number = number_of(t.left, at.left);
+    let summary = t.summary;
+    let table = Table {
+        number: t.number,
+        left: at.left,
+        summary,
+    };
+    Filled {
+        number,
+        end: at.end,
+        table,
+    }
+}
+
+// The row of group k: 31, 25 where a plan is refused, 29 where there is no such group.
+pub fn row_at(g: Geometry, k: u64) -> Row
+    ensures { λ r. ⌜ r ≡ rowAnswer g k ⌝ }
+{
+    let all = summary_of(g);
+    let m = all.number;
+    if m != 0 {
+        return no_row(m);
+    }
+    let s = all.summary;
+    row_in(s, k)
+}

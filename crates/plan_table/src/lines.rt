@@ -1,0 +1,68 @@
+// Each line of a table, written where it fits.
+ghost use mathlib.Core.Path.{_≡_};
+ghost use Rattle.table_lines.specs.Lines.{PutLine};
+ghost use Rattle.plan_summary.specs.Summaries.{rowIn};
+ghost use Rattle.plan_table.specs.Printed.{rowLine, totalLine};
+ghost use Rattle.plan_table.specs.Filling.{lineAt};
+use crate::Table;
+use crate::rows::row_in;
+use plan_summary::Summary;
+use plan_totals::Total;
+use table_lines::Row;
+use table_lines::Sums;
+use table_lines::Written;
+use table_lines::put_header;
+use table_lines::put_refused;
+use table_lines::put_row;
+use table_lines::put_total;
+
+// The line of group k.
+fn put_group(s: Summary, k: u64, buf: &mut [u8], at: usize) -> Written
+    ensures { λ r. ⌜ PutLine at (rowLine (rowIn s k)) (now (buf .entry)) (r .number) (r .end) (now (buf .exit)) ⌝ }
+{
+    let row = row_in(s, k);
+    let line = Row {
+        group: row.group,
+        length: row.length,
+        log: row.log,
+        list: row.list,
+        chunk: row.chunk,
+        free: row.free,
+        longest: row.longest,
+    };
+    put_row(line, buf, at)
+}
+
+// The line of the sums.
+fn put_sums(t: Total, buf: &mut [u8], at: usize) -> Written
+    ensures { λ r. ⌜ PutLine at (totalLine t) (now (buf .entry)) (r .number) (r .end) (now (buf .exit)) ⌝ }
+{
+    let sums = Sums {
+        length: t.length,
+        log: t.log,
+        list: t.list,
+        chunk: t.chunk,
+        free: t.free,
+    };
+    put_total(sums, buf, at)
+}
+
+// The line with which `left` lines are left.
+pub(crate) fn put_line(t: Table, left: u64, buf: &mut [u8], at: usize) -> Written
+    ensures { λ r. ⌜ PutLine at (lineAt t left) (now (buf .entry)) (r .number) (r .end) (now (buf .exit)) ⌝ }
+{
+    let number = t.number;
+    if number != 0 {
+        return put_refused(number as u64, buf, at);
+    }
+    let s = t.summary;
+    if left <= 1 {
+        let total = s.total;
+        return put_sums(total, buf, at);
+    }
+    let groups = s.agcount;
+    if left - 1 <= groups {
+        return put_group(s, groups - (left - 1), buf, at);
+    }
+    put_header(buf, at)
+}

@@ -1,0 +1,77 @@
+// A group's row from the summary of all groups, in constant time.
+ghost use mathlib.Core.Path.{_≡_};
+ghost use Rattle.plan_totals.specs.Totals.{noRow};
+ghost use Rattle.plan_summary.specs.Summaries.{lengthIn, logIn, chunkIn, freeIn, longestIn, rowIn};
+use arith::choice::pick_u64;
+use arith::numbers::max_u64;
+use arith::numbers::minus;
+use plan_summary::Summary;
+use plan_totals::Row;
+
+fn length_in(s: Summary, k: u64) -> u64
+    ensures { λ r. ⌜ r ≡ lengthIn s k ⌝ }
+{
+    pick_u64(k == minus(s.agcount, 1), s.last, s.agsize)
+}
+
+fn log_in(s: Summary, k: u64) -> u64
+    ensures { λ r. ⌜ r ≡ logIn s k ⌝ }
+{
+    pick_u64(k == s.logagno, s.logblocks, 0)
+}
+
+fn chunk_in(s: Summary, k: u64) -> u64
+    ensures { λ r. ⌜ r ≡ chunkIn s k ⌝ }
+{
+    pick_u64(k == 0, s.chunk, 0)
+}
+
+fn free_in(s: Summary, k: u64) -> u64
+    ensures { λ r. ⌜ r ≡ freeIn s k ⌝ }
+{
+    let after = minus(minus(length_in(s, k), s.head), log_in(s, k));
+    minus(minus(after, s.list), chunk_in(s, k))
+}
+
+// Before or after the chunk in group 0.
+fn longest_in(s: Summary, k: u64) -> u64
+    ensures { λ r. ⌜ r ≡ longestIn s k ⌝ }
+{
+    let before = minus(minus(s.chunk_at, s.head), s.list);
+    let after = minus(minus(length_in(s, k), s.chunk_at), s.chunk);
+    pick_u64(k == 0, max_u64(before, after), free_in(s, k))
+}
+
+pub(crate) fn no_row(n: u32) -> Row
+    ensures { λ r. ⌜ r ≡ noRow n ⌝ }
+{
+    Row {
+        number: n,
+        group: 0,
+        length: 0,
+        log: 0,
+        list: 0,
+        chunk: 0,
+        free: 0,
+        longest: 0,
+    }
+}
+
+// The row of group k, or 29.
+pub(crate) fn row_in(s: Summary, k: u64) -> Row
+    ensures { λ r. ⌜ r ≡ rowIn s k ⌝ }
+{
+    if k < s.agcount {
+        return Row {
+            number: 0,
+            group: k,
+            length: length_in(s, k),
+            log: log_in(s, k),
+            list: s.list,
+            chunk: chunk_in(s, k),
+            free: free_in(s, k),
+            longest: longest_in(s, k),
+        };
+    }
+    no_row(refusals::NO_PLACE)
+}

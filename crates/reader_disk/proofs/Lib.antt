@@ -1,4 +1,0 @@
-pub mod States
-pub mod InParts
-pub mod Accepted
-pub mod Refused

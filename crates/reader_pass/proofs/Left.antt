@@ -1,0 +1,81 @@
+-- ACCEPTED EXACTLY WHERE THE WRITTEN RECORDS OF ONE ACCEPTED RUN LEAVE WHAT STANDS IN ITS HEADS AND ITS LOG BLOCK.
+-- Assumes nothing.
+use mathlib.Core.Path.{_≡_, sym, ap, subst, _∙_}
+use mathlib.Core.Bool.{false}
+use mathlib.Core.List.{List}
+use Prim.Native.Nat.{ℕ, zero, suc, _-_, _<_, _≤_}
+use lib.Dec.{lit<}
+use lib.ListN.{getD}
+use Rattle.geometry.specs.declared.Geometry.{Geometry}
+use Rattle.head_bytes.specs.Head.{headLength}
+use Rattle.run.specs.Runs.{runOf}
+use Rattle.list_device.specs.Device.{Device, read}
+use Rattle.reader_names.specs.Named.{namedBy}
+use Rattle.reader_names.specs.Sizings.{sized, plain}
+use Rattle.list_spec.specs.Listing.{headLeft}
+use Rattle.list_accepted.proofs.Runs.{source-of}
+use Rattle.reader_exact.specs.declared.Found.{Found}
+use Rattle.reader_exact.specs.Read.{readGroup0}
+use Rattle.reader_exact.specs.Left.{Octets, OneRun, ReadWhole, reported}
+use Rattle.reader_exact.specs.Disk.{headOn, logOn}
+use Rattle.reader_exact.proofs.Sizings.{reported-plain}
+use Rattle.reader_exact.proofs.Heads.{head-least, source-bounds, some-group, left-named}
+use Rattle.reader_exact.proofs.Whole.{exact-whole, whole-complete, whole-found}
+use Rattle.reader_exact.proofs.Disk.{head-formatted, log-formatted}
+use Rattle.reader_pass.specs.Passing.{verdictOf}
+use Rattle.reader_pass.specs.Device.{Bytes, passed, sectorNamed, turnsNeeded, Missing, Whole, LeftByRun}
+use Rattle.reader_pass.proofs.Accepted.{same-head, same-log, head-named, near-named, whole-near, pass-sound, pass-complete, pass-unfinished}
+
+-- the bytes that are read from bytes
+read-below : (d : Device) → Bytes d → (n off i : ℕ) → getD (read d off n) i 0 < 256
+unfolding read
+read-below d b zero off i = lit< tt
+read-below d b (suc n) off zero = b off
+read-below d b (suc n) off (suc i) = read-below d b n (suc off) i
+
+module _ (d : Device) where
+  octets : Bytes d → (g : Geometry) → Octets (headOn g d 0)
+  unfolding headOn
+  octets b g = read-below d b (headLength g) _
+
+  -- a run that leaves it all
+  from-whole : Bytes d → Whole d → LeftByRun d
+  from-whole b w =
+      let g = sectorNamed d in
+      let o = exact-whole (headOn g d) (logOn g d) (octets b g) .0 w in
+      let r = o .request in
+      let f = readGroup0 (headOn g d 0) .geometry in
+      let e : f ≡ reported (runOf r .geometry) = ap (λ (x : Found). x .geometry) (whole-found (headOn g d) (logOn g d) o) in
+      let near : plain (runOf r .geometry) ≡ sized g (f .logblocks) false = sym (reported-plain (runOf r .geometry)) ∙ ap plain (sym e) ∙ whole-near d w in
+      record {
+        request = r;
+        accepted = o .accepted;
+        head = λ old k h. same-head d (runOf r .geometry) g near k ∙ o .head k h ∙ sym (head-formatted r (o .accepted) old k h);
+        log-block = λ old. same-log d (runOf r .geometry) g near ∙ o .log-block ∙ sym (log-formatted r (o .accepted) old);
+      }
+
+  to-whole : LeftByRun d → Whole d
+  to-whole w =
+      let r = w .request in
+      let g = runOf r .geometry in
+      let u = runOf r .uuid in
+      let s = source-of r (w .accepted) in
+      let h : (k : ℕ) → k < g .agcount → headOn g d k ≡ headLeft g u k = λ k i. w .head d k i ∙ head-formatted r (w .accepted) d k i in
+      let o : OneRun (headOn g d) (logOn g d) = record { request = r; accepted = w .accepted; head = h; log-block = w .log-block d ∙ log-formatted r (w .accepted) d } in
+      let near = near-named d (g .roomy) g (sym (head-named d (g .roomy) g (head-least g (source-bounds g u s))) ∙ ap (namedBy (g .roomy)) (h 0 (some-group g u s)) ∙ left-named g u s) in
+      let heads : headOn g d ≡ headOn (sectorNamed d) d = λ i k. same-head d g (sectorNamed d) near k i in
+      subst (λ (x : ℕ → List ℕ). ReadWhole x (logOn (sectorNamed d) d)) heads
+      (subst (ReadWhole (headOn g d)) (same-log d g (sectorNamed d) near) (whole-complete (headOn g d) (logOn g d) o))
+
+  module _ (b : Bytes d) (n : ℕ) where
+    -- after any number of turns
+    pub accepted-left : verdictOf (passed d n) .number ≡ 0 → LeftByRun d
+    accepted-left z = from-whole b (pass-sound d n z)
+
+    -- once all was fed
+    pub left-accepted : turnsNeeded d ≤ n → LeftByRun d → verdictOf (passed d n) .number ≡ 0
+    left-accepted h w = pass-complete d n h (to-whole w)
+
+  -- until all was fed
+  pub left-unfinished : LeftByRun d → (n : ℕ) → n < turnsNeeded d → Missing (verdictOf (passed d n)) (n - 1)
+  left-unfinished w = pass-unfinished d (to-whole w)

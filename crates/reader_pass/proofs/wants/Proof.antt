@@ -1,0 +1,13 @@
+-- `reader_pass::wants` meets its contract.
+-- Assumes nothing.
+use borrow.Author.Needs.{needs}
+use Rattle.reader_pass.specs.Passing.{wantedOf}
+use Rattle.reader_pass.proofs.wants.Statement.{statement}
+use Rattle.reader_pass.proofs.wants.Tie as tie
+
+returns : tie.Need-returns
+unfolding wantedOf
+returns c = rw (c .is-ended .ensures, c .before .length-of .ensures, c .before .before .offset-of .ensures)
+
+pub wants-spec : {M : Type 1} → statement M
+wants-spec = tie.close (tie.spec (λ c κs. search needs) (λ c κs. search needs) (λ c κs. search needs) returns)

@@ -1,0 +1,32 @@
+-- The records that words ask for are well-formed, and read back as the words have them.
+-- Assumes nothing.
+use mathlib.Core.List.{List}
+use mathlib.Core.Path.{_≡_}
+use mathlib.Core.Bool.{true}
+use Prim.Native.Nat.{ℕ, _≤_}
+use Rattle.endian.specs.Bytes.{beAt}
+use Rattle.seqs.specs.Lists.{choose}
+use Rattle.params.specs.declared.OptU64.{OptU64}
+use Rattle.params.specs.declared.OptU64.the-variants.{Absent, Given}
+use Rattle.request_input.specs.Records.{wellFormed, option, records, lookup as lookupRecord}
+use Rattle.request_words.specs.declared.Word.{Word}
+use Rattle.request_words.specs.Words.{lookup, given, wordsFrom}
+use Rattle.request_words.specs.Asked.{wordsRequest}
+
+-- `parse` never answers 28 to what words ask for
+unfoldable pub Readable : Type 0
+Readable = (xs : List ℕ) → wellFormed (wordsRequest xs) ≡ true
+
+-- the option that a word gives, by its code
+abbrev pub optionAsked : ℕ → List Word → OptU64
+optionAsked code ws = choose (given code ws) (Given (lookup code ws .value)) Absent
+
+-- each option that is read back is the word's, and absent where there is no word
+unfoldable pub OptionsReadBack : Type 0
+OptionsReadBack = (xs : List ℕ) (code : ℕ) → 1 ≤ code → code ≤ 12 → lookupRecord (option code) (records 0 (wordsRequest xs)) ≡ optionAsked code (wordsFrom 0 xs)
+
+-- so are the device's size and sectors, which no accepted words lack
+unfoldable pub DeviceReadBack : Type 0
+DeviceReadBack = (xs : List ℕ) → given 13 (wordsFrom 0 xs) ≡ true → given 14 (wordsFrom 0 xs) ≡ true → given 15 (wordsFrom 0 xs) ≡ true
+    → (beAt 8 2 (wordsRequest xs) ≡ lookup 13 (wordsFrom 0 xs) .value) × (beAt 4 10 (wordsRequest xs) ≡ lookup 14 (wordsFrom 0 xs) .value)
+    × (beAt 4 14 (wordsRequest xs) ≡ lookup 15 (wordsFrom 0 xs) .value)

@@ -1,0 +1,4 @@
+pub mod Saying
+pub mod Valuing
+pub mod Wording
+pub mod Writing

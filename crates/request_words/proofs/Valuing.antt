@@ -1,0 +1,228 @@
+-- Laws of the values behind `=`: each branch of a test, and each turn of a loop.
+-- Assumes nothing.
+use mathlib.Core.Path.{_≡_, refl, sym, ap, _∙_}
+use mathlib.Core.Bool.{Bool, true, false, _&&_}
+use mathlib.Core.List.{List, [], _∷_}
+use Prim.Native.Nat.{ℕ, zero, suc, _+_, _-_, _/_, _%_, _≤_, _<_}
+use native.Mathlib.Numerals.{add-one}
+use native.Mathlib.Omega.{arith}
+use lib.Dec.{ltb, leb, eqb}
+use lib.ListN.{length, getD, drop, List·getD-eq-default}
+use borrow.Author.Tests.{lt-ltb, le-ltb, le-leb, lt-leb, eq-eqb, ne-eqb}
+use Rattle.arith.specs.Choice.{when}
+use Rattle.seqs.specs.Lists.{choose}
+use Rattle.request_words.specs.declared.Value.{Value}
+use Rattle.request_words.specs.declared.Names.{Names}
+use Rattle.request_words.specs.Texts.{good, malformed, tooLarge, named, packed, numberIn}
+use Rattle.request_words.specs.Values.{indexIn, names, largest, featureNames, weights, noFeatures, turned, read, finished, nextByte, listed, none, all, featuresIn, sizings, sizingIn, hex, isDash, fitsAt, shaped, uuidIn, valueIn, limited}
+use Rattle.request_words.proofs.Saying.{rest-cons, rest-nil}
+
+-- ---- tables
+pub no-weight : (bit : ℕ) → 7 ≤ bit → 0 ≡ getD weights bit 0
+unfolding weights
+no-weight bit h = sym (List·getD-eq-default weights 0 h)
+
+pub weight-small : (bit : ℕ) → getD weights bit 0 ≤ 64
+unfolding weights
+weight-small zero = omega arith
+weight-small (suc zero) = omega arith
+weight-small (suc (suc zero)) = omega arith
+weight-small (suc (suc (suc zero))) = omega arith
+weight-small (suc (suc (suc (suc zero)))) = omega arith
+weight-small (suc (suc (suc (suc (suc zero))))) = omega arith
+weight-small (suc (suc (suc (suc (suc (suc zero)))))) = omega arith
+weight-small (suc (suc (suc (suc (suc (suc (suc n))))))) = omega arith
+
+pub no-largest : (key : ℕ) → 17 ≤ key → 0 ≡ getD largest key 0
+unfolding largest
+no-largest key h = sym (List·getD-eq-default largest 0 h)
+
+-- ---- features
+module _ (mask sign w : ℕ) where
+  pub turned-no-list : noFeatures ≤ mask → noFeatures ≡ turned mask sign w
+  unfolding turned when
+  turned-no-list h = rw (le-leb noFeatures mask h)
+
+  pub turned-no-name : mask < noFeatures → w ≡ 0 → noFeatures ≡ turned mask sign w
+  unfolding turned when
+  turned-no-name g h = rw (lt-leb noFeatures mask g, eq-eqb w 0 h)
+
+  pub turned-by : mask < noFeatures → (w ≡ 0 → ⊥)
+      → when (eqb sign 43) (when (eqb (mask / w % 2) 1) mask (mask + w)) (when (eqb sign 45) (when (eqb (mask / w % 2) 1) (mask - w) mask) noFeatures) ≡ turned mask sign w
+  unfolding turned when
+  turned-by g ne = rw (lt-leb noFeatures mask g, ne-eqb w 0 ne)
+
+module _ (s : Names) (b : ℕ) where
+  pub byte-comma : (mask : ℕ) → mask ≡ finished s → b ≡ 44 → read mask 0 0 ≡ nextByte s b
+  unfolding nextByte
+  byte-comma mask e h = rw (eq-eqb b 44 h, e)
+
+  pub byte-sign : (b ≡ 44 → ⊥) → s .sign ≡ 0 → read (s .mask) b 0 ≡ nextByte s b
+  unfolding nextByte
+  byte-sign ne h = rw (ne-eqb b 44 ne, eq-eqb (s .sign) 0 h)
+
+  pub byte-name : (b ≡ 44 → ⊥) → (s .sign ≡ 0 → ⊥) → (name : ℕ) → name ≡ named (s .name) b → read (s .mask) (s .sign) name ≡ nextByte s b
+  unfolding nextByte
+  byte-name ne nz name e = rw (ne-eqb b 44 ne, ne-eqb (s .sign) 0 nz, e)
+
+module _ (text : List ℕ) (name : ℕ) (is : name ≡ packed text) where
+  pub features-none : name ≡ none → good 0 ≡ featuresIn text
+  unfolding featuresIn
+  features-none h = rw (← is, eq-eqb name none h)
+
+  pub features-all : (name ≡ none → ⊥) → name ≡ all → good 127 ≡ featuresIn text
+  unfolding featuresIn
+  features-all ne h = rw (← is, ne-eqb name none ne, eq-eqb name all h)
+
+  module _ (ne : name ≡ none → ⊥) (nor : name ≡ all → ⊥) (mask : ℕ) (of : mask ≡ listed text) where
+    pub features-listed : mask < noFeatures → good mask ≡ featuresIn text
+    unfolding featuresIn
+    features-listed h = rw (← is, ne-eqb name none ne, ne-eqb name all nor, ← of, lt-ltb mask noFeatures h)
+
+    pub features-bad : noFeatures ≤ mask → malformed ≡ featuresIn text
+    unfolding featuresIn
+    features-bad h = rw (← is, ne-eqb name none ne, ne-eqb name all nor, ← of, le-ltb mask noFeatures h)
+
+-- ---- sizing
+module _ (text : List ℕ) (i : ℕ) (at : i ≡ indexIn sizings (packed text)) where
+  pub sizing-is : i < 2 → good i ≡ sizingIn text
+  unfolding sizingIn
+  sizing-is h = rw (← at, lt-ltb i 2 h)
+
+  pub sizing-bad : 2 ≤ i → malformed ≡ sizingIn text
+  unfolding sizingIn
+  sizing-bad h = rw (← at, le-ltb i 2 h)
+
+-- ---- the UUID
+module _ (b : ℕ) where
+  pub hex-1 : 102 < b → 16 ≡ hex b
+  unfolding hex
+  hex-1 h = rw (lt-ltb 102 b h)
+
+  pub hex-2 : b ≤ 102 → 96 < b → b - 87 ≡ hex b
+  unfolding hex
+  hex-2 g h = rw (le-ltb 102 b g, lt-ltb 96 b h)
+
+  pub hex-3 : b ≤ 96 → 70 < b → 16 ≡ hex b
+  unfolding hex
+  hex-3 g h =
+      let k : b ≤ 102 = omega arith in
+      rw (le-ltb 102 b k, le-ltb 96 b g, lt-ltb 70 b h)
+
+  pub hex-4 : b ≤ 70 → 64 < b → b - 55 ≡ hex b
+  unfolding hex
+  hex-4 g h =
+      let k : b ≤ 102 = omega arith in
+      let l : b ≤ 96 = omega arith in
+      rw (le-ltb 102 b k, le-ltb 96 b l, le-ltb 70 b g, lt-ltb 64 b h)
+
+  pub hex-5 : b ≤ 64 → 57 < b → 16 ≡ hex b
+  unfolding hex
+  hex-5 g h =
+      let k : b ≤ 102 = omega arith in
+      let l : b ≤ 96 = omega arith in
+      let m : b ≤ 70 = omega arith in
+      rw (le-ltb 102 b k, le-ltb 96 b l, le-ltb 70 b m, le-ltb 64 b g, lt-ltb 57 b h)
+
+  module _ (g : b ≤ 57) where
+    pub hex-6 : 47 < b → b - 48 ≡ hex b
+    unfolding hex
+    hex-6 h =
+        let k : b ≤ 102 = omega arith in
+        let l : b ≤ 96 = omega arith in
+        let m : b ≤ 70 = omega arith in
+        let n : b ≤ 64 = omega arith in
+        rw (le-ltb 102 b k, le-ltb 96 b l, le-ltb 70 b m, le-ltb 64 b n, le-ltb 57 b g, lt-ltb 47 b h)
+
+    pub hex-7 : b ≤ 47 → 16 ≡ hex b
+    unfolding hex
+    hex-7 h =
+        let k : b ≤ 102 = omega arith in
+        let l : b ≤ 96 = omega arith in
+        let m : b ≤ 70 = omega arith in
+        let n : b ≤ 64 = omega arith in
+        rw (le-ltb 102 b k, le-ltb 96 b l, le-ltb 70 b m, le-ltb 64 b n, le-ltb 57 b g, le-ltb 47 b h)
+
+module _ (i : ℕ) where
+  pub dash-8 : i ≡ 8 → true ≡ isDash i
+  dash-8 e = rw (eq-eqb i 8 e)
+
+  pub dash-13 : i ≡ 13 → true ≡ isDash i
+  dash-13 e = rw e
+
+  pub dash-18 : i ≡ 18 → true ≡ isDash i
+  dash-18 e = rw e
+
+  pub dash-23 : (i ≡ 8 → ⊥) → (i ≡ 13 → ⊥) → (i ≡ 18 → ⊥) → eqb i 23 ≡ isDash i
+  dash-23 a b c = rw (ne-eqb i 8 a, ne-eqb i 13 b, ne-eqb i 18 c)
+
+module _ (i b : ℕ) where
+  pub dash-fits : isDash i ≡ true → eqb b 45 ≡ fitsAt i b
+  unfolding fitsAt
+  dash-fits e = rw e
+
+  pub digit-fits : isDash i ≡ false → (d : ℕ) → d ≡ hex b → ltb d 16 ≡ fitsAt i b
+  unfolding fitsAt
+  digit-fits e d h = rw (e, h)
+
+module _ (xs : List ℕ) (i : ℕ) where
+  pub shaped-turn : i < length xs → fitsAt i (getD xs i 0) ≡ true → shaped i (drop i xs) ≡ shaped (i + 1) (drop (i + 1) xs)
+  unfolding shaped
+  shaped-turn h e = rw (rest-cons xs 0 i h, e, add-one)
+
+  pub shaped-not : i < length xs → fitsAt i (getD xs i 0) ≡ false → shaped i (drop i xs) ≡ false
+  unfolding shaped
+  shaped-not h e = rw (rest-cons xs 0 i h, e)
+
+  pub shaped-end : length xs ≤ i → shaped i (drop i xs) ≡ true
+  unfolding shaped
+  shaped-end h = rw (rest-nil xs i h)
+
+module _ (text : List ℕ) (name : ℕ) (is : name ≡ packed text) where
+  pub uuid-none : name ≡ none → good 0 ≡ uuidIn text
+  unfolding uuidIn
+  uuid-none h = rw (← is, eq-eqb name none h)
+
+  module _ (ne : name ≡ none → ⊥) where
+    pub uuid-is : length text ≡ 36 → shaped 0 text ≡ true → good 1 ≡ uuidIn text
+    unfolding uuidIn
+    uuid-is l h = rw (← is, ne-eqb name none ne, eq-eqb (length text) 36 l, h)
+
+    pub uuid-shape : length text ≡ 36 → shaped 0 text ≡ false → malformed ≡ uuidIn text
+    unfolding uuidIn
+    uuid-shape l h = rw (← is, ne-eqb name none ne, eq-eqb (length text) 36 l, h)
+
+    pub uuid-length : (length text ≡ 36 → ⊥) → malformed ≡ uuidIn text
+    unfolding uuidIn
+    uuid-length l = rw (← is, ne-eqb name none ne, ne-eqb (length text) 36 l)
+
+-- ---- by the key
+module _ (key : ℕ) (text : List ℕ) where
+  pub of-label : key ≡ 0 → good (length text) ≡ valueIn key text
+  unfolding valueIn
+  of-label e = rw (eq-eqb key 0 e)
+
+  pub of-features : key ≡ 9 → featuresIn text ≡ valueIn key text
+  unfolding valueIn
+  of-features e = rw e
+
+  pub of-sizing : key ≡ 12 → sizingIn text ≡ valueIn key text
+  unfolding valueIn
+  of-sizing e = rw e
+
+  pub of-uuid : key ≡ 16 → uuidIn text ≡ valueIn key text
+  unfolding valueIn
+  of-uuid e = rw e
+
+  pub of-number : (key ≡ 0 → ⊥) → (key ≡ 9 → ⊥) → (key ≡ 12 → ⊥) → (key ≡ 16 → ⊥) → numberIn text ≡ valueIn key text
+  unfolding valueIn
+  of-number a b c d = rw (ne-eqb key 0 a, ne-eqb key 9 b, ne-eqb key 12 c, ne-eqb key 16 d)
+
+module _ (key : ℕ) (v w : Value) (e : v ≡ w) (m : ℕ) (of : m ≡ getD largest key 0) where
+  pub limited-is : v .value ≤ m → v ≡ limited key w
+  unfolding limited
+  limited-is h = rw (← of, ← e, le-leb (v .value) m h)
+
+  pub limited-not : m < v .value → tooLarge ≡ limited key w
+  unfolding limited
+  limited-not h = rw (← of, ← e, lt-leb (v .value) m h)
