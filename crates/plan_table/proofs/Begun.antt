@@ -20,8 +20,8 @@ use Rattle.plan_summary.proofs.Rows.{rows-agree, totals-agree}
 use Rattle.run.specs.Runs.{accepted}
 use Rattle.run.proofs.Accepted.{plans-zero}
 use Rattle.plan_table.specs.declared.Table.{Table}
-use Rattle.plan_table.specs.Printed.{rowLine, totalLine, rowLines, tableBytes, tableOr, tableAnswer, planBytes}
-use Rattle.plan_table.specs.Filling.{refusal, begunTable, begun, lineAt, linesOf, joined, restOf}
+use Rattle.plan_table.specs.Printed.{rowLine, totalLine, rowLines, tableBytes, tableOr, tableAnswer, noDiskBytes, planBytes}
+use Rattle.plan_table.specs.Filling.{refusal, begunTable, noDisk, begun, lineAt, linesOf, joined, restOf}
 
 -- ---- a refusal
 
@@ -121,16 +121,36 @@ module _ (g : Geometry) where
 
 -- ---- what an input answers
 
-pub input-refused : (xs : List ℕ) → (accepted xs .number ≡ 0 → ⊥)
+pub no-disk-rest : restOf noDisk ≡ noDiskBytes
+unfolding lineAt linesOf joined noDiskBytes
+no-disk-rest = ap (λ (x : List ℕ). headerBytes ++ x) (append-nil (totalLine (noSummary .total)))
+
+pub input-empty : (xs : List ℕ) → length xs ≡ 0 → (noDisk ≡ begun xs) × (noDiskBytes ≡ planBytes xs)
+unfolding begun planBytes
+input-empty [] e = (refl, refl)
+input-empty (x ∷ xs) e = absurd (omega arith)
+
+pub input-refused : (xs : List ℕ) → (length xs ≡ 0 → ⊥) → (accepted xs .number ≡ 0 → ⊥)
     → (refusal (accepted xs .number) ≡ begun xs) × (restOf (refusal (accepted xs .number)) ≡ planBytes xs)
 unfolding begun planBytes
-input-refused xs h =
-    let n = accepted xs .number in
+input-refused [] some h = absurd (some refl)
+input-refused (x ∷ xs) some h =
+    let n = accepted (x ∷ xs) .number in
     (rw (ne-eqb n 0 h), refusal-rest n h ∙ rw (ne-eqb n 0 h))
 
-pub input-accepted : (xs : List ℕ) → accepted xs .number ≡ 0
+pub input-accepted : (xs : List ℕ) → (length xs ≡ 0 → ⊥) → accepted xs .number ≡ 0
     → (begunTable (accepted xs .geometry) ≡ begun xs) × (tableAnswer (accepted xs .geometry) ≡ planBytes xs)
 unfolding begun planBytes tableAnswer
-input-accepted xs e =
-    let n = accepted xs .number in
-    (rw (eq-eqb n 0 e), rw (eq-eqb n 0 e, eq-eqb (plansNumber (accepted xs .geometry)) 0 (plans-zero xs e)))
+input-accepted [] some e = absurd (some refl)
+input-accepted (x ∷ xs) some e =
+    let n = accepted (x ∷ xs) .number in
+    (rw (eq-eqb n 0 e), rw (eq-eqb n 0 e, eq-eqb (plansNumber (accepted (x ∷ xs) .geometry)) 0 (plans-zero (x ∷ xs) e)))
+
+-- AN EMPTY INPUT PRINTS THE TABLE OF NO DISK, and every other what it did: `refused 28` for a newline, too
+pub empty-prints : planBytes [] ≡ noDiskBytes
+unfolding planBytes
+empty-prints = refl
+
+pub others-print : (x : ℕ) (xs : List ℕ) → planBytes (x ∷ xs) ≡ tableOr (accepted (x ∷ xs) .number) (accepted (x ∷ xs) .geometry)
+unfolding planBytes
+others-print x xs = refl

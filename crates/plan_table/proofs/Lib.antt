@@ -3,3 +3,4 @@ pub mod Begun
 pub mod Parts
 pub mod Short
 pub mod Bounded
+pub mod Example

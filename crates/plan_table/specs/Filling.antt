@@ -29,9 +29,15 @@ unfoldable pub begunTable : Geometry → Table
 begunTable g =
     choose (eqb (plansNumber g) 0) (record { number = 0; left = g .agcount + 2; summary = summaryOf g }) (refusal (plansNumber g))
 
--- `begin`: all lines of the table of the run that the records ask for, or the line of its refusal
+-- no disk: the header and the sums
+abbrev pub noDisk : Table
+noDisk = record { number = 0; left = 2; summary = noSummary }
+
+-- `begin`: no disk for an empty input; else all lines of the table of the run that the records ask for, or the line of its refusal
 unfoldable pub begun : List ℕ → Table
-begun xs = choose (eqb (accepted xs .number) 0) (begunTable (accepted xs .geometry)) (refusal (accepted xs .number))
+begun [] = noDisk
+begun (x ∷ xs) =
+    choose (eqb (accepted (x ∷ xs) .number) 0) (begunTable (accepted (x ∷ xs) .geometry)) (refusal (accepted (x ∷ xs) .number))
 
 -- ---- the lines of a state
 

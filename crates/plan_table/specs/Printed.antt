@@ -46,9 +46,14 @@ tableOr n g = choose (eqb n 0) (tableBytes g) (refusedBytes n)
 unfoldable pub tableAnswer : Geometry → List ℕ
 tableAnswer g = tableOr (plansNumber g) g
 
--- WHAT PLANLIST PRINTS of its input: the table of the run that the records ask for, or its refusal
+-- no disk: the header, and sums of zeros
+unfoldable pub noDiskBytes : List ℕ
+noDiskBytes = headerBytes ++ totalLine (record { length = 0; log = 0; list = 0; chunk = 0; free = 0 })
+
+-- WHAT PLANLIST PRINTS of its input: no bytes mean no disk; else the table of the run that the records ask for, or its refusal
 unfoldable pub planBytes : List ℕ → List ℕ
-planBytes xs = tableOr (accepted xs .number) (accepted xs .geometry)
+planBytes [] = noDiskBytes
+planBytes (x ∷ xs) = tableOr (accepted (x ∷ xs) .number) (accepted (x ∷ xs) .geometry)
 
 -- `row_at`: 31, 25 where a plan is refused, 29, or the row of group k's plan
 unfoldable pub rowAnswer : Geometry → ℕ → Row

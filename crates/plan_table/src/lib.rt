@@ -7,8 +7,8 @@ ghost use lib.ListN.{length};
 ghost use Rattle.refusals.specs.Numbers.{wrongLength};
 ghost use Rattle.seqs.specs.Lists.{both, choose};
 ghost use Rattle.endian.specs.Bytes.{patch};
-ghost use Rattle.plan_table.specs.Printed.{rowAnswer, tableAnswer, planBytes};
-ghost use Rattle.plan_table.specs.Filling.{refusal, begunTable, begun, restOf, partOf, filled, Stepped};
+ghost use Rattle.plan_table.specs.Printed.{rowAnswer, tableAnswer, noDiskBytes, planBytes};
+ghost use Rattle.plan_table.specs.Filling.{refusal, begunTable, noDisk, begun, restOf, partOf, filled, Stepped};
 
 pub mod rows; // rows.rt: a group's row from the summary of all groups
 pub mod lines; // lines.rt: each line of a table
@@ -64,10 +64,25 @@ pub fn begin_table(g: Geometry) -> Table
     }
 }
 
-// What planlist prints of its input.
+// The table of no disk.
+fn no_disk() -> Table
+    ensures { λ r. ⌜ (r ≡ noDisk) × (restOf r ≡ noDiskBytes) ⌝ }
+{
+    let summary = no_summary();
+    Table {
+        number: 0,
+        left: 2,
+        summary,
+    }
+}
+
+// What planlist prints of its input, where no bytes mean no disk.
 pub fn begin(input: &[u8]) -> Table
     ensures { λ r. ⌜ (r ≡ begun (now (input .entry))) × (restOf r ≡ planBytes (now (input .entry))) ⌝ }
 {
+    if input.len() == 0 {
+        return no_disk();
+    }
     let run = run::accept(input);
     let n = run.number;
     if n != 0 {

@@ -2,11 +2,12 @@
 -- Assumes nothing.
 use mathlib.Core.Path.{_≡_, refl, ap, _∙_}
 use mathlib.Core.Bool.{Bool, true, false}
-use mathlib.Core.List.{List}
+use mathlib.Core.List.{List, []}
 use Prim.Native.Nat.{ℕ}
 use borrow.Author.Tests.{eqb-true, eqb-false, eq-eqb}
 use lib.Dec.{eqb}
 use Rattle.seqs.specs.Lists.{choose}
+use Rattle.request_input.specs.Records.{recordAt, split, records, startsWithDevice, wellFormed}
 use Rattle.request.specs.declared.Request.{Request}
 use Rattle.request.specs.Parse.{parseDef}
 use Rattle.request.specs.Defaults.{timeOf}
@@ -41,9 +42,26 @@ step-plans r e =
     let t = timeRefusal (stepOf r .geometry) (timeOf (r .params)) in
     none p t (none (stepOf r .number) (orNext p t) (none (r .number) (orNext (stepOf r .number) (orNext p t)) e .1) .1) .0
 
+first-refusal : (r : Request) → r .number ≡ 28 → runNumber r ≡ 28
+unfolding runNumber
+first-refusal r e = rw e
+
+first-number : (r : Request) → r .number ≡ 28 → runOf r .number ≡ 28
+unfolding runOf
+first-number r e = rw (first-refusal r e)
+
 -- its plans are accepted
 pub plans-zero : (xs : List ℕ) → accepted xs .number ≡ 0 → plansNumber (accepted xs .geometry) ≡ 0
 unfolding accepted
 plans-zero xs e =
     let z = run-zero (parseDef xs) e in
     ap plansNumber (its-geometry (parseDef xs) z) ∙ step-plans (parseDef xs) z
+
+-- AN EMPTY INPUT IS NO RUN: 28
+pub empty-malformed : parseDef [] .number ≡ 28
+unfolding recordAt split records startsWithDevice wellFormed parseDef
+empty-malformed = refl
+
+pub empty-refused : accepted [] .number ≡ 28
+unfolding accepted
+empty-refused = first-number (parseDef []) empty-malformed
