@@ -4,8 +4,10 @@
 use std::env;
 use std::path::Path;
 
-const FEATURES: [&str; 12] =
-    ["crc", "geometry", "places", "helpers", "records", "sb", "structs", "recs", "chunk", "plans", "slices", "reader"];
+const FEATURES: [&str; 13] = [
+    "crc", "geometry", "places", "helpers", "records", "sb", "structs", "recs", "chunk", "plans", "slices", "reader",
+    "holds",
+];
 
 fn main() {
     println!("cargo:rerun-if-env-changed=ZECHURQI_STATICLIB");

@@ -60,6 +60,7 @@ fn compared(
         let case = mode.case(&mut r);
         rust.clear();
         counts.add(mode.answer(&case, &mut rust)?);
+        mode.calls(&case).into_iter().for_each(|told| counts.add(told));
         let port = ours(&case)?;
         if port != rust {
             counts.print();
@@ -80,6 +81,7 @@ pub fn count(mode: &dyn Mode, cases: u64, seed: u64) -> io::Result<()> {
     for _ in 0..cases {
         let case = mode.case(&mut r);
         let told = mode.answer(&case, &mut io::sink())?;
+        mode.calls(&case).into_iter().for_each(|told| counts.add(told));
         if told.number == 0 {
             for (name, value) in mode.traits(&case) {
                 *traits.entry(name).or_default().entry(value).or_default() += 1;
@@ -101,13 +103,15 @@ pub fn with_library(mode: &dyn Mode, cases: u64, seed: u64) -> io::Result<bool> 
     compared(mode, cases, seed, |case| mode.ours(case).ok_or_else(missing))
 }
 
-fn started(path: &str) -> io::Result<Child> {
-    Command::new(path).stdin(Stdio::piped()).stdout(Stdio::piped()).spawn()
+/// A program with words may say on standard error how they should be; it isn't shown.
+fn started(path: &str, words: &[String]) -> io::Result<Child> {
+    let said = if words.is_empty() { Stdio::inherit() } else { Stdio::null() };
+    Command::new(path).args(words).stdin(Stdio::piped()).stdout(Stdio::piped()).stderr(said).spawn()
 }
 
 /// The port's program reads a stream of cases and writes a stream of answers.
 pub fn with_program(mode: &(dyn Mode + Sync), cases: u64, seed: u64, path: &str) -> io::Result<bool> {
-    let mut child = started(path)?;
+    let mut child = started(path, &[])?;
     let mut to = BufWriter::new(child.stdin.take().unwrap());
     let mut from = BufReader::new(child.stdout.take().unwrap());
     let same = std::thread::scope(|s| {
@@ -134,11 +138,12 @@ pub fn with_program(mode: &(dyn Mode + Sync), cases: u64, seed: u64, path: &str)
 /// The port's program reads one case and writes one answer.
 pub fn with_each(mode: &dyn Mode, cases: u64, seed: u64, path: &str) -> io::Result<bool> {
     compared(mode, cases, seed, |case| {
-        let mut child = started(path)?;
+        let (words, input) = mode.run(case);
+        let mut child = started(path, &words)?;
         let mut to = child.stdin.take().unwrap();
         let mut from = child.stdout.take().unwrap();
         // A case is shorter than a pipe holds. A program that stops reading early still answers.
-        let _ = to.write_all(case);
+        let _ = to.write_all(input);
         drop(to);
         let mut out = Vec::new();
         from.read_to_end(&mut out)?;

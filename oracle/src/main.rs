@@ -22,12 +22,15 @@ mod compare;
 mod crowded;
 mod disk;
 mod frames;
+mod holds;
 mod model;
 mod modes;
 mod numbers;
 mod random;
 mod recorded;
 mod request;
+mod runs;
+mod spoilt;
 mod wishes;
 
 /// The words of the command line after the mode's name.

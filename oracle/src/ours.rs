@@ -783,3 +783,27 @@ pub mod reader {
         unsafe { zq_read_log(head0.as_ptr(), head0.len(), block.as_ptr(), block.len()) }
     }
 }
+
+/// Crate `ffi_holds`: runs held back and given back, asked by the input records of a geometry.
+#[cfg(feature = "holds")]
+pub mod holds {
+    extern "C" {
+        fn zq_holds(
+            which: u64,
+            call: u64,
+            at: u64,
+            length: u64,
+            input: *const u8,
+            input_len: usize,
+            state: *const u8,
+            state_len: usize,
+        ) -> u64;
+    }
+
+    /// A number of the answer to a call (0 start of group `at`, 1 hold, 2 release of the run `at`, `length`): 0 is the number of the
+    /// refusal, then come group and counts of free and held of the state left, 4 to 131 its free records, 132 to 147 its held runs.
+    pub fn answer(which: u64, call: u64, [at, length]: [u64; 2], input: &[u8], state: &[u8]) -> u64 {
+        let (i, s) = (input.as_ptr(), state.as_ptr());
+        unsafe { zq_holds(which, call, at, length, i, input.len(), s, state.len()) }
+    }
+}

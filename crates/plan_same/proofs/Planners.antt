@@ -48,10 +48,10 @@ unfolding eqList
 list-itself same t [] = refl
 list-itself same t (x ∷ xs) = rw (t .itself x, list-itself same t xs) refl
 
-lists : {A : Type 0} (same : A → A → Bool) → Tells same → Tells (eqList same)
+pub lists : {A : Type 0} (same : A → A → Bool) → Tells same → Tells (eqList same)
 lists same t = record { equal = list-equal same t; itself = list-itself same t }
 
-allocs : Tells sameAlloc
+pub allocs : Tells sameAlloc
 unfolding sameAlloc
 allocs =
     record {
@@ -82,7 +82,7 @@ unfolding sameChunk
 chunk-itself Absent = refl
 chunk-itself (Given x) = eq-eqb x x refl
 
-frees : Tells sameFree
+pub frees : Tells sameFree
 unfolding sameFree
 frees =
     record {

@@ -13,7 +13,7 @@ use plan::plan_ag;
 use plan_free::FreeList;
 use plan_rmap::RmapList;
 
-fn same_alloc(a: AllocRec, b: AllocRec) -> bool
+pub fn same_alloc(a: AllocRec, b: AllocRec) -> bool
     ensures { λ r. ⌜ r ≡ sameAlloc a b ⌝ }
 {
     both(a.start == b.start, a.count == b.count)
@@ -80,7 +80,7 @@ fn same_chunk(a: OptU64, b: OptU64) -> bool
     }
 }
 
-fn same_free(a: FreeList, b: FreeList) -> bool
+pub fn same_free(a: FreeList, b: FreeList) -> bool
     ensures { λ r. ⌜ r ≡ sameFree a b ⌝ }
 {
     let x = a.recs;

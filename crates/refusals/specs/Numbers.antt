@@ -1,6 +1,6 @@
 -- THE NUMBERS OF REFUSALS, each once, in their order. 0 accepts. Where several apply the smallest is given, but 28 and 31 come before all
 -- others, and 34 for a list that is handed in comes before 32 and 33 (docs/SCOPE.md, section 2). 1 to 24 are the geometry step's, 25 the
--- planner's, 26 that of a run's time.
+-- planner's, 26 that of a run's time; 42 and 43 are those of held runs.
 -- Assumes nothing.
 use Prim.Native.Nat.{ℕ}
 
@@ -143,3 +143,11 @@ tooManyRecords = 34
 -- a log stripe unit is above 16,384 bytes
 abbrev pub sunitTooLarge : ℕ
 sunitTooLarge = 35
+
+-- a run to hold is empty or not wholly free
+abbrev pub notHoldable : ℕ
+notHoldable = 42
+
+-- no such run is held
+abbrev pub notHeld : ℕ
+notHeld = 43

@@ -107,6 +107,12 @@ pub const TOO_MANY_RECORDS: u32 = 34;
 // A log stripe unit is above 16,384 bytes.
 pub const SUNIT_TOO_LARGE: u32 = 35;
 
+// A run to hold is empty or not wholly free.
+pub const NOT_HOLDABLE: u32 = 42;
+
+// No such run is held.
+pub const NOT_HELD: u32 = 43;
+
 // n where the test holds, else what the later tests give.
 pub fn first(test: bool, n: u32, rest: u32) -> u32
     ensures { λ r. ⌜ r ≡ when test n rest ⌝ }

@@ -71,7 +71,7 @@ pub(crate) fn push(v: u64, b: u8) -> u64
 }
 
 // A name as a number.
-fn pack(name: &[u8]) -> u64
+pub fn pack(name: &[u8]) -> u64
     ensures { λ r. ⌜ r ≡ packed (now (name .entry)) ⌝ }
 {
     let mut v = 0;
@@ -84,7 +84,7 @@ fn pack(name: &[u8]) -> u64
 }
 
 // How many digits the text begins with.
-fn leading(text: &[u8]) -> usize
+pub fn leading(text: &[u8]) -> usize
     ensures { λ r. ⌜ (r ≡ leadingDef (now (text .entry))) × (r ≤ length (now (text .entry))) ⌝ }
 {
     let mut i = 0;
@@ -102,7 +102,7 @@ fn leading(text: &[u8]) -> usize
 }
 
 // The number that the digits say.
-fn decimal(digits: &[u8]) -> Value
+pub fn decimal(digits: &[u8]) -> Value
     ensures { λ r. ⌜ r ≡ within (valueAfter 0 (now (digits .entry))) ⌝ }
 {
     let mut v = 0;

@@ -1,12 +1,14 @@
--- The lines that planlist prints.
+-- The lines that planlist and inquire print.
 -- Assumes nothing.
 use mathlib.Core.Path.{_≡_}
 use mathlib.Core.List.{List, [], _∷_, _++_}
+use mathlib.Core.Bool.{Bool, true, false}
 use Prim.Native.Nat.{ℕ, _+_}
+use lib.Dec.{eqb}
 use lib.ListN.{length}
 use Rattle.endian.specs.Answer.{room, answer, chosen, valued}
 use Rattle.endian.specs.Bytes.{patch}
-use Rattle.table_lines.specs.Decimal.{decimal}
+use Rattle.table_lines.specs.Decimal.{decimal, pick}
 use Rattle.table_lines.specs.declared.Row.{Row}
 use Rattle.table_lines.specs.declared.Sums.{Sums}
 
@@ -49,6 +51,20 @@ totalBytes s = (116 ∷ 111 ∷ 116 ∷ 97 ∷ 108 ∷ space ∷ []) ++ line (s 
 -- `refused` and the number
 unfoldable pub refusedBytes : ℕ → List ℕ
 refusedBytes n = (114 ∷ 101 ∷ 102 ∷ 117 ∷ 115 ∷ 101 ∷ 100 ∷ space ∷ []) ++ line (n ∷ [])
+
+-- what a call of `inquire holds` did: `held` or `released`; `refused` and the number where it isn't 0
+unfoldable pub answerBytes : Bool → ℕ → List ℕ
+answerBytes release n =
+    pick (eqb n 0)
+    (pick release
+    (114 ∷ 101 ∷ 108 ∷ 101 ∷ 97 ∷ 115 ∷ 101 ∷ 100 ∷ newline ∷ [])
+    (104 ∷ 101 ∷ 108 ∷ 100 ∷ newline ∷ []))
+    (refusedBytes n)
+
+-- `held` or `free`, then the run's first block and its length
+unfoldable pub runBytes : Bool → ℕ → ℕ → List ℕ
+runBytes held start count =
+    pick held (104 ∷ 101 ∷ 108 ∷ 100 ∷ space ∷ []) (102 ∷ 114 ∷ 101 ∷ 101 ∷ space ∷ []) ++ line (start ∷ count ∷ [])
 
 -- A write of a line's bytes at `at` over `old`: its number, where the line ends, and what it leaves. A line that doesn't fit is refused by 27.
 pub record PutLine (at : ℕ) (bytes old : List ℕ) (number end : ℕ) (left : List ℕ) : Type 0 where

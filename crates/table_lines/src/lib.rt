@@ -1,4 +1,4 @@
-// The lines that planlist prints, written into a lent buffer: 0 and the line's end, or 27 where a line doesn't fit, and then nothing has
+// The lines that planlist and inquire print, written into a lent buffer: 0 and the line's end, or 27 where a line doesn't fit, and then nothing has
 // changed.
 pub mod decimal; // numbers in decimal
 
@@ -7,7 +7,7 @@ ghost use mathlib.Core.List.{_++_};
 ghost use Prim.Native.Nat.{_+_, _≤_};
 ghost use lib.ListN.{length};
 ghost use Rattle.endian.specs.Bytes.{patch};
-ghost use Rattle.table_lines.specs.Lines.{line, rowBytes, headerBytes, totalBytes, refusedBytes, PutLine};
+ghost use Rattle.table_lines.specs.Lines.{line, rowBytes, headerBytes, totalBytes, refusedBytes, answerBytes, runBytes, PutLine};
 use decimal::decimal_length;
 use decimal::store_number;
 
@@ -121,19 +121,26 @@ pub fn put_row(row: Row, buf: &mut [u8], at: usize) -> Written
     put_line(&numbers, buf, at)
 }
 
+// A line of at most 41 bytes, as it stands.
+fn put_text(text: &[u8], buf: &mut [u8], at: usize) -> Written
+    requires { ⌜ length (now text) ≤ 41 ⌝ }
+    ensures { λ r. ⌜ PutLine at (now (text .entry)) (now (buf .entry)) (r .number) (r .end) (now (buf .exit)) ⌝ }
+{
+    let n = text.len();
+    if endian::inside(buf.len(), at, n) {
+        let end = at + n;
+        endian::put_bytes(buf, at, text);
+        return Written { number: 0, end };
+    }
+    refused()
+}
+
 // The line of the fields' names.
 pub fn put_header(buf: &mut [u8], at: usize) -> Written
     ensures { λ r. ⌜ PutLine at headerBytes (now (buf .entry)) (r .number) (r .end) (now (buf .exit)) ⌝ }
 {
     let text = b"group length log list chunk free longest\n";
-    if endian::inside(buf.len(), at, 41) {
-        endian::put_bytes(buf, at, text);
-        return Written {
-            number: 0,
-            end: at + 41,
-        };
-    }
-    refused()
+    put_text(text, buf, at)
 }
 
 // The line of the sums.
@@ -150,4 +157,28 @@ pub fn put_refused(number: u64, buf: &mut [u8], at: usize) -> Written
 {
     let numbers = [number];
     put_words(b"refused ", &numbers, buf, at)
+}
+
+// The line of a call of `inquire holds`: what it did, or its refusal where the number isn't 0.
+pub fn put_answer(release: bool, number: u64, buf: &mut [u8], at: usize) -> Written
+    ensures { λ r. ⌜ PutLine at (answerBytes release number) (now (buf .entry)) (r .number) (r .end) (now (buf .exit)) ⌝ }
+{
+    if number != 0 {
+        return put_refused(number, buf, at);
+    }
+    if release {
+        return put_text(b"released\n", buf, at);
+    }
+    put_text(b"held\n", buf, at)
+}
+
+// The line of a free record, or of a run held.
+pub fn put_run(held: bool, start: u64, count: u64, buf: &mut [u8], at: usize) -> Written
+    ensures { λ r. ⌜ PutLine at (runBytes held start count) (now (buf .entry)) (r .number) (r .end) (now (buf .exit)) ⌝ }
+{
+    let numbers = [start, count];
+    if held {
+        return put_words(b"held ", &numbers, buf, at);
+    }
+    put_words(b"free ", &numbers, buf, at)
 }

@@ -9,6 +9,8 @@ pub mod corners;
 pub mod crc;
 pub mod damage;
 pub mod geometry;
+pub mod hold_states;
+pub mod holds;
 pub mod inodes;
 pub mod lists;
 pub mod log;
@@ -60,6 +62,16 @@ pub trait Mode {
     /// The port's answer, where its static library is linked in.
     fn ours(&self, _case: &[u8]) -> Option<Vec<u8>> {
         None
+    }
+
+    /// The words and the standard input of a program that answers one case.
+    fn run<'a>(&self, case: &'a [u8]) -> (Vec<String>, &'a [u8]) {
+        (Vec::new(), case)
+    }
+
+    /// What the single calls of a case are counted under, where it has several.
+    fn calls(&self, _case: &[u8]) -> Vec<Told> {
+        Vec::new()
     }
 
     /// The case as the program that replays the mode's answers reads it, where there is one.
@@ -134,6 +146,8 @@ pub fn named(name: &str) -> Option<Box<dyn Mode + Sync>> {
         "model_list" => Box::new(models::List),
         "corners" => Box::new(corners::Corners::tables()),
         "corner_lists" => Box::new(corners::Corners::lists()),
+        "holds" => Box::new(holds::Holds),
+        "hold_states" => Box::new(hold_states::HoldStates),
         "sizings" => Box::new(sizings::Sizings),
         _ => return None,
     })

@@ -1,0 +1,18 @@
+-- `ffi_holds::part_of` meets its contract.
+-- Assumes nothing.
+use borrow.Author.Needs.{needs}
+use borrow.Author.Tests.{eq-eqb, ne-eqb}
+use Rattle.ffi_holds.specs.Calls.{partOf}
+use Rattle.ffi_holds.proofs.part_of.Statement.{statement}
+use Rattle.ffi_holds.proofs.part_of.Tie as tie
+
+returns : tie.Need-returns
+unfolding partOf
+returns c = rw (eq-eqb _ 0 (c .before .if1 .taken))
+
+returns-2 : tie.Need-returns-2
+unfolding partOf
+returns-2 c = rw (ne-eqb _ 0 (c .before .if1 .left))
+
+pub part-of-spec : {M : Type 1} → statement M
+part-of-spec = tie.close (tie.spec (λ c. search needs) returns (λ c. search needs) returns-2)

@@ -1,0 +1,11 @@
+-- `ffi_holds::refused` meets its contract.
+-- Assumes nothing.
+use borrow.Author.Needs.{needs}
+use Rattle.ffi_holds.proofs.refused.Statement.{statement}
+use Rattle.ffi_holds.proofs.refused.Tie as tie
+
+returns : tie.Need-returns
+returns c = rw (c .empty .ensures)
+
+pub refused-spec : {M : Type 1} → statement M
+refused-spec = tie.close (tie.spec (λ c κs. search needs) returns)

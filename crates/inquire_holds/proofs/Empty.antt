@@ -1,0 +1,12 @@
+-- An empty input is no disk for `inquire`: 28.
+-- Assumes nothing.
+use mathlib.Core.Path.{_≡_, refl}
+use mathlib.Core.List.{[]}
+use Prim.Native.Nat.{ℕ}
+use Rattle.run.specs.Runs.{orNext}
+use Rattle.run.proofs.Accepted.{empty-malformed}
+use Rattle.inquire_holds.specs.Calls.{openedOf, opened}
+
+pub empty-opened : (k : ℕ) → opened [] k .number ≡ 28
+unfolding opened openedOf
+empty-opened k = rw empty-malformed refl

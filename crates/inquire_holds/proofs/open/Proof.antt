@@ -1,0 +1,37 @@
+-- `inquire_holds::open` meets its contract.
+-- Assumes nothing.
+use Rattle.inquire_holds.specs.Calls.{opened, openedOf}
+use Rattle.run.specs.Runs.{stepOf}
+use borrow.Author.Needs.{needs}
+use Rattle.inquire_holds.proofs.open.Statement.{statement}
+use Rattle.inquire_holds.proofs.open.Tie as tie
+
+parse-requires : tie.Need-parse-requires
+parse-requires c κs = search needs
+
+compute-requires : tie.Need-compute-requires
+compute-requires c κs = search needs
+
+start-requires : tie.Need-start-requires
+start-requires c κs = search needs
+
+or-next-requires : tie.Need-or-next-requires
+or-next-requires c κs = search needs
+
+or-next-requires-2 : tie.Need-or-next-requires-2
+or-next-requires-2 c κs = search needs
+
+returns : tie.Need-returns
+unfolding opened openedOf stepOf
+returns c = rw (c .or-next2 .ensures, c .before .or-next .ensures, c .before .before .before .start .ensures, c .before .before .before .before .before .compute .ensures, c .before .before .before .before .before .before .parse .ensures)
+
+pub open-spec : {M : Type 1} → statement M
+open-spec =
+    tie.close
+    (tie.spec
+    parse-requires
+    compute-requires
+    start-requires
+    or-next-requires
+    or-next-requires-2
+    returns)
