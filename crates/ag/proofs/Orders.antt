@@ -14,7 +14,7 @@ use Rattle.ag.specs.declared.agf.Agf.{Agf}
 use Rattle.ag.specs.declared.agi.Agi.{Agi}
 use Rattle.ag.specs.Sector.{agVersion}
 use Rattle.ag.specs.Agf.{agfMagic, agfFields}
-use Rattle.ag.specs.Agi.{agiMagic, agiFront, agiFields}
+use Rattle.ag.specs.Agi.{agiMagic, agiPrefix, agiFields}
 use Rattle.ag.specs.Agfl.{agflMagic, agflHeader}
 use Rattle.ag.proofs.Slots.{nulls}
 
@@ -28,14 +28,14 @@ unfolding agfFields
 agf-written a uuid xs = rw (run-fields 4 0, run-fields 4 80) refl
 
 -- the prefix of an AGI's fields, before the checksum, and all of them
-pub front-written : (front uuid xs : List ℕ) → patch 296 uuid (patch 40 (replicate 256 255) (patch 0 (runBytes 4 front) xs)) ≡ write (agiFront front uuid) xs
-front-written front uuid xs =
-    ap (λ (l : List ℕ). patch 296 uuid (patch 40 l (patch 0 (runBytes 4 front) xs))) (sym (nulls 64))
-    ∙ ap (λ (l : List ℕ). patch 296 uuid (patch 40 (runBytes 4 (replicate 64 null32)) l)) (run-fields 4 0 front xs)
-    ∙ sym (write-append (numbered 4 0 front) (run 40 (runBytes 4 (replicate 64 null32)) ∷ run 296 uuid ∷ []) xs)
+pub prefix-written : (prefix uuid xs : List ℕ) → patch 296 uuid (patch 40 (replicate 256 255) (patch 0 (runBytes 4 prefix) xs)) ≡ write (agiPrefix prefix uuid) xs
+prefix-written prefix uuid xs =
+    ap (λ (l : List ℕ). patch 296 uuid (patch 40 l (patch 0 (runBytes 4 prefix) xs))) (sym (nulls 64))
+    ∙ ap (λ (l : List ℕ). patch 296 uuid (patch 40 (runBytes 4 (replicate 64 null32)) l)) (run-fields 4 0 prefix xs)
+    ∙ sym (write-append (numbered 4 0 prefix) (run 40 (runBytes 4 (replicate 64 null32)) ∷ run 296 uuid ∷ []) xs)
 
 pub agi-written : (a : Agi) (uuid xs ys : List ℕ)
-    → ys ≡ write (agiFront (agiMagic ∷ agVersion ∷ a .seqno ∷ a .length ∷ a .count ∷ a .root ∷ a .level ∷ a .freecount ∷ a .newino ∷ null32 ∷ []) uuid) xs
+    → ys ≡ write (agiPrefix (agiMagic ∷ agVersion ∷ a .seqno ∷ a .length ∷ a .count ∷ a .root ∷ a .level ∷ a .freecount ∷ a .newino ∷ null32 ∷ []) uuid) xs
     → patch 328 (runBytes 4 (a .«free_root» ∷ a .«free_level» ∷ a .iblocks ∷ a .fblocks ∷ [])) (patch 320 (beBytes 8 0) ys) ≡ write (agiFields a uuid) xs
 unfolding agiFields
 agi-written a uuid xs ys e = rw (run-fields 4 328, e) refl

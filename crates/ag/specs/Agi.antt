@@ -20,8 +20,8 @@ abbrev pub unlinkedBuckets : ℕ
 unlinkedBuckets = 64
 
 -- what stands before the checksum: numbers from the start on, the lists of unlinked inodes, all empty, and the UUID
-abbrev pub agiFront : List ℕ → List ℕ → List Field
-agiFront numbers uuid =
+abbrev pub agiPrefix : List ℕ → List ℕ → List Field
+agiPrefix numbers uuid =
     numbered 4 0 numbers
     ++ (run 40 (runBytes 4 (replicate unlinkedBuckets null32))  -- agi_unlinked
     ∷ run 296 uuid  -- agi_uuid

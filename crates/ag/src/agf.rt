@@ -48,7 +48,7 @@ impl Agf {
         if !is_sector(sector.len()) {
             return refusals::WRONG_LENGTH;
         }
-        let front: [u32; 16] = [
+        let prefix: [u32; 16] = [
             AGF_MAGIC, // agf_magicnum
             crate::AG_VERSION, // agf_versionnum
             self.seqno, // agf_seqno
@@ -72,7 +72,7 @@ impl Agf {
             self.refcount_root, // agf_refcount_root
             self.refcount_level, // agf_refcount_level
         ];
-        endian::put32_run(sector, 0, &front);
+        endian::put32_run(sector, 0, &prefix);
         endian::put_bytes(sector, UUID, uuid); // agf_uuid
         endian::put32_run(sector, RMAP_BLOCKS, &back);
         endian::put64(sector, LSN, 0); // agf_lsn

@@ -5,7 +5,7 @@ ghost use lib.ListN.{length};
 ghost use Rattle.endian.specs.Fields.{write};
 ghost use Rattle.structs.specs.Written.{Written};
 ghost use Rattle.ag.specs.Sector.{sectorNumber};
-ghost use Rattle.ag.specs.Agi.{agiFront, agiBytes};
+ghost use Rattle.ag.specs.Agi.{agiPrefix, agiBytes};
 use structs::is_sector;
 
 // "XAGI"
@@ -41,11 +41,11 @@ pub struct Agi {
 }
 
 // What stands before the checksum: numbers, lists of unlinked inodes, all empty, and UUID.
-fn put_front(sector: &mut [u8], front: [u32; 10], uuid: &[u8; 16])
+fn put_prefix(sector: &mut [u8], prefix: [u32; 10], uuid: &[u8; 16])
     requires { ⌜ 512 ≤ length (now sector) ⌝ }
-    ensures { λ _. ⌜ now (sector .exit) ≡ write (agiFront front (now (uuid .entry))) (now (sector .entry)) ⌝ }
+    ensures { λ _. ⌜ now (sector .exit) ≡ write (agiPrefix prefix (now (uuid .entry))) (now (sector .entry)) ⌝ }
 {
-    endian::put32_run(sector, 0, &front);
+    endian::put32_run(sector, 0, &prefix);
     endian::put_same(sector, UNLINKED, 4 * UNLINKED_BUCKETS, 255); // agi_unlinked
     endian::put_bytes(sector, UUID, uuid); // agi_uuid
 }
@@ -58,7 +58,7 @@ impl Agi {
         if !is_sector(sector.len()) {
             return refusals::WRONG_LENGTH;
         }
-        let front: [u32; 10] = [
+        let prefix: [u32; 10] = [
             AGI_MAGIC, // agi_magicnum
             crate::AG_VERSION, // agi_versionnum
             self.seqno, // agi_seqno
@@ -72,7 +72,7 @@ impl Agi {
         ];
         // agi_free_root, agi_free_level, agi_iblocks, agi_fblocks
         let back: [u32; 4] = [self.free_root, self.free_level, self.iblocks, self.fblocks];
-        put_front(sector, front, uuid);
+        put_prefix(sector, prefix, uuid);
         endian::put64(sector, LSN, 0); // agi_lsn
         endian::put32_run(sector, FREE_ROOT, &back);
         crc::stamp(sector, CRC); // agi_crc

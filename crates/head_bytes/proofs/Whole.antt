@@ -199,10 +199,10 @@ module _ (w : Frame) (p : AgPlan) (g : Geometry) (s : SbState) (uuid xs : List �
       (let a = length-append SB AGF in let b = length-append (SB ++ AGF) AGI in let c = l1 in let d = l2 in let e = l3 in omega arith)
       (let k = ok .sectors-fit in omega arith) l4 refl
 
-  abbrev FRONT : List ℕ
-  FRONT = (((SB ++ AGF) ++ AGI) ++ LIST) ++ zeros gap
+  abbrev PREFIX : List ℕ
+  PREFIX = (((SB ++ AGF) ++ AGI) ++ LIST) ++ zeros gap
 
-  n4 : length FRONT ≡ hb
+  n4 : length PREFIX ≡ hb
   n4 =
       let a = length-append SB AGF in
       let b = length-append (SB ++ AGF) AGI in
@@ -248,11 +248,11 @@ module _ (w : Frame) (p : AgPlan) (g : Geometry) (s : SbState) (uuid xs : List �
   abbrev y1 : List ℕ
   y1 = patch hb BNO x4
 
-  t1 : Starts (FRONT ++ BNO) y1
-  t1 = next hb FRONT BNO x4 y1 s4 n4 (fit (w .header) BNO x4 (let t = three-inside w in omega arith) (bno-length w uuid (p .free)) lx) refl
+  t1 : Starts (PREFIX ++ BNO) y1
+  t1 = next hb PREFIX BNO x4 y1 s4 n4 (fit (w .header) BNO x4 (let t = three-inside w in omega arith) (bno-length w uuid (p .free)) lx) refl
 
-  m1 : length (FRONT ++ BNO) ≡ (w .header + 1) * w .block
-  m1 = longer FRONT BNO (w .header) (w .block) n4 (bno-length w uuid (p .free))
+  m1 : length (PREFIX ++ BNO) ≡ (w .header + 1) * w .block
+  m1 = longer PREFIX BNO (w .header) (w .block) n4 (bno-length w uuid (p .free))
 
   abbrev y2 : List ℕ
   y2 = patch (cntBlock (w .header) * w .block) CNT y1
@@ -260,12 +260,12 @@ module _ (w : Frame) (p : AgPlan) (g : Geometry) (s : SbState) (uuid xs : List �
   k1 : length y1 ≡ length xs
   k1 = length-patch hb BNO x4 ∙ lx
 
-  t2 : Starts ((FRONT ++ BNO) ++ CNT) y2
+  t2 : Starts ((PREFIX ++ BNO) ++ CNT) y2
   unfolding cntBlock
-  t2 = next ((w .header + 1) * w .block) (FRONT ++ BNO) CNT y1 y2 t1 m1 (fit (w .header + 1) CNT y1 (let t = three-inside w in omega arith) (cnt-length w uuid (p .free)) k1) refl
+  t2 = next ((w .header + 1) * w .block) (PREFIX ++ BNO) CNT y1 y2 t1 m1 (fit (w .header + 1) CNT y1 (let t = three-inside w in omega arith) (cnt-length w uuid (p .free)) k1) refl
 
-  m2 : length ((FRONT ++ BNO) ++ CNT) ≡ (w .header + 1 + 1) * w .block
-  m2 = longer (FRONT ++ BNO) CNT (w .header + 1) (w .block) m1 (cnt-length w uuid (p .free))
+  m2 : length ((PREFIX ++ BNO) ++ CNT) ≡ (w .header + 1 + 1) * w .block
+  m2 = longer (PREFIX ++ BNO) CNT (w .header + 1) (w .block) m1 (cnt-length w uuid (p .free))
 
   k2 : length y2 ≡ length xs
   k2 = length-patch (cntBlock (w .header) * w .block) CNT y1 ∙ k1
@@ -273,18 +273,18 @@ module _ (w : Frame) (p : AgPlan) (g : Geometry) (s : SbState) (uuid xs : List �
   abbrev y3 : List ℕ
   y3 = patch (ibtBlock (w .header) * w .block) INO y2
 
-  t3 : Starts (((FRONT ++ BNO) ++ CNT) ++ INO) y3
+  t3 : Starts (((PREFIX ++ BNO) ++ CNT) ++ INO) y3
   unfolding ibtBlock
   t3 =
-      next ((w .header + 2) * w .block) ((FRONT ++ BNO) ++ CNT) INO y2 y3 t2 (m2 ∙ ap (λ (n : ℕ). n * w .block) (let z : w .header + 1 + 1 ≡ w .header + 2 = omega arith in z))
+      next ((w .header + 2) * w .block) ((PREFIX ++ BNO) ++ CNT) INO y2 y3 t2 (m2 ∙ ap (λ (n : ℕ). n * w .block) (let z : w .header + 1 + 1 ≡ w .header + 2 = omega arith in z))
       (fit (w .header + 2) INO y2 (let t = three-inside w in omega arith) (inode-length w uuid inoMagic (ibtBlock (w .header))) k2) refl
 
   abbrev THREE : List ℕ
-  THREE = ((FRONT ++ BNO) ++ CNT) ++ INO
+  THREE = ((PREFIX ++ BNO) ++ CNT) ++ INO
 
   m3 : length THREE ≡ (w .header + 3) * w .block
   m3 =
-      longer ((FRONT ++ BNO) ++ CNT) INO (w .header + 1 + 1) (w .block) m2 (inode-length w uuid inoMagic (ibtBlock (w .header)))
+      longer ((PREFIX ++ BNO) ++ CNT) INO (w .header + 1 + 1) (w .block) m2 (inode-length w uuid inoMagic (ibtBlock (w .header)))
       ∙ ap (λ (n : ℕ). n * w .block) (let z : w .header + 1 + 1 + 1 ≡ w .header + 3 = omega arith in z)
 
   k3 : length y3 ≡ length xs

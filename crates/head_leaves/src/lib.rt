@@ -19,8 +19,8 @@ use plan_rmap::RmapList;
 use refusals::TOO_MANY_RECORDS;
 use structs::is_block;
 
-// Room for 64 records of the largest size.
-fn record_room() -> [u8; 1536]
+// A buffer for 64 records of the largest size.
+fn record_buffer() -> [u8; 1536]
     ensures { λ r. ⌜ length r ≡ 1536 ⌝ }
 {
     [0u8; 1536]
@@ -32,17 +32,17 @@ fn put_free(
     agno: u32,
     uuid: &[u8; 16],
     l: FreeList,
-    room: &mut [u8],
+    work: &mut [u8],
     block: &mut [u8],
 ) -> u32
-    requires { ⌜ (l .len ≤ 64) × (length (now room) ≡ 1536) ⌝ }
+    requires { ⌜ (l .len ≤ 64) × (length (now work) ≡ 1536) ⌝ }
     ensures { λ r. ⌜ Written (leafNumber (8 * l .len) (length (now (block .entry)))) (leafBytes magic daddr agno (now (uuid .entry)) (listed allocBytes (take (l .len) (l .recs))) (l .len) (length (now (block .entry)))) (now (block .entry)) r (now (block .exit)) ⌝ }
 {
     let n = l.len;
     let used = ALLOC_REC * n;
     let recs = l.recs;
-    btree_records::alloc_recs_64(recs, n, &mut room[0..used]);
-    leaf_block(magic, daddr, agno, uuid, &room[0..used], n as u16, block)
+    btree_records::alloc_recs_64(recs, n, &mut work[0..used]);
+    leaf_block(magic, daddr, agno, uuid, &work[0..used], n as u16, block)
 }
 
 // A leaf of free extents, in the order of the list.
@@ -62,8 +62,8 @@ pub fn free_leaf(
     if 64 < l.len {
         return TOO_MANY_RECORDS;
     }
-    let mut room = record_room();
-    put_free(magic, daddr, agno, uuid, l, &mut room, block)
+    let mut work = record_buffer();
+    put_free(magic, daddr, agno, uuid, l, &mut work, block)
 }
 
 fn put_maps(
@@ -72,17 +72,17 @@ fn put_maps(
     agno: u32,
     uuid: &[u8; 16],
     l: RmapList,
-    room: &mut [u8],
+    work: &mut [u8],
     block: &mut [u8],
 ) -> u32
-    requires { ⌜ (l .len ≤ 64) × (length (now room) ≡ 1536) ⌝ }
+    requires { ⌜ (l .len ≤ 64) × (length (now work) ≡ 1536) ⌝ }
     ensures { λ r. ⌜ Written (leafNumber (24 * l .len) (length (now (block .entry)))) (leafBytes magic daddr agno (now (uuid .entry)) (listed rmapBytes (take (l .len) (l .recs))) (l .len) (length (now (block .entry)))) (now (block .entry)) r (now (block .exit)) ⌝ }
 {
     let n = l.len;
     let used = RMAP_REC * n;
     let recs = l.recs;
-    btree_records::rmap_recs_64(recs, n, &mut room[0..used]);
-    leaf_block(magic, daddr, agno, uuid, &room[0..used], n as u16, block)
+    btree_records::rmap_recs_64(recs, n, &mut work[0..used]);
+    leaf_block(magic, daddr, agno, uuid, &work[0..used], n as u16, block)
 }
 
 // A leaf of reverse mappings.
@@ -102,8 +102,8 @@ pub fn rmap_leaf(
     if 64 < l.len {
         return TOO_MANY_RECORDS;
     }
-    let mut room = record_room();
-    put_maps(magic, daddr, agno, uuid, l, &mut room, block)
+    let mut work = record_buffer();
+    put_maps(magic, daddr, agno, uuid, l, &mut work, block)
 }
 
 // The root chunk's record: 64 inodes from startino on, of which the first three are in use.
@@ -127,17 +127,17 @@ fn put_chunk(
     startino: u32,
     n: usize,
     sparse: bool,
-    room: &mut [u8],
+    work: &mut [u8],
     block: &mut [u8],
 ) -> u32
-    requires { ⌜ (n ≤ 64) × (length (now room) ≡ 1536) ⌝ }
+    requires { ⌜ (n ≤ 64) × (length (now work) ≡ 1536) ⌝ }
     ensures { λ r. ⌜ Written (leafNumber (16 * n) (length (now (block .entry)))) (leafBytes magic daddr agno (now (uuid .entry)) (listed (inobtBytes sparse) (few n (chunkRec startino))) n (length (now (block .entry)))) (now (block .entry)) r (now (block .exit)) ⌝ }
 {
     let used = INOBT_REC * n;
     let rec = chunk_rec(startino);
     let recs = [rec; 64];
-    btree_records::inobt_recs_64(recs, n, sparse, &mut room[0..used]);
-    leaf_block(magic, daddr, agno, uuid, &room[0..used], n as u16, block)
+    btree_records::inobt_recs_64(recs, n, sparse, &mut work[0..used]);
+    leaf_block(magic, daddr, agno, uuid, &work[0..used], n as u16, block)
 }
 
 // A leaf with the root chunk's record, or with none.
@@ -154,7 +154,7 @@ pub fn chunk_leaf(
     ensures { λ r. ⌜ Written (leafNumber (16 * bit there) (length (now (block .entry)))) (leafBytes magic daddr agno (now (uuid .entry)) (listed (inobtBytes sparse) (few (bit there) (chunkRec startino))) (bit there) (length (now (block .entry)))) (now (block .entry)) r (now (block .exit)) ⌝ }
 {
     let n = bit_of(there) as usize;
-    let mut room = record_room();
+    let mut work = record_buffer();
     put_chunk(
         magic,
         daddr,
@@ -163,7 +163,7 @@ pub fn chunk_leaf(
         startino,
         n,
         sparse,
-        &mut room,
+        &mut work,
         block,
     )
 }

@@ -7,6 +7,7 @@ pub mod Reading
 pub mod Superblocks
 pub mod Sound
 pub mod Heads
+pub mod Typed
 pub mod Stations
 pub mod Parsed
 pub mod Rewritten

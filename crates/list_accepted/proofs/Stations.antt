@@ -8,10 +8,11 @@ use native.Mathlib.Omega.{arith}
 use borrow.Author.Tests.{eqb-true}
 use lib.Dec.{T, eqb, eqb→eq, lit<}
 use lib.IntN.{pos}
-use lib.ListN.{length, getD, replicate}
+use lib.ListN.{length, getD}
 use Rattle.arith.specs.Choice.{when}
 use Rattle.endian.proofs.Fields.{and-left, and-right}
-use Rattle.params.specs.Params.{noOptions}
+use Rattle.params.specs.declared.OptU64.the-variants.{Absent as Absent64}
+use Rattle.params.specs.Params.{allFeatures, noOptions}
 use Rattle.params.specs.declared.OptTime.{OptTime}
 use Rattle.params.specs.declared.OptTime.the-variants.{Absent}
 use Rattle.geometry.specs.declared.Geometry.{Geometry}
@@ -22,16 +23,15 @@ use Rattle.inode_time.specs.Time.{notEarly, shifted, timeInside, timeNumber}
 use Rattle.geometry_places.specs.Answers.{rootIno}
 use Rattle.plan_totals.specs.Totals.{plansNumber, freeCount}
 use Rattle.sb_states.specs.States.{finishedState}
-use Rattle.head_bytes.proofs.Below.{below-zeros}
 use Rattle.request.specs.Parse.{request}
-use Rattle.request.specs.Defaults.{orEpoch, timeOf, seedOf}
+use Rattle.request.specs.Defaults.{orEpoch, timeOf}
 use Rattle.run.specs.Runs.{stepOf, timeRefusal, runOf}
 use Rattle.stations.specs.Stations.{Case, refused, acceptedPlans, plansBy, plansOf, shown, same, passes, all, stations, exampleRows, example}
 use Rattle.stations.proofs.StationCases.{hold}
 use Rattle.list_accepted.specs.Accepted.{TypedRequest, AcceptedRun}
 use Rattle.list_accepted.specs.Superblocks.{leftIn, rootField, freeField, rootNamed, freeNamed}
 use Rattle.list_accepted.specs.Stations.{station, requestOf}
-use Rattle.list_accepted.proofs.Bytes.{below-at}
+use Rattle.list_accepted.proofs.Typed.{plain-typed}
 use Rattle.list_accepted.proofs.Runs.{number-zero, run-bounds, run-geometry}
 use Rattle.list_accepted.proofs.Heads.{run-says}
 
@@ -102,44 +102,16 @@ every (c ∷ cs) (suc n) d h t = every cs n d (omega arith) (and-right (passes c
 passed : (n : ℕ) → n < length stations → T (passes (station n))
 passed n h = every stations n (refused noOptions 0 0) h (and-left (all stations) (same exampleRows example) hold)
 
--- a request without options has its types
-plain-typed : (device : ℕ) → device < 2 ^ 64 → TypedRequest (request 0 noOptions device 512 512)
-unfolding timeOf seedOf
-plain-typed device h =
-    record {
-      options =
-          record {
-            size = lit< tt;
-            block-size = lit< tt;
-            sector-size = lit< tt;
-            inode-size = lit< tt;
-            agcount = lit< tt;
-            agsize = lit< tt;
-            imaxpct = lit< tt;
-            label-length = lit< tt;
-            label-size = refl;
-            label-bytes = below-at 256 (replicate 12 0) (lit< tt) (below-zeros 12);
-          };
-      device = h;
-      logical = lit< tt;
-      physical = lit< tt;
-      uuid-size = refl;
-      uuid-bytes = below-at 256 (replicate 16 0) (lit< tt) (below-zeros 16);
-      seconds = lit< tt;
-      nanoseconds = lit< tt;
-      seed = lit< tt;
-    }
-
 -- K1: a disk of 1 GiB is accepted, and its superblock has root inode 128 and free count 245,724
 pub k1-accepted : AcceptedRun (requestOf (station 0))
 unfolding stations
-k1-accepted = station-accepted (station 0) 128 245724 (16 ∷ 2 ∷ 1 ∷ []) refl (passed 0 (lit< tt)) refl (plain-typed (1024 * mib) (lit< tt))
+k1-accepted = station-accepted (station 0) 128 245724 (16 ∷ 2 ∷ 1 ∷ []) refl (passed 0 (lit< tt)) refl (plain-typed allFeatures Absent64 false (1024 * mib) (lit< tt) (lit< tt))
 
 pub k1-says : (rootField (leftIn (runOf (requestOf (station 0))) 0) ≡ 128) × (freeField (leftIn (runOf (requestOf (station 0))) 0) ≡ 245724)
 unfolding stations
-k1-says = station-says (station 0) 128 245724 (16 ∷ 2 ∷ 1 ∷ []) refl (passed 0 (lit< tt)) refl (plain-typed (1024 * mib) (lit< tt))
+k1-says = station-says (station 0) 128 245724 (16 ∷ 2 ∷ 1 ∷ []) refl (passed 0 (lit< tt)) refl (plain-typed allFeatures Absent64 false (1024 * mib) (lit< tt) (lit< tt))
 
 -- K2: one of 300 MiB has free count 60,380
 pub k2-says : freeField (leftIn (runOf (requestOf (station 2))) 0) ≡ 60380
 unfolding stations
-k2-says = station-says (station 2) 128 60380 (16 ∷ 2 ∷ 1 ∷ []) refl (passed 2 (lit< tt)) refl (plain-typed (300 * mib) (lit< tt)) .1
+k2-says = station-says (station 2) 128 60380 (16 ∷ 2 ∷ 1 ∷ []) refl (passed 2 (lit< tt)) refl (plain-typed allFeatures Absent64 false (300 * mib) (lit< tt) (lit< tt)) .1

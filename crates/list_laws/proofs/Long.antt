@@ -49,7 +49,7 @@ module _ (run : Run) (device : ℕ) (s : Sound run device) where
   closing-long : length (listBytes (closing run)) ≡ 2 + blocksLength bs (headerBlocks (run .geometry)) + 2
   unfolding closing blocksLength
   closing-long =
-      let room = mul-le-mul-right bs (s .header-head) in
+      let work = mul-le-mul-right bs (s .header-head) in
       let header = blocks-whole bs 0 (headerBlocks (run .geometry)) (headFinished (run .geometry) (run .uuid)) (omega (arith, s .finished-long)) in
       let whole : All (OneBlock bs) (closing run) = (tt, all-append (OneBlock bs) (headerRecords run) (FL ∷ []) header (tt, tt)) in
       omega (arith, bytes-total bs (closing run) whole, closing-total 18 (18 + bs) 2 run)

@@ -52,7 +52,7 @@ module _ (r : Request) (a : AcceptedRun r) (accepts : runOf r .number ≡ 0) whe
   longest = max (lengthAnswer run 1 .value) (lengthAnswer run (count - 2) .value)
 
   -- a turn with buffers that are long enough
-  module _ (m room len : ℕ) (some : 0 < m) (most : m ≤ count) (p : longest ≤ room) (q : longest ≤ len) where
+  module _ (m work len : ℕ) (some : 0 < m) (most : m ≤ count) (p : longest ≤ work) (q : longest ≤ len) where
     abbrev piece : List ℕ
     piece = sent run device (count - m)
 
@@ -69,27 +69,27 @@ module _ (r : Request) (a : AcceptedRun r) (accepts : runOf r .number ≡ 0) whe
     piece-within : length piece ≤ len
     piece-within = let h = enough len q .0 in let e = ap (λ (c : Counted). c .value) (written-whole r a .long (count - m) there) in omega arith
 
-    number : sendNumber (at m) room len ≡ 0
+    number : sendNumber (at m) work len ≡ 0
     unfolding sendNumber
-    number = rw (wanted, le-leb (length piece) len piece-within) (write-is r a (count - m) room there (enough room p .1))
+    number = rw (wanted, le-leb (length piece) len piece-within) (write-is r a (count - m) work there (enough work p .1))
 
-    answer : sentDef (at m) room len ≡ record { number = 0; length = length piece; sending = at (m - 1) }
+    answer : sentDef (at m) work len ≡ record { number = 0; length = length piece; sending = at (m - 1) }
     unfolding sentDef
     answer = rw (number, wanted) refl
 
   -- ---- a turn hands out the next chunk
-  module _ (room : ℕ) (p : longest ≤ room) where
+  module _ (work : ℕ) (p : longest ≤ work) where
     handed-on : (m : ℕ) (xs : List ℕ) → suc m ≤ count → longest ≤ length xs
-        → handed (suc m) (at (suc m)) room xs ≡ sent run device (count - suc m) ++ handed m (at m) room (patch 0 (sent run device (count - suc m)) xs)
+        → handed (suc m) (at (suc m)) work xs ≡ sent run device (count - suc m) ++ handed m (at m) work (patch 0 (sent run device (count - suc m)) xs)
     unfolding handed
     handed-on m xs h q =
         let s : 0 < suc m = omega arith in
         let k = sent run device (count - suc m) in
         let e : suc m - 1 ≡ m = omega arith in
-        rw (answer (suc m) room (length xs) s h p q, number (suc m) room (length xs) s h p q, first-put k xs (piece-within (suc m) room (length xs) s h p q), e) refl
+        rw (answer (suc m) work (length xs) s h p q, number (suc m) work (length xs) s h p q, first-put k xs (piece-within (suc m) work (length xs) s h p q), e) refl
 
     -- behind those that were sent before, all of them
-    all-handed : (m : ℕ) (xs : List ℕ) → m ≤ count → longest ≤ length xs → sentTo run device (count - m) ++ handed m (at m) room xs ≡ sentAll run device
+    all-handed : (m : ℕ) (xs : List ℕ) → m ≤ count → longest ≤ length xs → sentTo run device (count - m) ++ handed m (at m) work xs ≡ sentAll run device
     unfolding handed sentTo
     all-handed zero xs h q = let e : count - 0 ≡ count = omega arith in append-nil (sentTo run device (count - 0)) ∙ ap (sentTo run device) e
     all-handed (suc m) xs h q =
@@ -98,30 +98,30 @@ module _ (r : Request) (a : AcceptedRun r) (accepts : runOf r .number ≡ 0) whe
         let e : suc k ≡ count - m = omega arith in
         let l : length ys ≡ length xs = length-patch 0 (sent run device k) xs in
         ap (λ (bs : List ℕ). sentTo run device k ++ bs) (handed-on m xs h q)
-        ∙ sym (append-assoc (sentTo run device k) (sent run device k) (handed m (at m) room ys))
-        ∙ ap (λ (j : ℕ). sentTo run device j ++ handed m (at m) room ys) e
+        ∙ sym (append-assoc (sentTo run device k) (sent run device k) (handed m (at m) work ys))
+        ∙ ap (λ (j : ℕ). sentTo run device j ++ handed m (at m) work ys) e
         ∙ all-handed m ys (omega arith) (omega arith)
 
-    whole-list : (xs : List ℕ) → longest ≤ length xs → handed count (at count) room xs ≡ listBytes (listOf run device)
+    whole-list : (xs : List ℕ) → longest ≤ length xs → handed count (at count) work xs ≡ listBytes (listOf run device)
     unfolding sentTo
     whole-list xs q =
         let e : count - count ≡ 0 = omega arith in
-        ap (λ (k : ℕ). sentTo run device k ++ handed count (at count) room xs) (sym e) ∙ all-handed count xs (omega arith) q ∙ written-whole r a .whole
+        ap (λ (k : ℕ). sentTo run device k ++ handed count (at count) work xs) (sym e) ∙ all-handed count xs (omega arith) q ∙ written-whole r a .whole
 
     -- ---- and leaves one fewer
-    after-turns : (n len : ℕ) → n ≤ count → longest ≤ len → sentOn n (at count) room len ≡ at (count - n)
+    after-turns : (n len : ℕ) → n ≤ count → longest ≤ len → sentOn n (at count) work len ≡ at (count - n)
     unfolding sentOn
     after-turns zero len h q = let e : count ≡ count - 0 = omega arith in ap at e
     after-turns (suc n) len h q =
         let e : count - n - 1 ≡ count - suc n = omega arith in
-        ap (λ (s : State). sentDef s room len .sending) (after-turns n len (omega arith) q)
-        ∙ ap (λ (t : Sent). t .sending) (answer (count - n) room len (omega arith) (omega arith) p q)
+        ap (λ (s : State). sentDef s work len .sending) (after-turns n len (omega arith) q)
+        ∙ ap (λ (t : Sent). t .sending) (answer (count - n) work len (omega arith) (omega arith) p q)
         ∙ ap at e
 
-    accepted-turn : (n len : ℕ) → n < count → longest ≤ len → sendNumber (sentOn n (at count) room len) room len ≡ 0
-    accepted-turn n len h q = rw (after-turns n len (omega arith) q) (number (count - n) room len (omega arith) (omega arith) p q)
+    accepted-turn : (n len : ℕ) → n < count → longest ≤ len → sendNumber (sentOn n (at count) work len) work len ≡ 0
+    accepted-turn n len h q = rw (after-turns n len (omega arith) q) (number (count - n) work len (omega arith) (omega arith) p q)
 
-    no-more : (len : ℕ) → longest ≤ len → sentOn count (at count) room len .left ≡ 0
+    no-more : (len : ℕ) → longest ≤ len → sentOn count (at count) work len .left ≡ 0
     no-more len q = rw (after-turns count len (omega arith) q) (omega arith)
 
   longest-most : longest ≤ longestChunk
@@ -155,9 +155,9 @@ module _ (xs : List ℕ) (bytes : (i : ℕ) → getD xs i 0 < 256) where
         rw begun-is (record {
           turns = refl;
           most = longest-most request taken zero-is;
-          accepts = λ k room len h p q. accepted-turn request taken zero-is room p k len h q;
-          whole = λ room ys p q. whole-list request taken zero-is room p ys q;
-          ends = λ room len p q. no-more request taken zero-is room p len q;
+          accepts = λ k work len h p q. accepted-turn request taken zero-is work p k len h q;
+          whole = λ work ys p q. whole-list request taken zero-is work p ys q;
+          ends = λ work len p q. no-more request taken zero-is work p len q;
         })
 
   -- AND OF A REFUSED ONE NOTHING
@@ -166,9 +166,9 @@ module _ (xs : List ℕ) (bytes : (i : ℕ) → getD xs i 0 < 256) where
     unfolding begun
     begun-none = rw (ne-eqb (accepted xs .number) 0 e) refl
 
-    none-number : (room len : ℕ) → sendNumber (sending (accepted xs) (request .device) 0 0) room len ≡ accepted xs .number
+    none-number : (work len : ℕ) → sendNumber (sending (accepted xs) (request .device) 0 0) work len ≡ accepted xs .number
     unfolding sendNumber wantedOf
-    none-number room len = rw (ne-eqb (accepted xs .number) 0 e, ne-eqb (accepted xs .number) 0 e) refl
+    none-number work len = rw (ne-eqb (accepted xs .number) 0 e, ne-eqb (accepted xs .number) 0 e) refl
 
     pub sends-none : SendsNone (begun xs) (accepted xs .number)
     unfolding sentDef
@@ -176,7 +176,7 @@ module _ (xs : List ℕ) (bytes : (i : ℕ) → getD xs i 0 < 256) where
         let f = ne-eqb (accepted xs .number) 0 e in
         rw begun-none (record {
           turns = refl;
-          answers = λ room len. rw (none-number room len, f) refl;
-          buffer = λ room ys. rw (none-number room (length ys), f) refl;
+          answers = λ work len. rw (none-number work len, f) refl;
+          buffer = λ work ys. rw (none-number work (length ys), f) refl;
           work = λ len ws. rw (none-number (length ws) len, f) refl;
         })

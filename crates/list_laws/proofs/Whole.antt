@@ -60,7 +60,7 @@ sent-whole run device = sent-is run device (chunkCount run) ∙ ap listBytes (by
 -- ---- where it ends: its second flush is its last record
 
 pub list-ends : (run : Run) (device : ℕ) → WholeList (listOf run device)
-list-ends run device = record { two = told run device .whole-flushes; front = butLast run device; last = list-last run device }
+list-ends run device = record { two = told run device .whole-flushes; prefix = butLast run device; last = list-last run device }
 
 -- ---- an accepted run
 
@@ -95,23 +95,23 @@ module _ (r : Request) (a : AcceptedRun r) where
   unfolding partAnswer
   part-is k h = rw (there k h) (refl, part-most (run .geometry) (run-bounds r a) k)
 
-  pub write-is : (k room : ℕ) → k < chunkCount run → partAnswer run k .value ≤ room → writeNumber run k (length (sent run (r .device) k)) room ≡ 0
+  pub write-is : (k work : ℕ) → k < chunkCount run → partAnswer run k .value ≤ work → writeNumber run k (length (sent run (r .device) k)) work ≡ 0
   unfolding partAnswer
-  write-is k room h m = sym (write-fits run k _ room (there k h) (chunk-long run (r .device) (sound r a) k) (rw (there k h) at m))
+  write-is k work h m = sym (write-fits run k _ work (there k h) (chunk-long run (r .device) (sound r a) k) (rw (there k h) at m))
 
-  accept-is : (k room : ℕ) → k < chunkCount run → largestHead ≤ room → writeNumber run k (length (sent run (r .device) k)) room ≡ 0
-  accept-is k room h m = let p = part-is k h .1 in write-is k room h (omega arith)
+  accept-is : (k work : ℕ) → k < chunkCount run → largestHead ≤ work → writeNumber run k (length (sent run (r .device) k)) work ≡ 0
+  accept-is k work h m = let p = part-is k h .1 in write-is k work h (omega arith)
 
-  left-is : (k room n : ℕ) (old left : List ℕ) → k < chunkCount run → partAnswer run k .value ≤ room → length old ≡ lengthAnswer run k .value
-      → Written (writeNumber run k (length old) room) (sent run (r .device) k) old n left → (n ≡ 0) × (left ≡ sent run (r .device) k)
-  left-is k room n old left h m e w =
+  left-is : (k work n : ℕ) (old left : List ℕ) → k < chunkCount run → partAnswer run k .value ≤ work → length old ≡ lengthAnswer run k .value
+      → Written (writeNumber run k (length old) work) (sent run (r .device) k) old n left → (n ≡ 0) × (left ≡ sent run (r .device) k)
+  left-is k work n old left h m e w =
       let l : length old ≡ length (sent run (r .device) k) = e ∙ ap (λ (c : Counted). c .value) (length-is k h) in
-      let z : writeNumber run k (length old) room ≡ 0 = rw l (write-is k room h m) in
+      let z : writeNumber run k (length old) work ≡ 0 = rw l (write-is k work h m) in
       (w .number ∙ z, written-in w z)
 
-  none-is : (k len room : ℕ) → chunkCount run ≤ k → (placeNumber run k ≡ noPlace) × (writeNumber run k len room ≡ noPlace)
+  none-is : (k len work : ℕ) → chunkCount run ≤ k → (placeNumber run k ≡ noPlace) × (writeNumber run k len work ≡ noPlace)
   unfolding writeNumber
-  none-is k len room h = let n = not-there k h in (n, rw n refl)
+  none-is k len work h = let n = not-there k h in (n, rw n refl)
 
   -- ---- the bytes that are sent
 

@@ -18,16 +18,16 @@ pub record SendsAll (s : State) (run : Run) (device : ℕ) : Type 0 where
   -- no buffer needs to be longer than the longest chunk of any run
   pub most : longestOf s ≤ longestChunk
   -- none of them is refused
-  pub accepts : (n room len : ℕ) → n < s .left → longestOf s ≤ room → longestOf s ≤ len → sendNumber (sentOn n s room len) room len ≡ 0
+  pub accepts : (n work len : ℕ) → n < s .left → longestOf s ≤ work → longestOf s ≤ len → sendNumber (sentOn n s work len) work len ≡ 0
   -- THE BYTES THAT THEY HAND OUT, ONE AFTER THE OTHER, ARE THE LIST
-  pub whole : (room : ℕ) (xs : List ℕ) → longestOf s ≤ room → longestOf s ≤ length xs
-      → handed (s .left) s room xs ≡ listBytes (listOf run device)
+  pub whole : (work : ℕ) (xs : List ℕ) → longestOf s ≤ work → longestOf s ≤ length xs
+      → handed (s .left) s work xs ≡ listBytes (listOf run device)
   -- and no chunk is left then
-  pub ends : (room len : ℕ) → longestOf s ≤ room → longestOf s ≤ len → sentOn (s .left) s room len .left ≡ 0
+  pub ends : (work len : ℕ) → longestOf s ≤ work → longestOf s ≤ len → sentOn (s .left) s work len .left ≡ 0
 
 -- In the state s no turn is due, and one that is tried gets this number and leaves both buffers as they were.
 pub record SendsNone (s : State) (number : ℕ) : Type 0 where
   pub turns : s .left ≡ 0
-  pub answers : (room len : ℕ) → sentDef s room len ≡ unsent s number
-  pub buffer : (room : ℕ) (xs : List ℕ) → bufferAfter s room xs ≡ xs
+  pub answers : (work len : ℕ) → sentDef s work len ≡ unsent s number
+  pub buffer : (work : ℕ) (xs : List ℕ) → bufferAfter s work xs ≡ xs
   pub work : (len : ℕ) (ws : List ℕ) → workAfter s len ws ≡ ws

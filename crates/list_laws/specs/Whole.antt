@@ -35,13 +35,13 @@ pub record WrittenWhole (run : Run) (device : ℕ) : Type 0 where
   -- `chunk_length` answers each one's bytes, and `part_length` at most the largest head
   pub long : (k : ℕ) → k < chunkCount run → lengthAnswer run k ≡ record { number = 0; value = length (sent run device k) }
   pub part : (k : ℕ) → k < chunkCount run → (partAnswer run k .number ≡ 0) × (partAnswer run k .value ≤ largestHead)
-  -- `write_chunk` accepts each one in a buffer of its length, with a work buffer of `room` bytes, the largest head's or more
-  pub accepts : (k room : ℕ) → k < chunkCount run → largestHead ≤ room → writeNumber run k (length (sent run device k)) room ≡ 0
+  -- `write_chunk` accepts each one in a buffer of its length, with a work buffer of `work` bytes, the largest head's or more
+  pub accepts : (k work : ℕ) → k < chunkCount run → largestHead ≤ work → writeNumber run k (length (sent run device k)) work ≡ 0
   -- by its contract it answers 0 and leaves the chunk's bytes in a buffer of the length answered, with a work buffer no shorter than answered
-  pub leaves : (k room r : ℕ) (old left : List ℕ) → k < chunkCount run → partAnswer run k .value ≤ room → length old ≡ lengthAnswer run k .value
-      → Written (writeNumber run k (length old) room) (sent run device k) old r left → (r ≡ 0) × (left ≡ sent run device k)
+  pub leaves : (k work r : ℕ) (old left : List ℕ) → k < chunkCount run → partAnswer run k .value ≤ work → length old ≡ lengthAnswer run k .value
+      → Written (writeNumber run k (length old) work) (sent run device k) old r left → (r ≡ 0) × (left ≡ sent run device k)
   -- there is no other chunk
-  pub none : (k len room : ℕ) → chunkCount run ≤ k → (placeNumber run k ≡ noPlace) × (writeNumber run k len room ≡ noPlace)
+  pub none : (k len work : ℕ) → chunkCount run ≤ k → (placeNumber run k ≡ noPlace) × (writeNumber run k len work ≡ noPlace)
   -- all chunks, one after the other, are the list's bytes: as many as the closed form says
   pub whole : sentAll run device ≡ listBytes (listOf run device)
   pub bytes : length (sentAll run device) ≡ listLength (run .geometry)

@@ -37,13 +37,13 @@ module _ (run : Run) where
       let o = or-zero (formatNumber run) _ z in
       (o .0, below-at (run .geometry .agcount + 3) k (leb (run .geometry .agcount + 3) k) refl (o .1))
 
-  pub write-zero : (k len room : ℕ) → writeNumber run k len room ≡ 0 → (placeNumber run k ≡ 0) × (len ≡ listedLength (run .geometry) k) × (partLength (run .geometry) k ≤ room)
+  pub write-zero : (k len work : ℕ) → writeNumber run k len work ≡ 0 → (placeNumber run k ≡ 0) × (len ≡ listedLength (run .geometry) k) × (partLength (run .geometry) k ≤ work)
   unfolding writeNumber
-  write-zero k len room z =
+  write-zero k len work z =
       let o = or-zero (placeNumber run k) _ z in
-      let p = passed 27 (require 27 (leb (partLength (run .geometry) k) room) 0) (eqb len (listedLength (run .geometry) k)) (omega arith) (o .1) in
-      let q = passed 27 0 (leb (partLength (run .geometry) k) room) (omega arith) (p .1) in
-      (o .0, eqb-true len (listedLength (run .geometry) k) (p .0), leb-true (partLength (run .geometry) k) room (q .0))
+      let p = passed 27 (require 27 (leb (partLength (run .geometry) k) work) 0) (eqb len (listedLength (run .geometry) k)) (omega arith) (o .1) in
+      let q = passed 27 0 (leb (partLength (run .geometry) k) work) (omega arith) (p .1) in
+      (o .0, eqb-true len (listedLength (run .geometry) k) (p .0), leb-true (partLength (run .geometry) k) work (q .0))
 
   -- chunk k is there, or not
   pub place-there : (k : ℕ) → formatNumber run ≡ 0 → k - 2 ≤ run .geometry .agcount → 0 ≡ placeNumber run k
@@ -55,28 +55,28 @@ module _ (run : Run) where
   place-none k f h = or-second (formatNumber run) _ 29 f (rw (le-leb (run .geometry .agcount + 3) k (omega arith)) refl)
 
   -- the buffer has the chunk's length and the work buffer is long enough, or not
-  pub write-fits : (k len room : ℕ) → placeNumber run k ≡ 0 → len ≡ listedLength (run .geometry) k → partLength (run .geometry) k ≤ room → 0 ≡ writeNumber run k len room
+  pub write-fits : (k len work : ℕ) → placeNumber run k ≡ 0 → len ≡ listedLength (run .geometry) k → partLength (run .geometry) k ≤ work → 0 ≡ writeNumber run k len work
   unfolding writeNumber
-  write-fits k len room z e h = or-second (placeNumber run k) _ 0 z (rw (eq-eqb len (listedLength (run .geometry) k) e, le-leb (partLength (run .geometry) k) room h) refl)
+  write-fits k len work z e h = or-second (placeNumber run k) _ 0 z (rw (eq-eqb len (listedLength (run .geometry) k) e, le-leb (partLength (run .geometry) k) work h) refl)
 
-  pub write-other : (k len room : ℕ) → placeNumber run k ≡ 0 → (len ≡ listedLength (run .geometry) k → ⊥) → 27 ≡ writeNumber run k len room
+  pub write-other : (k len work : ℕ) → placeNumber run k ≡ 0 → (len ≡ listedLength (run .geometry) k → ⊥) → 27 ≡ writeNumber run k len work
   unfolding writeNumber
-  write-other k len room z h = or-second (placeNumber run k) _ 27 z (rw (ne-eqb len (listedLength (run .geometry) k) h) refl)
+  write-other k len work z h = or-second (placeNumber run k) _ 27 z (rw (ne-eqb len (listedLength (run .geometry) k) h) refl)
 
-  pub write-narrow : (k len room : ℕ) → placeNumber run k ≡ 0 → len ≡ listedLength (run .geometry) k → room < partLength (run .geometry) k → 27 ≡ writeNumber run k len room
+  pub write-narrow : (k len work : ℕ) → placeNumber run k ≡ 0 → len ≡ listedLength (run .geometry) k → work < partLength (run .geometry) k → 27 ≡ writeNumber run k len work
   unfolding writeNumber
-  write-narrow k len room z e h = or-second (placeNumber run k) _ 27 z (rw (eq-eqb len (listedLength (run .geometry) k) e, lt-leb (partLength (run .geometry) k) room h) refl)
+  write-narrow k len work z e h = or-second (placeNumber run k) _ 27 z (rw (eq-eqb len (listedLength (run .geometry) k) e, lt-leb (partLength (run .geometry) k) work h) refl)
 
 -- what the lengths of a chunk's buffer and of the work buffer say
-pub record Filling (run : Run) (k len room : ℕ) : Type 0 where
+pub record Filling (run : Run) (k len work : ℕ) : Type 0 where
   pub format : formatNumber run ≡ 0
   pub there : k < run .geometry .agcount + 3
   pub long : len ≡ listedLength (run .geometry) k
-  pub sufficient : partLength (run .geometry) k ≤ room
+  pub sufficient : partLength (run .geometry) k ≤ work
 
-pub filling : (run : Run) (k len room : ℕ) → writeNumber run k len room ≡ 0 → Filling run k len room
-filling run k len room z =
-    let w = write-zero run k len room z in
+pub filling : (run : Run) (k len work : ℕ) → writeNumber run k len work ≡ 0 → Filling run k len work
+filling run k len work z =
+    let w = write-zero run k len work z in
     let p = place-zero run k (w .0) in
     record { format = p .0; there = p .1; long = w .1; sufficient = w .2 }
 

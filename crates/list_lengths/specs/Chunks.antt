@@ -43,8 +43,8 @@ placeNumber run k = orNext (formatNumber run) (when (leb (chunkCount run) k) noP
 -- the number of a chunk, then 27 for a buffer of another length than the chunk's or a work buffer shorter than its part; a chunk that
 -- isn't there has none
 unfoldable pub writeNumber : Run → ℕ → ℕ → ℕ → ℕ
-writeNumber run k len room =
-    orNext (placeNumber run k) (require wrongLength (eqb len (listedLength (run .geometry) k)) (require wrongLength (leb (partLength (run .geometry) k) room) 0))
+writeNumber run k len work =
+    orNext (placeNumber run k) (require wrongLength (eqb len (listedLength (run .geometry) k)) (require wrongLength (leb (partLength (run .geometry) k) work) 0))
 
 -- the count where the number is 0, else the refusal
 abbrev pub counted : ℕ → ℕ → Counted

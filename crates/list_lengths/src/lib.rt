@@ -76,9 +76,9 @@ fn place_number(run: Run, k: u64) -> u32
     refusals::NO_PLACE
 }
 
-// Whether chunk k can be made in a buffer of `len` bytes with a work buffer of `room`: 31, 25, 26, 29, 27, or 0.
-pub fn write_number(run: Run, k: u64, len: usize, room: usize) -> u32
-    ensures { λ r. ⌜ r ≡ writeNumber run k len room ⌝ }
+// Whether chunk k can be made in a buffer of `len` bytes with a work buffer of `work`: 31, 25, 26, 29, 27, or 0.
+pub fn write_number(run: Run, k: u64, len: usize, work: usize) -> u32
+    ensures { λ r. ⌜ r ≡ writeNumber run k len work ⌝ }
 {
     let n = place_number(run, k);
     if n != 0 {
@@ -88,7 +88,7 @@ pub fn write_number(run: Run, k: u64, len: usize, room: usize) -> u32
     if len != listed_length(g, k) {
         return refusals::WRONG_LENGTH;
     }
-    if listed_part(g, k) <= room {
+    if listed_part(g, k) <= work {
         return 0;
     }
     refusals::WRONG_LENGTH

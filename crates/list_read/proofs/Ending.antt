@@ -68,7 +68,7 @@ unfolding ruled total
 has-two n [] z = end-two n (eqb n 2) refl z
 has-two n (w ∷ ws) z = let h = has-two (n + byKind 0 0 1 w) ws (went-on n w ws (leb 2 n) refl z .1) in omega arith
 
-is-last : (n : ℕ) (w : Record) (ws : List Record) → n < 2 → ruled (n + byKind 0 0 1 w) ws ≡ 0 → (front : List Record) × (w ∷ ws ≡ front ++ (FL ∷ []))
+is-last : (n : ℕ) (w : Record) (ws : List Record) → n < 2 → ruled (n + byKind 0 0 1 w) ws ≡ 0 → (prefix : List Record) × (w ∷ ws ≡ prefix ++ (FL ∷ []))
 unfolding total
 is-last n FL [] h z = ([], refl)
 is-last n (WZ at len) [] h z = let e = has-two (n + 0) [] z in absurd (omega arith)
@@ -80,13 +80,13 @@ is-last n w (v ∷ vs) h z =
     (w ∷ rest .0, ap (λ (xs : List Record). w ∷ xs) (rest .1))
 
 -- both flushes, the second last: accepted
-accepts : (n : ℕ) (front : List Record) → n + flushes (front ++ (FL ∷ [])) ≡ 2 → ruled n (front ++ (FL ∷ [])) ≡ 0
+accepts : (n : ℕ) (prefix : List Record) → n + flushes (prefix ++ (FL ∷ [])) ≡ 2 → ruled n (prefix ++ (FL ∷ [])) ≡ 0
 unfolding ruled total
 accepts n [] e = sym (whole-end (n + 1) (omega arith) ∙ goes-on n FL [] (omega arith))
-accepts n (w ∷ front) e =
-    let ws = front ++ (FL ∷ []) in
-    let l = total-append (byKind 0 0 1) front (FL ∷ []) in
-    sym (goes-on n w ws (omega arith)) ∙ accepts (n + byKind 0 0 1 w) front (omega arith)
+accepts n (w ∷ prefix) e =
+    let ws = prefix ++ (FL ∷ []) in
+    let l = total-append (byKind 0 0 1) prefix (FL ∷ []) in
+    sym (goes-on n w ws (omega arith)) ∙ accepts (n + byKind 0 0 1 w) prefix (omega arith)
 
 whole-from : (ws : List Record) → ruled 0 ws ≡ 0 → WholeList ws
 unfolding total
@@ -94,11 +94,11 @@ whole-from [] z = let h = has-two 0 [] z in absurd (omega arith)
 whole-from (w ∷ ws) z =
     let last = is-last 0 w ws (omega arith) (went-on 0 w ws false refl z .1) in
     let two = has-two 0 (w ∷ ws) z in
-    record { two = omega arith; front = last .0; last = last .1 }
+    record { two = omega arith; prefix = last .0; last = last .1 }
 
 -- The rule accepts exactly the lists with two flushes whose last record is a flush.
 pub whole-list : (ws : List Record) → (ruled 0 ws ≡ 0) ↔ WholeList ws
-whole-list ws = (whole-from ws, λ h. ap (ruled 0) (h .last) ∙ accepts 0 (h .front) (omega (arith, h .two, ap flushes (h .last))))
+whole-list ws = (whole-from ws, λ h. ap (ruled 0) (h .last) ∙ accepts 0 (h .prefix) (omega (arith, h .two, ap flushes (h .last))))
 
 -- A list with fewer is cut, whatever its last record.
 fewer : (n : ℕ) (ws : List Record) → n + flushes ws < 2 → 28 ≡ ruled n ws

@@ -38,5 +38,5 @@ ruled n (w ∷ ws) =
 -- A whole list has two flushes, and its last record is one.
 pub record WholeList (ws : List Record) : Type 0 where
   pub two : flushes ws ≡ 2
-  pub front : List Record
-  pub last : ws ≡ front ++ (FL ∷ [])
+  pub prefix : List Record
+  pub last : ws ≡ prefix ++ (FL ∷ [])

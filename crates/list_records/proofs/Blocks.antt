@@ -18,9 +18,9 @@ all-map p q [] f a = tt
 all-map p q (x ∷ xs) f a = (f x (a .0), all-map p q xs f (a .1))
 
 -- of a list, all before a cut
-pub all-front : (q : Record → Type 0) (xs ys : List Record) → All q (xs ++ ys) → All q xs
-all-front q [] ys a = tt
-all-front q (x ∷ xs) ys a = (a .0, all-front q xs ys (a .1))
+pub all-prefix : (q : Record → Type 0) (xs ys : List Record) → All q (xs ++ ys) → All q xs
+all-prefix q [] ys a = tt
+all-prefix q (x ∷ xs) ys a = (a .0, all-prefix q xs ys (a .1))
 
 -- ---- a write split into n blocks, with bytes enough for them
 

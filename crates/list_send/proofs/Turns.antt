@@ -55,16 +55,16 @@ module _ (s : State) where
   wants-chunk k c z l e f = f ∙ rw (z, ne-eqb (s .left) 0 l, e) refl
 
 -- ---- the number of a turn
-module _ (s : State) (room len : ℕ) (w : Counted) (is : w ≡ wantedOf s) where
-  pub not-wanted : (w .number ≡ 0 → ⊥) → sendNumber s room len ≡ w .number
+module _ (s : State) (work len : ℕ) (w : Counted) (is : w ≡ wantedOf s) where
+  pub not-wanted : (w .number ≡ 0 → ⊥) → sendNumber s work len ≡ w .number
   unfolding sendNumber
   not-wanted h = rw (← is, ne-eqb (w .number) 0 h) refl
 
-  pub too-short : w .number ≡ 0 → len < w .value → sendNumber s room len ≡ 27
+  pub too-short : w .number ≡ 0 → len < w .value → sendNumber s work len ≡ 27
   unfolding sendNumber
   too-short z h = rw (← is, z, lt-leb (w .value) len h) refl
 
-  pub as-written : w .number ≡ 0 → w .value ≤ len → sendNumber s room len ≡ writeNumber (s .run) (nextOf s) (w .value) room
+  pub as-written : w .number ≡ 0 → w .value ≤ len → sendNumber s work len ≡ writeNumber (s .run) (nextOf s) (w .value) work
   unfolding sendNumber
   as-written z h = rw (← is, z, le-leb (w .value) len h) refl
 
@@ -124,15 +124,15 @@ module _ (s : State) (work buf : List ℕ) (w : Counted) (is : w ≡ wantedOf s)
         (written-in p q ∙ ap (λ (j : ℕ). patch 0 (partBytes (s .run) j) work) at) (omega arith)
 
 -- ---- one turn more, where `left` of n turns are still to come
-pub turn-more : (s t u : State) (n left room len : ℕ) → t ≡ sentOn (n - left) s room len → u ≡ sentDef t room len .sending → 0 < left → left ≤ n → u ≡ sentOn (n - (left - 1)) s room len
+pub turn-more : (s t u : State) (n left work len : ℕ) → t ≡ sentOn (n - left) s work len → u ≡ sentDef t work len .sending → 0 < left → left ≤ n → u ≡ sentOn (n - (left - 1)) s work len
 unfolding sentOn
-turn-more s t u n left room len e f h l =
+turn-more s t u n left work len e f h l =
     let k : suc (n - left) ≡ n - (left - 1) = omega arith in
-    f ∙ ap (λ (v : State). sentDef v room len .sending) e ∙ ap (λ (i : ℕ). sentOn i s room len) k
+    f ∙ ap (λ (v : State). sentDef v work len .sending) e ∙ ap (λ (i : ℕ). sentOn i s work len) k
 
-pub no-turn : (s : State) (n room len : ℕ) → s ≡ sentOn (n - n) s room len
+pub no-turn : (s : State) (n work len : ℕ) → s ≡ sentOn (n - n) s work len
 unfolding sentOn
-no-turn s n room len = let e : 0 ≡ n - n = omega arith in ap (λ (i : ℕ). sentOn i s room len) e
+no-turn s n work len = let e : 0 ≡ n - n = omega arith in ap (λ (i : ℕ). sentOn i s work len) e
 
-pub all-turns : (s t : State) (n left room len : ℕ) → t ≡ sentOn (n - left) s room len → left ≡ 0 → n ≡ s .left → t ≡ sentOn (s .left) s room len
-all-turns s t n left room len e z f = let k : n - left ≡ s .left = omega arith in e ∙ ap (λ (i : ℕ). sentOn i s room len) k
+pub all-turns : (s t : State) (n left work len : ℕ) → t ≡ sentOn (n - left) s work len → left ≡ 0 → n ≡ s .left → t ≡ sentOn (s .left) s work len
+all-turns s t n left work len e z f = let k : n - left ≡ s .left = omega arith in e ∙ ap (λ (i : ℕ). sentOn i s work len) k

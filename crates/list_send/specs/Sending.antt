@@ -62,12 +62,12 @@ wantedOf s =
 unfoldable pub longestOf : State → ℕ
 longestOf s = max (lengthAnswer (s .run) 1 .value) (lengthAnswer (s .run) (s .count - 2) .value)
 
--- with a work buffer of `room` bytes and a buffer of `len`: 27 where the chunk is longer than the buffer, and then what `write_chunk` answers
+-- with a work buffer of `work` bytes and a buffer of `len`: 27 where the chunk is longer than the buffer, and then what `write_chunk` answers
 -- in as many bytes as the chunk has
 unfoldable pub sendNumber : State → ℕ → ℕ → ℕ
-sendNumber s room len =
+sendNumber s work len =
     orNext (wantedOf s .number)
-    (require wrongLength (leb (wantedOf s .value) len) (writeNumber (s .run) (nextOf s) (wantedOf s .value) room))
+    (require wrongLength (leb (wantedOf s .value) len) (writeNumber (s .run) (nextOf s) (wantedOf s .value) work))
 
 -- refused, and everything as it was
 abbrev pub unsent : State → ℕ → Sent
@@ -75,13 +75,13 @@ unsent s n = record { number = n; length = 0; sending = s }
 
 -- what a turn answers
 unfoldable pub sentDef : State → ℕ → ℕ → Sent
-sentDef s room len =
-    let n = sendNumber s room len in
+sentDef s work len =
+    let n = sendNumber s work len in
     choose (eqb n 0) (record { number = 0; length = wantedOf s .value; sending = stepped s }) (unsent s n)
 
 -- and leaves in a buffer that held xs: the chunk at its start, or what stood there
 abbrev pub bufferAfter : State → ℕ → List ℕ → List ℕ
-bufferAfter s room xs = chosen (eqb (sendNumber s room (length xs)) 0) (patch 0 (pieceOf s) xs) xs
+bufferAfter s work xs = chosen (eqb (sendNumber s work (length xs)) 0) (patch 0 (pieceOf s) xs) xs
 
 -- and in a work buffer that held ws: the part that the chunk is split from
 abbrev pub workAfter : State → ℕ → List ℕ → List ℕ
@@ -98,8 +98,8 @@ pub record Turn (s : State) (r : Sent) (work buf workLeft left : List ℕ) : Typ
 
 -- the state after them
 unfoldable pub sentOn : ℕ → State → ℕ → ℕ → State
-sentOn zero s room len = s
-sentOn (suc n) s room len = sentDef (sentOn n s room len) room len .sending
+sentOn zero s work len = s
+sentOn (suc n) s work len = sentDef (sentOn n s work len) work len .sending
 
 -- the state after all that are due, with these buffers
 abbrev pub allSent : State → List ℕ → List ℕ → State
@@ -107,6 +107,6 @@ allSent s work buf = sentOn (s .left) s (length work) (length buf)
 
 -- the bytes that they hand out, one after the other
 unfoldable pub handed : ℕ → State → ℕ → List ℕ → List ℕ
-handed zero s room xs = []
-handed (suc n) s room xs =
-    take (sentDef s room (length xs) .length) (bufferAfter s room xs) ++ handed n (sentDef s room (length xs) .sending) room (bufferAfter s room xs)
+handed zero s work xs = []
+handed (suc n) s work xs =
+    take (sentDef s work (length xs) .length) (bufferAfter s work xs) ++ handed n (sentDef s work (length xs) .sending) work (bufferAfter s work xs)

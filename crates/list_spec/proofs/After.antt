@@ -8,7 +8,7 @@ use lib.ListN.{length, take, drop, getD, length-append}
 use lib.Seq.{length-take-le, getD-drop}
 use Rattle.run.specs.declared.Run.{Run}
 use Rattle.list_records.specs.Records.{Record, WB, FL, All, blocks}
-use Rattle.list_records.proofs.Blocks.{all-append, all-front}
+use Rattle.list_records.proofs.Blocks.{all-append, all-prefix}
 use Rattle.list_device.specs.Device.{Device, step, applied}
 use Rattle.list_device.proofs.Reading.{getD-read}
 use Rattle.list_device.proofs.Applying.{step-miss, applied-append, Idle, idle, blocks-idle}
@@ -84,7 +84,7 @@ module _ (run : Run) (device : ℕ) (s : Sound run device) where
       let c = cut-behind firsts (lasts n) cut rest (e ∙ q) (omega (arith, firsts-length)) in
       let middle = drop (length firsts) cut in
       let stay = lasts-idle n m in
-      ap (λ (l : List Record). applied l d) (c .0) ∙ ends middle (all-front (Idle Behind) middle rest (rw (c .1) stay))
+      ap (λ (l : List Record). applied l d) (c .0) ∙ ends middle (all-prefix (Idle Behind) middle rest (rw (c .1) stay))
       ∙ sym (ap (λ (l : List Record). applied l d) q ∙ ends (lasts n) stay)
     where
       ends : (rs : List Record) → All (Idle Behind) rs → applied (firsts ++ rs) d ≡ applied firsts d

@@ -9,7 +9,7 @@ use lib.ListN.{length, take, drop}
 use lib.Seq.{length-take-le}
 use Rattle.run.specs.declared.Run.{Run}
 use Rattle.list_records.specs.Records.{Record, FL, All, blocks}
-use Rattle.list_records.proofs.Blocks.{all-append, all-front, all-map}
+use Rattle.list_records.proofs.Blocks.{all-append, all-prefix, all-map}
 use Rattle.list_device.specs.Device.{Device, step, applied, Misses}
 use Rattle.list_device.proofs.Applying.{step-missed, zeros-left, bytes-left, blocks-miss, Keeps, kept}
 use Rattle.list_spec.specs.Listing.{headBlocks, headWritten, opening, headRecords, headsTo, chunkRecords}
@@ -74,4 +74,4 @@ module _ (run : Run) (device : ℕ) (s : Sound run device) where
   early (r ∷ cut) rest e h d =
       let first : r ∷ [] ≡ take 1 (opening run device) = cc in
       let same : cut ++ rest ≡ drop 1 (opening run device) ++ ((headsTo run (run .geometry .agcount) ++ chunkRecords run) ++ (FL ∷ [])) = cc in
-      kept (Early run) cut (step r d) (all-front (Keeps (Early run)) cut rest (rw same rest-keep)) (subst (λ (rs : List Record). Early run (applied rs d)) (sym first) (first-early d))
+      kept (Early run) cut (step r d) (all-prefix (Keeps (Early run)) cut rest (rw same rest-keep)) (subst (λ (rs : List Record). Early run (applied rs d)) (sym first) (first-early d))

@@ -12,14 +12,14 @@ use Rattle.list_spec.specs.Listing.{opening, headRecords, headsTo, chunk
 use Rattle.list_spec.specs.Left.{unfinished}
 
 -- a list cut behind a prefix of it
-pub cut-behind : {A : Type 0} (front behind cut rest : List A) → cut ++ rest ≡ front ++ behind → length front ≤ length cut
-    → (cut ≡ front ++ drop (length front) cut) × (drop (length front) cut ++ rest ≡ behind)
+pub cut-behind : {A : Type 0} (prefix behind cut rest : List A) → cut ++ rest ≡ prefix ++ behind → length prefix ≤ length cut
+    → (cut ≡ prefix ++ drop (length prefix) cut) × (drop (length prefix) cut ++ rest ≡ behind)
 cut-behind [] behind cut rest e h = (refl, e)
-cut-behind (x ∷ front) behind [] rest e h = absurd (omega arith)
-cut-behind (x ∷ front) behind (y ∷ cut) rest e h =
+cut-behind (x ∷ prefix) behind [] rest e h = absurd (omega arith)
+cut-behind (x ∷ prefix) behind (y ∷ cut) rest e h =
     let same : y ≡ x = cc in
-    let tails : cut ++ rest ≡ front ++ behind = cc in
-    let c = cut-behind front behind cut rest tails (omega arith) in
+    let tails : cut ++ rest ≡ prefix ++ behind = cc in
+    let c = cut-behind prefix behind cut rest tails (omega arith) in
     (rw same (ap (λ l. x ∷ l) (c .0)), c .1)
 
 -- the list is what stands before the first flush, and the closing

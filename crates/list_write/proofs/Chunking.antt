@@ -168,10 +168,10 @@ module _ (g : Geometry) (z : Bounds g) where
   root-few = z .places .chunk-room
 
   -- n blocks of group k from block b on, over the whole buffer
-  pub blocks-room : (bs at n few k b len room : ℕ) → bs ≡ g .blocksize → n ≡ few → at ≡ byteOf bs (g .agsize) k b → k < g .agcount → b + few ≤ 1000 → len ≡ few * g .blocksize → room ≡ blocksLength (g .blocksize) few
-      → (at + n * bs ≤ 2 ^ 64) × (0 < bs) × (n * bs ≤ len) × (0 + n * (18 + bs) ≤ room)
+  pub blocks-room : (bs at n few k b len work : ℕ) → bs ≡ g .blocksize → n ≡ few → at ≡ byteOf bs (g .agsize) k b → k < g .agcount → b + few ≤ 1000 → len ≡ few * g .blocksize → work ≡ blocksLength (g .blocksize) few
+      → (at + n * bs ≤ 2 ^ 64) × (0 < bs) × (n * bs ≤ len) × (0 + n * (18 + bs) ≤ work)
   unfolding byteOf before blocksLength
-  blocks-room bs at n few k b len room e m a h f l r =
+  blocks-room bs at n few k b len work e m a h f l r =
       let w = group-blocks g z k b few h f in
       let s = size-least g z in
       rw (a, m, e) (w, omega arith, omega arith, omega arith)

@@ -157,9 +157,9 @@ module _ (bs offset n at : ℕ) (src : List ℕ) where
   blocks-end j xs ys h e = blocks-none j ys h ∙ e
 
 -- what block j needs
-pub nth-room : (bs offset n at j len room : ℕ) → j < n → offset + n * bs ≤ 2 ^ 64 → 0 < bs → n * bs ≤ len → at + n * (18 + bs) ≤ room
-    → (offset + j * bs < 2 ^ 64) × (j * bs + bs ≤ len) × (at + (j * (18 + bs) + (18 + bs)) ≤ room)
-nth-room bs offset n at j len room h o b l r =
+pub nth-room : (bs offset n at j len work : ℕ) → j < n → offset + n * bs ≤ 2 ^ 64 → 0 < bs → n * bs ≤ len → at + n * (18 + bs) ≤ work
+    → (offset + j * bs < 2 ^ 64) × (j * bs + bs ≤ len) × (at + (j * (18 + bs) + (18 + bs)) ≤ work)
+nth-room bs offset n at j len work h o b l r =
     let s : suc j ≤ n = omega arith in
     let v = mul-le-mul-right bs s in
     let w = mul-le-mul-right (18 + bs) s in

@@ -28,20 +28,20 @@ ends : ℕ → List Span → Bool
 ends m [] = true
 ends m (s ∷ ss) = leb (s .from + s .size) m && ends m ss
 
-patch-front : (m o : ℕ) (bs xs ys : List ℕ) → length xs ≡ m → o + length bs ≤ m → patch o bs (xs ++ ys) ≡ patch o bs xs ++ ys
-patch-front m o bs xs ys e h =
+patch-prefix : (m o : ℕ) (bs xs ys : List ℕ) → length xs ≡ m → o + length bs ≤ m → patch o bs (xs ++ ys) ≡ patch o bs xs ++ ys
+patch-prefix m o bs xs ys e h =
     sym (take-append-drop m (patch o bs (xs ++ ys)))
     ∙ ap₂ (λ (a b : List ℕ). a ++ b) (take-patch m o bs (xs ++ ys) h ∙ ap (patch o bs) (take-at xs ys m e)) (drop-patch m o bs (xs ++ ys) h ∙ drop-at xs ys m e)
 
-write-front : (m : ℕ) (fs : List Field) (xs ys : List ℕ) → length xs ≡ m → T (ends m (spans fs)) → write fs (xs ++ ys) ≡ write fs xs ++ ys
+write-prefix : (m : ℕ) (fs : List Field) (xs ys : List ℕ) → length xs ≡ m → T (ends m (spans fs)) → write fs (xs ++ ys) ≡ write fs xs ++ ys
 unfolding ends
-write-front m [] xs ys e t = refl
-write-front m (f ∷ fs) xs ys e t =
+write-prefix m [] xs ys e t = refl
+write-prefix m (f ∷ fs) xs ys e t =
     let o = f .at in
     let bs = f .bytes in
     let h = leb→le (o + length bs) m (and-left (leb (o + length bs) m) (ends m (spans fs)) t) in
-    ap (write fs) (patch-front m o bs xs ys e h)
-    ∙ write-front m fs (patch o bs xs) ys (length-patch o bs xs ∙ e) (and-right (leb (o + length bs) m) (ends m (spans fs)) t)
+    ap (write fs) (patch-prefix m o bs xs ys e h)
+    ∙ write-prefix m fs (patch o bs xs) ys (length-patch o bs xs ∙ e) (and-right (leb (o + length bs) m) (ends m (spans fs)) t)
 
 -- ---- fields in the second, counted from its start
 
@@ -72,7 +72,7 @@ sector-length fs = write-length fs (replicate 512 0) ∙ length-replicate {A = �
 
 -- a sector with the fields, from zeros
 sector-of : (fs : List Field) (ys : List ℕ) → T (ends 512 (spans fs)) → write fs (replicate 512 0 ++ ys) ≡ sector fs ++ ys
-sector-of fs ys t = write-front 512 fs (replicate 512 0) ys (length-replicate {A = ℕ} 512 0) t
+sector-of fs ys t = write-prefix 512 fs (replicate 512 0) ys (length-replicate {A = ℕ} 512 0) t
 
 zeros-sector : (n m : ℕ) → m ≡ 512 + n → replicate {A = ℕ} m 0 ≡ replicate 512 0 ++ replicate n 0
 zeros-sector n m e = ap (λ (k : ℕ). replicate k 0) e ∙ sym (replicate-append-replicate 512 n 0)

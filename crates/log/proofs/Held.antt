@@ -19,23 +19,23 @@ use Rattle.log.proofs.Laws.{blocks-least}
 abbrev Within : ℕ → ℕ → List Field → Type 0
 Within o m fs = T (rises o (spans fs)) × (end o (spans fs) ≤ m)
 
--- one field more in front
-in-front : (o m : ℕ) (f : Field) (fs : List Field) → o ≤ f .at → Within (f .at + length (f .bytes)) m fs → Within o m (f ∷ fs)
-in-front o m f fs h w = (both (leb o (f .at)) (rises (f .at + length (f .bytes)) (spans fs)) (le-test o (f .at) h) (w .0), w .1)
+-- one field more before them
+with-more : (o m : ℕ) (f : Field) (fs : List Field) → o ≤ f .at → Within (f .at + length (f .bytes)) m fs → Within o m (f ∷ fs)
+with-more o m f fs h w = (both (leb o (f .at)) (rises (f .at + length (f .bytes)) (spans fs)) (le-test o (f .at) h) (w .0), w .1)
 
 -- stamps of blocks behind the block `k`, the last fields of a record
 stamps-in : (cycle k n o m : ℕ) → o ≤ 512 * suc k → 512 * (suc k + n) ≤ m → Within o m (stamps cycle (suc k) n)
 unfolding stamps beBytes
 stamps-in cycle k zero o m h g = (tt, omega arith)
 stamps-in cycle k (suc n) o m h g =
-    in-front o m (record { at = 512 * suc k; bytes = beBytes 4 cycle }) (stamps cycle (suc (suc k)) n) h
+    with-more o m (record { at = 512 * suc k; bytes = beBytes 4 cycle }) (stamps cycle (suc (suc k)) n) h
     (stamps-in cycle (suc k) n (512 * suc k + 4) m (omega arith) (omega arith))
 
--- in front of them the header and the unmount record, whose places are numbers
-front-in : (uuid : List ℕ) (sunit lsn tailLsn cycle m : ℕ) (fs : List Field) → length uuid ≡ 16 → Within 526 m fs
+-- before them the header and the unmount record, whose places are numbers
+prefix-in : (uuid : List ℕ) (sunit lsn tailLsn cycle m : ℕ) (fs : List Field) → length uuid ≡ 16 → Within 526 m fs
     → Within 0 m (headerFields uuid sunit lsn tailLsn ++ (unmountFields 512 cycle ++ fs))
 unfolding headerFields unmountFields beBytes leBytes
-front-in uuid sunit lsn tailLsn cycle m fs u w = rw u w
+prefix-in uuid sunit lsn tailLsn cycle m fs u w = rw u w
 
 -- the fields of a record are held
 pub record-holds : (uuid : List ℕ) (sunit lsn tailLsn : ℕ) → length uuid ≡ 16 → Holds (recordFields uuid sunit lsn tailLsn) (recordBytes uuid sunit lsn tailLsn)
@@ -45,6 +45,6 @@ record-holds uuid sunit lsn tailLsn u =
     let b = blocks-least sunit in
     let fs = recordFields uuid sunit lsn tailLsn in
     let w : Within 0 m fs =
-    front-in uuid sunit lsn tailLsn (cycleOf lsn) m (stamps (cycleOf lsn) 2 (blocksOf sunit - 2)) u (stamps-in (cycleOf lsn) 1 (blocksOf sunit - 2) 526 m (lit≤ tt) (omega arith)) in
+    prefix-in uuid sunit lsn tailLsn (cycleOf lsn) m (stamps (cycleOf lsn) 2 (blocksOf sunit - 2)) u (stamps-in (cycleOf lsn) 1 (blocksOf sunit - 2) 526 m (lit≤ tt) (omega arith)) in
     let z : length (replicate {A = ℕ} m 0) ≡ m = length-replicate m 0 in
     held (spans fs) m (rises-tidy 0 m (spans fs) (w .0) (w .1)) fs refl (replicate m 0) (omega arith)

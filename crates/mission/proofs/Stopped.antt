@@ -42,29 +42,29 @@ module _ (run : Run) (device : ℕ) where
       )
 
   -- the list is these, and the header blocks and the last flush
-  front : List Record
-  front = unfinished run device ++ (FL ∷ [])
+  prefix : List Record
+  prefix = unfinished run device ++ (FL ∷ [])
 
-  list-front : listOf run device ≡ front ++ (headerRecords run ++ (FL ∷ []))
-  unfolding front closing
-  list-front = list-parts run device ∙ sym (append-assoc (unfinished run device) (FL ∷ []) (headerRecords run ++ (FL ∷ [])))
+  list-prefix : listOf run device ≡ prefix ++ (headerRecords run ++ (FL ∷ []))
+  unfolding prefix closing
+  list-prefix = list-parts run device ∙ sym (append-assoc (unfinished run device) (FL ∷ []) (headerRecords run ++ (FL ∷ [])))
 
-  front-length : length front ≡ beforeFinished (run .geometry)
-  unfolding front
-  front-length = omega (arith, length-append (unfinished run device) (FL ∷ []), unfinished-length)
+  prefix-length : length prefix ≡ beforeFinished (run .geometry)
+  unfolding prefix
+  prefix-length = omega (arith, length-append (unfinished run device) (FL ∷ []), unfinished-length)
 
 module _ (r : Request) (a : AcceptedRun r) (old : Device) where
   abbrev run : Run
   run = runOf r
 
   pub its-refused : (n : ℕ) → 0 < n → n ≤ beforeFinished (run .geometry) → readGroup0 (headOn (run .geometry) (stopped r n old) 0) .number ≡ 30
-  unfolding front
+  unfolding prefix
   its-refused n o h =
-      let l = front-length run (r .device) in
-      let cut = take n (front run (r .device)) in
+      let l = prefix-length run (r .device) in
+      let cut = take n (prefix run (r .device)) in
       ap (λ (rs : List Record). readGroup0 (headOn (run .geometry) (applied rs old) 0) .number)
-      (ap (take n) (list-front run (r .device)) ∙ take-append-le n (front run (r .device)) _ (omega arith))
-      ∙ cut-refused r a old cut (drop n (front run (r .device))) (take-append-drop n (front run (r .device))) (omega (arith, length-take n (front run (r .device))))
+      (ap (take n) (list-prefix run (r .device)) ∙ take-append-le n (prefix run (r .device)) _ (omega arith))
+      ∙ cut-refused r a old cut (drop n (prefix run (r .device))) (take-append-drop n (prefix run (r .device))) (omega (arith, length-take n (prefix run (r .device))))
 
   finished : (n : ℕ) → beforeFinished (run .geometry) < n → stopped r n old ≡ formatted r old
   unfolding formatted beforeFinished recordCount

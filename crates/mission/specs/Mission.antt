@@ -55,7 +55,7 @@ pub record Demand1 : Type 0 where
   pub no-stranger : (g : Geometry) → TypedGeometry g → (isAnswer g ≡ true) ↔ TypedAnswer g
   -- Planning a group answers 0 or 25: 25 exactly in the log's group, where fewer blocks are free than the free list takes.
   pub refused-plans : (g : Geometry) → Answered g → (k : ℕ) → k < g .agcount
-      → planned g k .number ≡ when (both (eqb k (g .logagno)) (ltb (freeBlocks (siteOf g k)) (freelistOf (g .features)))) 25 0
+      → planned g k .number ≡ when (both (eqb k (g .logagno)) (ltb (freeBlocks (siteOf g k)) (freelistOf (g .features)))) freeListShort 0
   -- In roomy sizing no group is refused.
   pub roomy-plans : (g : Geometry) → Answered g → g .roomy ≡ true → (k : ℕ) → k < g .agcount → planned g k .number ≡ 0
   -- What the step accepts in roomy sizing it accepts in plain sizing, with a log no shorter.
@@ -64,9 +64,9 @@ pub record Demand1 : Type 0 where
       × (computeDef (withRoomy p true) device logical physical .geometry .logblocks ≤ computeDef (withRoomy p false) device logical physical .geometry .logblocks)
   -- The reader has an answer for all bytes, of any length, and no number but these.
   pub reader-numbers : (g : Geometry) (u : List ℕ) (k : ℕ) (xs : List ℕ)
-      → T (oneOf (0 ∷ 27 ∷ 30 ∷ []) (readGroup0 xs .number))
-      × T (oneOf (0 ∷ 27 ∷ 29 ∷ 30 ∷ 31 ∷ []) (readGroup g u k xs .number))
-      × T (oneOf (0 ∷ 27 ∷ 30 ∷ 31 ∷ []) (readLog g u xs))
+      → T (oneOf (0 ∷ wrongLength ∷ notLeft ∷ []) (readGroup0 xs .number))
+      × T (oneOf (0 ∷ wrongLength ∷ noPlace ∷ notLeft ∷ noAnswer ∷ []) (readGroup g u k xs .number))
+      × T (oneOf (0 ∷ wrongLength ∷ notLeft ∷ noAnswer ∷ []) (readLog g u xs))
   -- A function that fills a lent buffer promises `Put` or `Written` of its answer r and of the bytes before and after the call (`PutAll`,
   -- `PutLine`
   -- and `ChunkMade` are built alike). Where r isn't 0, no byte has changed.
@@ -133,7 +133,7 @@ pub record Demand3 : Type 0 where
   pub pass-accepts : (d : Device) → Bytes d → (n : ℕ) → turnsNeeded d ≤ n → (verdictOf (passed d n) .number ≡ 0) ↔ LeftByRun d
   -- Before its end, on such a disk, it says 27 at the place that comes next (group 0 for the first sector, agcount for the log block).
   pub pass-unfinished : (d : Device) → LeftByRun d → (n : ℕ) → n < turnsNeeded d
-      → (verdictOf (passed d n) .number ≡ 27) × (verdictOf (passed d n) .place ≡ n - 1)
+      → (verdictOf (passed d n) .number ≡ wrongLength) × (verdictOf (passed d n) .place ≡ n - 1)
   -- Whatever it is fed, from a file that changes while it is read too: 0 says that one accepted run leaves all these parts, the heads
   -- behind the first sector and the log block behind them, and that all were fed.
   pub pass-vouches : (parts : ℕ → List ℕ) → Octets (parts 1) → (n : ℕ) → verdictOf (fedBy parts n) .number ≡ 0
@@ -150,7 +150,7 @@ pub record Demand3 : Type 0 where
   -- Power lost: once the first record is written and until the finished superblock is, group 0 gets 30; from that record on all is read
   -- back.
   pub interrupted : (r : Request) → AcceptedRun r → (old : Device) (n : ℕ)
-      → (0 < n → n ≤ beforeFinished (runOf r .geometry) → readGroup0 (headOn (runOf r .geometry) (stopped r n old) 0) .number ≡ 30)
+      → (0 < n → n ≤ beforeFinished (runOf r .geometry) → readGroup0 (headOn (runOf r .geometry) (stopped r n old) 0) .number ≡ notLeft)
       × (beforeFinished (runOf r .geometry) < n → ReadBack r (stopped r n old))
   -- None of this is said of nothing: with no option at all, a device of 1 GiB with sectors of 512 bytes is accepted.
   pub some-disk : AcceptedRun (request 0 noOptions (1024 * mib) 512 512)

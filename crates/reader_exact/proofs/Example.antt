@@ -7,11 +7,12 @@ use Prim.Native.Nat.{ℕ, _*_, _<_}
 use native.Mathlib.Nat.{le-refl}
 use native.Mathlib.Omega.{arith}
 use lib.Dec.{lit<}
-use lib.ListN.{length, replicate}
+use lib.ListN.{length}
 use Rattle.arith.specs.Choice.{when, bit}
 use Rattle.arith.specs.Numbers.{ceilDiv}
 use Rattle.arith.specs.Powers.{powerIn, powerLog, leastFrom, log2Up}
-use Rattle.params.specs.Params.{noOptions, withAgcount}
+use Rattle.params.specs.declared.OptU64.the-variants.{Absent}
+use Rattle.params.specs.Params.{allFeatures, noOptions, withAgcount}
 use Rattle.geometry_sizes.specs.Sizes.{defaultSector, sizesOf, sizesRefusals}
 use Rattle.geometry.specs.declared.Geometry.{Geometry}
 use Rattle.geometry.specs.Groups.{askedBlocks, defaultSize, initialGroups, isShort, trim, optionsRefusals, groupsRefusals}
@@ -32,11 +33,10 @@ use Rattle.plan.specs.Plan.{freeAtFirst, rmapAtFirst, atFirst, failed, noted, m
 use Rattle.plan_totals.specs.Totals.{firstTo, plansNumber}
 use Rattle.inode_time.specs.Time.{timeInside, notEarly, shifted}
 use Rattle.request.specs.declared.Request.{Request}
-use Rattle.request.specs.Defaults.{timeOf, seedOf}
+use Rattle.request.specs.Defaults.{timeOf}
 use Rattle.run.specs.Runs.{stepOf, timeRefusal, runNumber, runOf}
-use Rattle.head_bytes.proofs.Below.{below-zeros}
 use Rattle.list_accepted.specs.Accepted.{AcceptedRun}
-use Rattle.list_accepted.proofs.Bytes.{below-at}
+use Rattle.list_accepted.proofs.Typed.{plain-typed}
 use Rattle.list_accepted.proofs.Runs.{run-answer, source-of}
 use Rattle.head_bytes.specs.Head.{headLength}
 use Rattle.list_spec.specs.Listing.{headWritten}
@@ -65,35 +65,8 @@ unfolding disk tight when bit ceilDiv powerIn powerLog leastFrom log2Up defaultS
 computed = record { disk-number = refl; tight-answer = refl; tight-plans = refl; zero-answer = refl }
 
 pub disk-accepted : AcceptedRun disk
-unfolding disk timeOf seedOf
-disk-accepted =
-    record {
-      typed =
-          record {
-            options =
-                record {
-                  size = lit< tt;
-                  block-size = lit< tt;
-                  sector-size = lit< tt;
-                  inode-size = lit< tt;
-                  agcount = lit< tt;
-                  agsize = lit< tt;
-                  imaxpct = lit< tt;
-                  label-length = lit< tt;
-                  label-size = refl;
-                  label-bytes = below-at 256 (replicate 12 0) (lit< tt) (below-zeros 12);
-                };
-            device = lit< tt;
-            logical = lit< tt;
-            physical = lit< tt;
-            uuid-size = refl;
-            uuid-bytes = below-at 256 (replicate 16 0) (lit< tt) (below-zeros 16);
-            seconds = lit< tt;
-            nanoseconds = lit< tt;
-            seed = lit< tt;
-          };
-      number = computed .disk-number;
-    }
+unfolding disk
+disk-accepted = record { typed = plain-typed allFeatures Absent false 1_073_741_824 (lit< tt) (lit< tt); number = computed .disk-number }
 
 -- IT IS READ BACK
 pub disk-read : Recovered (runOf disk .geometry) (runOf disk .uuid)

@@ -8,9 +8,10 @@ use Prim.Native.Nat.{ℕ, suc, _*_, _^_, _<_}
 use native.Mathlib.Omega.{arith}
 use borrow.Author.Tests.{eq-eqb}
 use lib.Dec.{lit<}
-use lib.ListN.{length, replicate}
+use lib.ListN.{length}
 use Rattle.endian.specs.Bytes.{beAt}
 use Rattle.params.specs.declared.Features.{Features}
+use Rattle.params.specs.declared.OptU64.the-variants.{Given}
 use Rattle.params.specs.Params.{allFeatures, noOptions, withAgsize, withFeatures, withRoomy}
 use Rattle.request.specs.declared.Request.{Request}
 use Rattle.arith.specs.Choice.{when, bit}
@@ -35,11 +36,10 @@ use Rattle.plan_rmap.specs.Rmap.{joinsLeft, joinsRight, insertedAt, takes, inse
 use Rattle.plan.specs.Plan.{freeAtFirst, rmapAtFirst, atFirst, failed, noted, moved, turn, listed, chunked, answer, planOf, planned}
 use Rattle.plan_totals.specs.Totals.{firstTo, plansNumber}
 use Rattle.inode_time.specs.Time.{timeInside, notEarly, shifted}
-use Rattle.request.specs.Defaults.{timeOf, seedOf}
+use Rattle.request.specs.Defaults.{timeOf}
 use Rattle.run.specs.Runs.{stepOf, timeRefusal, runNumber, runOf}
-use Rattle.head_bytes.proofs.Below.{below-zeros}
 use Rattle.list_accepted.specs.Accepted.{TypedRequest, AcceptedRun}
-use Rattle.list_accepted.proofs.Bytes.{below-at}
+use Rattle.list_accepted.proofs.Typed.{plain-typed}
 use Rattle.list_accepted.proofs.Runs.{source-plans, source-answer, source-label, source-uuid, source-of}
 use Rattle.head_bytes.specs.Head.{headLength}
 use Rattle.list_spec.specs.Listing.{headLeft}
@@ -102,31 +102,7 @@ computed =
     }
 
 typed : (f : Features) (agsize device : ℕ) (roomy : Bool) → agsize < 2 ^ 64 → device < 2 ^ 64 → TypedRequest (asked f agsize device roomy)
-unfolding timeOf seedOf
-typed f agsize device roomy a d =
-    record {
-      options =
-          record {
-            size = lit< tt;
-            block-size = lit< tt;
-            sector-size = lit< tt;
-            inode-size = lit< tt;
-            agcount = lit< tt;
-            agsize = a;
-            imaxpct = lit< tt;
-            label-length = lit< tt;
-            label-size = refl;
-            label-bytes = below-at 256 (replicate 12 0) (lit< tt) (below-zeros 12);
-          };
-      device = d;
-      logical = lit< tt;
-      physical = lit< tt;
-      uuid-size = refl;
-      uuid-bytes = below-at 256 (replicate 16 0) (lit< tt) (below-zeros 16);
-      seconds = lit< tt;
-      nanoseconds = lit< tt;
-      seed = lit< tt;
-    }
+typed f agsize device roomy a d = plain-typed f (Given agsize) roomy device a d
 
 -- plain sizing refuses the second in planning
 pub crowded-refused : runNumber (crowded false) ≡ 25

@@ -6,6 +6,7 @@ use Prim.Native.Nat.{ℕ, _+_, _-_, _/_}
 use lib.Dec.{leb, ltb, eqb}
 use lib.ListN.{replicate}
 use Rattle.arith.specs.Choice.{when}
+use Rattle.refusals.specs.Numbers.{noPlace}
 use Rattle.seqs.specs.Lists.{choose}
 use Rattle.structs.specs.Written.{null64}
 use Rattle.geometry.specs.declared.Geometry.{Geometry}
@@ -74,7 +75,7 @@ statedAs n s = choose (eqb n 0) (record { number = 0; state = s }) (noState n)
 
 -- 31, 25, then 29 for a group that is not there
 unfoldable pub stateNumber : Geometry → ℕ → ℕ
-stateNumber g agno = choose (eqb (plansNumber g) 0) (when (leb (g .agcount) agno) 29 0) (plansNumber g)
+stateNumber g agno = choose (eqb (plansNumber g) 0) (when (leb (g .agcount) agno) noPlace 0) (plansNumber g)
 
 -- `state_of`: 31, 25, 29, or the state of a group's superblock
 unfoldable pub stated : Geometry → List ℕ → ℕ → Stated

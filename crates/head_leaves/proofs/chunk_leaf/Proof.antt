@@ -7,7 +7,7 @@ use Rattle.head_leaves.proofs.chunk_leaf.Statement.{statement}
 use Rattle.head_leaves.proofs.chunk_leaf.Tie as tie
 
 put-chunk-requires : tie.Need-put-chunk-requires
-put-chunk-requires c κs = (omega (arith, c .before .before .before .bit-of .ensures, bit-le (c .before .before .before .before .before .args .there)), c .before .before .record-room .ensures)
+put-chunk-requires c κs = (omega (arith, c .before .before .before .bit-of .ensures, bit-le (c .before .before .before .before .before .args .there)), c .before .before .record-buffer .ensures)
 
 returns : tie.Need-returns
 returns c = rw (← c .before .before .before .before .before .before .before .bit-of .ensures) (c .before .before .before .put-chunk .ensures)

@@ -16,7 +16,7 @@ use Rattle.head_leaves.proofs.put_chunk.Statement.{statement}
 use Rattle.head_leaves.proofs.put_chunk.Tie as tie
 
 returns : tie.Need-returns
-returns c = let s = c .before .before .before .before .before .before .before .before .before .before .before .before .before in let rec = c .before .before .before .before .before .before .before .before .before .before .chunk-rec .result in let k : length (replicate 64 rec) ≡ 64 = length-replicate 64 rec in let n = listed-length (inobtBytes (s .args .sparse)) 16 (inobt-size (s .args .sparse)) (s .args .n) 64 (replicate 64 rec) k (s .pre .0) in let e = written-in (c .before .before .before .before .before .before .before .before .inobt-recs-64 .ensures) (list-fits 16 (s .args .n) _ (lent-length (16 * s .args .n) 1536 (s .args .room .now) (s .pre .1) (omega (arith, s .pre .0))) (s .pre .0)) in leaf-of _ _ _ _ _ _ _ (lent-again (16 * s .args .n) (s .args .room .now) e n ∙ few-alike (s .args .sparse) (s .args .n) rec (chunkRec (s .args .startino)) (s .pre .0) (c .before .before .before .before .before .before .before .before .before .before .chunk-rec .ensures)) (few-length (s .args .sparse) (s .args .n) (chunkRec (s .args .startino))) (c .before .before .leaf-block .ensures)
+returns c = let s = c .before .before .before .before .before .before .before .before .before .before .before .before .before in let rec = c .before .before .before .before .before .before .before .before .before .before .chunk-rec .result in let k : length (replicate 64 rec) ≡ 64 = length-replicate 64 rec in let n = listed-length (inobtBytes (s .args .sparse)) 16 (inobt-size (s .args .sparse)) (s .args .n) 64 (replicate 64 rec) k (s .pre .0) in let e = written-in (c .before .before .before .before .before .before .before .before .inobt-recs-64 .ensures) (list-fits 16 (s .args .n) _ (lent-length (16 * s .args .n) 1536 (s .args .work .now) (s .pre .1) (omega (arith, s .pre .0))) (s .pre .0)) in leaf-of _ _ _ _ _ _ _ (lent-again (16 * s .args .n) (s .args .work .now) e n ∙ few-alike (s .args .sparse) (s .args .n) rec (chunkRec (s .args .startino)) (s .pre .0) (c .before .before .before .before .before .before .before .before .before .before .chunk-rec .ensures)) (few-length (s .args .sparse) (s .args .n) (chunkRec (s .args .startino))) (c .before .before .leaf-block .ensures)
 
 pub put-chunk-spec : {M : Type 1} → statement M
 put-chunk-spec =

@@ -11,6 +11,7 @@ use lib.ListN.{take}
 pub use Rattle.arith.specs.Choice.{when}
 pub use Rattle.endian.specs.Answer.{Put}
 pub use Rattle.seqs.specs.Lists.{both}
+pub use Rattle.refusals.specs.Numbers.{freeListShort, wrongLength, noPlace, notLeft, noAnswer}
 pub use Rattle.refusals.specs.Table.{Refusal, _if_, first}
 pub use Rattle.params.specs.declared.Params.{Params}
 pub use Rattle.params.specs.Params.{noOptions, withRoomy}

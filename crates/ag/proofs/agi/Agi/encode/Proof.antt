@@ -22,8 +22,8 @@ returns c =
     let t : isSector (length (c .before .before .before .args .sector .now)) ≡ false = sym (c .before .is-sector .ensures) ∙ not-true _ (c .if1 .taken) in
     refused (rw t refl) refl
 
-put-front-requires : tie.Need-put-front-requires
-put-front-requires c κs =
+put-prefix-requires : tie.Need-put-prefix-requires
+put-prefix-requires c κs =
     let args = c .before .before .before .before .args in
     let t : isSector (length (args .sector .now)) ≡ true = sym (c .before .before .is-sector .ensures) ∙ not-false _ (c .before .if1 .left) in
     sector-least (length (args .sector .now)) t
@@ -34,14 +34,14 @@ returns-2 c =
     let args = c .before .before .before .before .before .before .before .before .before .before .before .before .before .before .before .before .before .before .before .before .args in
     let t : isSector (length (args .sector .now)) ≡ true = sym (c .before .before .before .before .before .before .before .before .before .before .before .before .before .before .before .before .before .before .is-sector .ensures) ∙ not-false _ (c .before .before .before .before .before .before .before .before .before .before .before .before .before .before .before .before .before .if1 .left) in
     let l = sector-least (length (args .sector .now)) t in
-    let k1 = c .before .before .before .before .before .before .before .before .before .before .before .before .before .before .before .put-front .kept .0 in
+    let k1 = c .before .before .before .before .before .before .before .before .before .before .before .before .before .before .before .put-prefix .kept .0 in
     let k2 = c .before .before .before .before .before .before .before .before .before .before .before .put64 .kept .0 in
     let k3 = c .before .before .before .before .before .before .put32-run .kept .0 in
-    done (rw t refl) (stamp-in 312 (c .before .before .stamp .ensures) (omega (arith, l, k1, k2, k3)) .1 ∙ ap (stamped 312) (rw (put-in (c .before .before .before .before .before .before .put32-run .ensures) (omega (arith, l, k1, k2)), put-in (c .before .before .before .before .before .before .before .before .before .before .before .put64 .ensures) (omega (arith, l, k1))) (agi-written (args .self) (args .uuid .now) (args .sector .now) _ (c .before .before .before .before .before .before .before .before .before .before .before .before .before .before .before .put-front .ensures))))
+    done (rw t refl) (stamp-in 312 (c .before .before .stamp .ensures) (omega (arith, l, k1, k2, k3)) .1 ∙ ap (stamped 312) (rw (put-in (c .before .before .before .before .before .before .put32-run .ensures) (omega (arith, l, k1, k2)), put-in (c .before .before .before .before .before .before .before .before .before .before .before .put64 .ensures) (omega (arith, l, k1))) (agi-written (args .self) (args .uuid .now) (args .sector .now) _ (c .before .before .before .before .before .before .before .before .before .before .before .before .before .before .before .put-prefix .ensures))))
 
 pub encode-spec : {M : Type 1} → statement M
 encode-spec =
     tie.close
     (tie.spec
-    (λ c κs. search needs) returns put-front-requires (λ c κs. search needs) (λ c. search needs) (λ c κs. search needs)
+    (λ c κs. search needs) returns put-prefix-requires (λ c κs. search needs) (λ c. search needs) (λ c κs. search needs)
     (λ c κs. search needs) (λ c. search needs) returns-2)
