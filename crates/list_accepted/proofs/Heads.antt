@@ -8,7 +8,7 @@ use Rattle.endian.specs.Bytes.{beAt}
 use Rattle.endian.specs.Fields.{part}
 use Rattle.geometry.specs.declared.Geometry.{Geometry}
 use Rattle.list_records.specs.Records.{Record, FL}
-use Rattle.list_device.specs.Device.{Device, applied}
+use Rattle.list_records.specs.Device.{Device, applied}
 use Rattle.request.specs.declared.Request.{Request}
 use Rattle.run.specs.Runs.{runOf}
 use Rattle.list_spec.specs.Listing.{headLeft, listOf}

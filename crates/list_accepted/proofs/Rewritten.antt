@@ -8,9 +8,9 @@ use Prim.Native.Nat.{ℕ, _+_, _≤_, _<_}
 use native.Mathlib.Omega.{arith}
 use lib.Dec.{lit<}
 use lib.ListN.{getD}
-use Rattle.list_device.specs.Device.{Device, applied, read}
-use Rattle.list_device.proofs.Reading.{getD-read}
-use Rattle.list_device.proofs.Applying.{missed-after}
+use Rattle.list_records.specs.Device.{Device, applied, read}
+use Rattle.list_records.proofs.Reading.{getD-read}
+use Rattle.list_records.proofs.Applying.{missed-after}
 use Rattle.seqs.proofs.Laws.{lt-or-le}
 use Rattle.request.specs.declared.Request.{Request}
 use Rattle.run.specs.declared.Run.{Run}

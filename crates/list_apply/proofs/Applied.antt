@@ -14,8 +14,8 @@ use Rattle.endian.specs.Bytes.{beAt}
 use Rattle.seqs.specs.Lists.{choose, both}
 use Rattle.list_records.specs.Records.{Record, WZ, WB, FL, All, byKind, recordBytes, listBytes}
 use Rattle.list_records.proofs.Sizes.{zeros-bytes, block-bytes}
-use Rattle.list_device.specs.Device.{Device, at, len, byte, step, applied}
-use Rattle.list_device.proofs.Applying.{step-miss, applied-append}
+use Rattle.list_records.specs.Device.{Device, at, len, byte, step, applied}
+use Rattle.list_records.proofs.Applying.{step-miss, applied-append}
 use Rattle.list_read.specs.Records.{flush, zeros, bytes, head, more, write, decodeDef, withinDef, headOf, bytesOf, fits}
 use Rattle.list_read.specs.Flushes.{passed, nextDef, endedDef, ruled, WholeList}
 use Rattle.list_read.specs.Whole.{allFit}

@@ -12,8 +12,8 @@ use lib.Seq.{length-take-le, take-append-le, drop-append-le, take-take, getD-tak
 use borrow.Author.Tests.{eqb-true, eqb-false, leb-true, leb-false, ltb-true, ltb-false, ne-eqb, le-ltb}
 use Rattle.seqs.specs.Lists.{turns}
 use Rattle.list_records.specs.Records.{Record, WZ, WB, FL}
-use Rattle.list_device.specs.Device.{Device, at, len, byte, step, applied}
-use Rattle.list_device.proofs.Applying.{step-hit, step-miss}
+use Rattle.list_records.specs.Device.{Device, at, len, byte, step, applied}
+use Rattle.list_records.proofs.Applying.{step-hit, step-miss}
 use Rattle.list_read.specs.Records.{zeros, bytes}
 use Rattle.list_apply.specs.declared.Applying.{Applying as State}
 use Rattle.list_apply.specs.Applying.{goesOn, past, state, followingOf, headNext, wantedOf, putPiece, fedBytes, fed}

@@ -8,7 +8,7 @@ use lib.Dec.{eqb}
 use lib.ListN.{take, drop}
 use Rattle.seqs.specs.Lists.{choose, turns}
 use Rattle.list_records.specs.Records.{Record, WZ, WB, FL, All, listBytes}
-use Rattle.list_device.specs.Device.{Device, applied}
+use Rattle.list_records.specs.Device.{Device, applied}
 use Rattle.list_read.specs.Records.{flush, zeros, bytes, headOf}
 use Rattle.list_apply.specs.declared.Applying.{Applying as State}
 use Rattle.list_apply.specs.declared.Step.{Step}

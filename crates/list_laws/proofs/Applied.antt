@@ -7,7 +7,7 @@ use mathlib.Core.List.{List, [], _∷_}
 use Prim.Native.Nat.{ℕ, _<_, _≤_}
 use native.Mathlib.Omega.{arith}
 use Rattle.list_records.specs.Records.{Record, WZ, WB, FL, All}
-use Rattle.list_device.specs.Device.{Fits}
+use Rattle.list_records.specs.Device.{Fits}
 use Rattle.list_read.specs.Records.{largest}
 use Rattle.list_read.proofs.Heads.{ends-within}
 use Rattle.list_apply.specs.Lists.{Within, Applies}

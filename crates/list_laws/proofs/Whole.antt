@@ -13,7 +13,7 @@ use Rattle.list_read.specs.Records.{fits}
 use Rattle.list_read.specs.Whole.{readList, readAs, CutOff, allFit}
 use Rattle.list_read.specs.Flushes.{WholeList}
 use Rattle.list_read.proofs.WholeList.{list-back, list-cut}
-use Rattle.list_device.specs.Device.{Fits}
+use Rattle.list_records.specs.Device.{Fits}
 use Rattle.request.specs.declared.Request.{Request}
 use Rattle.request.specs.Parse.{parseDef}
 use Rattle.run.specs.declared.Run.{Run}

@@ -1,5 +1,5 @@
 // The written records as data: zeros, one block's bytes, a flush. Here are the marks and sizes that other crates write and read by; what a
-// list is stands in specs/ and proofs/.
+// list is, and what it leaves on a device, stands in specs/ and proofs/.
 
 // The marks: "WZ" for zeros, "WB" for a block, "FL" for a flush.
 pub const ZEROS_MARK: u16 = 0x575a;

@@ -9,9 +9,9 @@ use lib.Seq.{length-take-le, getD-drop}
 use Rattle.run.specs.declared.Run.{Run}
 use Rattle.list_records.specs.Records.{Record, WB, FL, All, blocks}
 use Rattle.list_records.proofs.Blocks.{all-append, all-prefix}
-use Rattle.list_device.specs.Device.{Device, step, applied}
-use Rattle.list_device.proofs.Reading.{getD-read}
-use Rattle.list_device.proofs.Applying.{step-miss, applied-append, Idle, idle, blocks-idle}
+use Rattle.list_records.specs.Device.{Device, step, applied}
+use Rattle.list_records.proofs.Reading.{getD-read}
+use Rattle.list_records.proofs.Applying.{step-miss, applied-append, Idle, idle, blocks-idle}
 use Rattle.list_spec.specs.Listing.{headerBlocks, headFinished, closing, listOf}
 use Rattle.list_spec.specs.Sound.{Sound}
 use Rattle.list_spec.specs.Left.{headAt, headSize, headerSize, unfinished}

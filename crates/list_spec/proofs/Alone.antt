@@ -9,8 +9,8 @@ use Rattle.seqs.proofs.Laws.{lt-or-le}
 use Rattle.run.specs.declared.Run.{Run}
 use Rattle.list_records.specs.Records.{FL, All}
 use Rattle.list_records.proofs.Blocks.{all-append}
-use Rattle.list_device.specs.Device.{Misses}
-use Rattle.list_device.proofs.Applying.{blocks-miss}
+use Rattle.list_records.specs.Device.{Misses}
+use Rattle.list_records.proofs.Applying.{blocks-miss}
 use Rattle.list_spec.specs.Listing.{opening, headRecords, chunkRecords, headerRecords, closing, logOffset}
 use Rattle.list_spec.specs.Sound.{Sound}
 use Rattle.list_spec.specs.Left.{headAt, headSize, headerSize, logSize, chunkAt, chunkSize, Alone}

@@ -10,8 +10,8 @@ use lib.Seq.{length-take-le}
 use Rattle.run.specs.declared.Run.{Run}
 use Rattle.list_records.specs.Records.{Record, FL, All, blocks}
 use Rattle.list_records.proofs.Blocks.{all-append, all-prefix, all-map}
-use Rattle.list_device.specs.Device.{Device, step, applied, Misses}
-use Rattle.list_device.proofs.Applying.{step-missed, zeros-left, bytes-left, blocks-miss, Keeps, kept}
+use Rattle.list_records.specs.Device.{Device, step, applied, Misses}
+use Rattle.list_records.proofs.Applying.{step-missed, zeros-left, bytes-left, blocks-miss, Keeps, kept}
 use Rattle.list_spec.specs.Listing.{headBlocks, headWritten, opening, headRecords, headsTo, chunkRecords}
 use Rattle.list_spec.specs.Sound.{Sound}
 use Rattle.list_spec.specs.Left.{headAt, headSize, unfinished, Early}

@@ -15,9 +15,9 @@ use Rattle.seqs.proofs.Laws.{lt-or-le}
 use Rattle.run.specs.declared.Run.{Run}
 use Rattle.list_records.specs.Records.{FL}
 use Rattle.list_records.proofs.Blocks.{all-append}
-use Rattle.list_device.specs.Device.{Device, step, applied, read, Misses}
-use Rattle.list_device.proofs.Reading.{read-split, read-first, read-behind, drop-agree}
-use Rattle.list_device.proofs.Applying.{applied-append, missed, missed-after, step-missed, zeros-left, zeros-stay, bytes-left, blocks-left}
+use Rattle.list_records.specs.Device.{Device, step, applied, read, Misses}
+use Rattle.list_records.proofs.Reading.{read-split, read-first, read-behind, drop-agree}
+use Rattle.list_records.proofs.Applying.{applied-append, missed, missed-after, step-missed, zeros-left, zeros-stay, bytes-left, blocks-left}
 use Rattle.list_spec.specs.Listing.{whackSize, blocksEnd, tailStart, opening, headRecords, headsTo, chunkRecords, headerRecords, closing, listOf, logOffset, logBlock, headBlocks, headerBlocks, chunkBlocks, headWritten, headFinished, headLeft}
 use Rattle.list_spec.specs.Sound.{Sound}
 use Rattle.list_spec.specs.Left.{headAt, headSize, headerSize, logSize, chunkAt, chunkSize, Left, unfinished}

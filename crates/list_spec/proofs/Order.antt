@@ -12,8 +12,8 @@ use Rattle.run.specs.declared.Run.{Run}
 use Rattle.list_records.specs.Records.{All, OneBlock, listBytes, payload}
 use Rattle.list_records.proofs.Blocks.{blocks-whole}
 use Rattle.list_records.proofs.Sums.{payload-total, bytes-total}
-use Rattle.list_device.specs.Device.{Fits}
-use Rattle.list_device.proofs.Applying.{blocks-fit, blocks-rising}
+use Rattle.list_records.specs.Device.{Fits}
+use Rattle.list_records.proofs.Applying.{blocks-fit, blocks-rising}
 use Rattle.list_spec.specs.Listing.{tailStart, logOffset, headBlocks, headerBlocks, chunkBlocks, headWritten, headFinished, opening, headRecords, chunkRecords, listOf, blockCount, listLength}
 use Rattle.list_spec.specs.Sound.{Sound}
 use Rattle.list_spec.specs.Order.{Ordered}

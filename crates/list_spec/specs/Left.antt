@@ -11,7 +11,7 @@ use Rattle.head_bytes.specs.Head.{zeros}
 use Rattle.chunk.specs.Chunk.{chunkBytes}
 use Rattle.run.specs.declared.Run.{Run}
 use Rattle.list_records.specs.Records.{Record, All}
-use Rattle.list_device.specs.Device.{Device, read, Misses}
+use Rattle.list_records.specs.Device.{Device, read, Misses}
 use Rattle.list_spec.specs.Listing.{whackSize, blocksEnd, tailStart, headBlocks, headerBlocks, chunkBlocks, logOffset, logBlock, headWritten, headLeft, opening, headRecords, headsTo, chunkRecords, closing}
 
 -- ---- where the parts lie, in bytes

@@ -5,7 +5,7 @@ use Prim.Native.Nat.{ℕ, _*_, _<_}
 use lib.ListN.{length}
 use Rattle.run.specs.declared.Run.{Run}
 use Rattle.list_records.specs.Records.{All, OneBlock, listBytes, zeroings, blockWrites, flushes, payload}
-use Rattle.list_device.specs.Device.{Fits, Rising}
+use Rattle.list_records.specs.Device.{Fits, Rising}
 use Rattle.list_spec.specs.Listing.{headRecords, chunkRecords, headerRecords, listOf, blockCount, recordCount, listLength}
 use Rattle.list_spec.specs.Left.{headAt, chunkAt}
 

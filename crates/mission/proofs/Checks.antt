@@ -14,7 +14,7 @@ use Rattle.list_spec.proofs.Whole.{group-planned}
 use Rattle.sb_states.specs.States.{stateOf, finishedState}
 use Rattle.request.specs.declared.Request.{Request}
 use Rattle.run.specs.Runs.{runOf}
-use Rattle.list_device.specs.Device.{Device}
+use Rattle.list_records.specs.Device.{Device}
 use Rattle.list_spec.specs.Listing.{headWritten, headFinished, headLeft}
 use Rattle.list_accepted.specs.Accepted.{AcceptedRun, Source}
 use Rattle.list_accepted.proofs.Runs.{source-of, source-label, source-plans, source-uuid}

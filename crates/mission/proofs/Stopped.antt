@@ -11,7 +11,7 @@ use Rattle.run.specs.declared.Run.{Run}
 use Rattle.run.specs.Runs.{runOf}
 use Rattle.list_records.specs.Records.{Record, FL}
 use Rattle.list_records.proofs.Sums.{count-total}
-use Rattle.list_device.specs.Device.{Device, applied}
+use Rattle.list_records.specs.Device.{Device, applied}
 use Rattle.list_spec.specs.Listing.{headerRecords, closing, listOf, recordCount}
 use Rattle.list_spec.specs.Left.{unfinished}
 use Rattle.list_spec.proofs.Counts.{list-count, closing-total}

@@ -12,8 +12,8 @@ use Rattle.request.specs.declared.Request.{Request}
 use Rattle.run.specs.Runs.{runOf}
 use Rattle.head_bytes.specs.Head.{headLength}
 use Rattle.list_records.specs.Records.{Record, FL}
-use Rattle.list_device.specs.Device.{Device, applied, read}
-use Rattle.list_device.proofs.Reading.{length-read, read-first}
+use Rattle.list_records.specs.Device.{Device, applied, read}
+use Rattle.list_records.proofs.Reading.{length-read, read-first}
 use Rattle.list_spec.specs.Listing.{logBlock, headWritten, headLeft}
 use Rattle.list_spec.specs.Left.{unfinished, Early}
 use Rattle.list_spec.proofs.Early.{early}

@@ -8,7 +8,7 @@ use Rattle.geometry_layout.specs.Places.{byteOf}
 use Rattle.request.specs.declared.Request.{Request}
 use Rattle.run.specs.Runs.{runOf}
 use Rattle.head_bytes.specs.Head.{headLength}
-use Rattle.list_device.specs.Device.{Device, applied, read}
+use Rattle.list_records.specs.Device.{Device, applied, read}
 use Rattle.list_spec.specs.Listing.{logOffset, listOf}
 use Rattle.list_accepted.specs.Accepted.{AcceptedRun}
 

@@ -16,8 +16,8 @@ use Rattle.geometry_layout.specs.Places.{before, byteOf}
 use Rattle.geometry_layout.specs.Bounds.{Bounds}
 use Rattle.geometry_layout.proofs.Bounding.{answer-bounds}
 use Rattle.head_bytes.specs.Head.{headLength}
-use Rattle.list_device.specs.Device.{Device, read}
-use Rattle.list_device.proofs.Reading.{length-read, read-first}
+use Rattle.list_records.specs.Device.{Device, read}
+use Rattle.list_records.proofs.Reading.{length-read, read-first}
 use Rattle.list_spec.specs.Listing.{logOffset}
 use Rattle.reader_names.specs.Named.{namesAt, namedBy}
 use Rattle.reader_names.specs.Sizings.{sized, plain}

@@ -9,7 +9,7 @@ use lib.ListN.{getD}
 use Rattle.geometry.specs.declared.Geometry.{Geometry}
 use Rattle.head_bytes.specs.Head.{headLength}
 use Rattle.run.specs.Runs.{runOf}
-use Rattle.list_device.specs.Device.{Device, read}
+use Rattle.list_records.specs.Device.{Device, read}
 use Rattle.reader_names.specs.Named.{namedBy}
 use Rattle.reader_names.specs.Sizings.{sized, plain}
 use Rattle.list_spec.specs.Listing.{headLeft}

@@ -18,8 +18,8 @@ use Rattle.geometry_layout.proofs.Inside.{blocks-least}
 use Rattle.geometry_places.specs.Answers.{placeRefusal, toByteOffset}
 use Rattle.geometry_places.proofs.Refused.{place-there}
 use Rattle.head_bytes.specs.Head.{headLength}
-use Rattle.list_device.specs.Device.{Device, read}
-use Rattle.list_device.proofs.Reading.{length-read}
+use Rattle.list_records.specs.Device.{Device, read}
+use Rattle.list_records.proofs.Reading.{length-read}
 use Rattle.list_spec.specs.Listing.{logOffset}
 use Rattle.reader_exact.specs.Read.{groupNumber, readLog}
 use Rattle.reader_exact.specs.Disk.{headOn, logOn}

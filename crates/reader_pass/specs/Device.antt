@@ -8,7 +8,7 @@ use Rattle.refusals.specs.Numbers.{wrongLength}
 use Rattle.geometry.specs.declared.Geometry.{Geometry}
 use Rattle.request.specs.declared.Request.{Request}
 use Rattle.run.specs.Runs.{runOf}
-use Rattle.list_device.specs.Device.{Device, read}
+use Rattle.list_records.specs.Device.{Device, read}
 use Rattle.reader_names.specs.Named.{namedBy}
 use Rattle.list_accepted.specs.Accepted.{AcceptedRun}
 use Rattle.reader_exact.specs.Read.{leastSector, readGroup0}

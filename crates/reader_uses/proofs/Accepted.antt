@@ -10,7 +10,7 @@ use Rattle.plan_summary.specs.Summaries.{rowIn as rowOfSummary}
 use Rattle.plan_summary.proofs.Laws.{its-summary}
 use Rattle.plan_summary.proofs.Rows.{rows-agree, totals-agree}
 use Rattle.run.specs.Runs.{runOf}
-use Rattle.list_device.specs.Device.{Device, applied, read}
+use Rattle.list_records.specs.Device.{Device, applied, read}
 use Rattle.list_spec.specs.Listing.{listOf, headLeft}
 use Rattle.list_spec.specs.Left.{headAt, headSize}
 use Rattle.list_spec.proofs.Left.{left as device-left}

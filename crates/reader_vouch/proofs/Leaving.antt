@@ -9,7 +9,7 @@ use borrow.Author.Tests.{eqb-true, eq-eqb}
 use lib.Dec.{eqb}
 use Rattle.geometry.specs.declared.Geometry.{Geometry}
 use Rattle.plan.specs.declared.Planned.{Planned}
-use Rattle.list_device.specs.Device.{Device}
+use Rattle.list_records.specs.Device.{Device}
 use Rattle.list_spec.specs.Listing.{logBlock, headLeft}
 use Rattle.list_accepted.specs.Accepted.{Source}
 use Rattle.reader_exact.specs.declared.Found.{Found}

@@ -4,7 +4,7 @@ use mathlib.Core.Path.{_≡_}
 use mathlib.Core.List.{List}
 use Prim.Native.Nat.{ℕ, _<_}
 use Rattle.geometry.specs.declared.Geometry.{Geometry}
-use Rattle.list_device.specs.Device.{Device}
+use Rattle.list_records.specs.Device.{Device}
 use Rattle.list_accepted.specs.Accepted.{Source}
 use Rattle.reader_exact.specs.Disk.{headOn, logOn, formatted}
 

@@ -35,8 +35,8 @@ pub use Rattle.request.specs.Defaults.{timeOf}
 pub use Rattle.run.specs.Runs.{orNext, stepOf, timeRefusal, runOf, accepted}
 pub use Rattle.list_records.specs.Records.{listBytes}
 pub use Rattle.list_read.specs.Whole.{readList, readAs}
-pub use Rattle.list_device.specs.Device.{Device}
-use Rattle.list_device.specs.Device.{applied}
+pub use Rattle.list_records.specs.Device.{Device}
+use Rattle.list_records.specs.Device.{applied}
 pub use Rattle.list_spec.specs.Listing.{headBlocks, listOf}
 use Rattle.list_spec.specs.Listing.{chunkBlocks}
 pub use Rattle.list_spec.specs.Order.{Ordered}

@@ -11,9 +11,9 @@ use lib.Dec.{leb, ltb}
 use lib.ListN.{length, take, drop, getD, replicate, length-replicate, getD-replicate, length-take, length-drop}
 use lib.Seq.{length-take-le, take-add, getD-take, getD-drop}
 use Rattle.seqs.specs.Lists.{choose, both}
 use Rattle.list_records.specs.Records.{Record, WZ, WB, All, blocks}
-use Rattle.list_device.specs.Device.{Device, at, len, byte, step, applied, read, Misses, Fits, Rising}
-use Rattle.list_device.proofs.Reading.{getD-read, read-is, read-same, read-append}
+use Rattle.list_records.specs.Device.{Device, at, len, byte, step, applied, read, Misses, Fits, Rising}
+use Rattle.list_records.proofs.Reading.{getD-read, read-is, read-same, read-append}
 
 -- ---- one record
 

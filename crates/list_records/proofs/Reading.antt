@@ -6,7 +6,7 @@ use Prim.Native.Nat.{ℕ, zero, suc, _+_, _-_, _≤_, _<_}
 use native.Mathlib.Omega.{arith}
 use lib.ListN.{length, take, drop, getD, length-drop}
 use lib.Seq.{take-at, drop-at, ext-getD, getD-drop}
-use Rattle.list_device.specs.Device.{Device, read}
+use Rattle.list_records.specs.Device.{Device, read}
 
 pub length-read : (d : Device) (off n : ℕ) → length (read d off n) ≡ n
 unfolding read

@@ -1,1 +1,0 @@
-// What written records leave on a device. No functions: see specs/ and proofs/.
