@@ -1,7 +1,7 @@
 -- Lists from an array for each field, and the parts of an answer.
 -- Assumes nothing.
-use mathlib.Core.List.{List, [], _∷_, _++_}
-use Prim.Native.Nat.{ℕ, zero, suc}
+use mathlib.Core.List.{List}
+use Prim.Native.Nat.{ℕ}
 use lib.Dec.{eqb}
 use lib.ListN.{getD}
 use Rattle.seqs.specs.Lists.{choose}
@@ -13,25 +13,14 @@ use Rattle.plan_free.specs.Free.{zeroRec}
 use Rattle.plan_rmap.specs.declared.RmapList.{RmapList}
 use Rattle.plan_rmap.specs.declared.Inserted.{Inserted}
 use Rattle.plan_rmap.specs.Rmap.{zeroRec as zeroRmap}
-
--- f of each number below n
-unfoldable pub rows : {A : Type 0} → (ℕ → A) → ℕ → List A
-rows f zero = []
-rows f (suc n) = rows f n ++ (f n ∷ [])
-
--- record i of arrays
-abbrev pub freeRow : List ℕ → List ℕ → ℕ → AllocRec
-freeRow starts counts i = record { start = getD starts i 0; count = getD counts i 0 }
-
-abbrev pub rmapRow : List ℕ → List ℕ → List ℕ → ℕ → RmapRec
-rmapRow starts counts owners i = record { start = getD starts i 0; count = getD counts i 0; owner = getD owners i 0 }
+use Rattle.ffi_recs.specs.Arrays.{allocArray, rmapArray}
 
 -- the list of the first n records; n may be above 64
 unfoldable pub freeFrom : List ℕ → List ℕ → ℕ → FreeList
-freeFrom starts counts n = record { recs = rows (freeRow starts counts) 64; len = n }
+freeFrom starts counts n = record { recs = allocArray starts counts; len = n }
 
 unfoldable pub rmapFrom : List ℕ → List ℕ → List ℕ → ℕ → RmapList
-rmapFrom starts counts owners n = record { recs = rows (rmapRow starts counts owners) 64; len = n }
+rmapFrom starts counts owners n = record { recs = rmapArray starts counts owners; len = n }
 
 -- the record in slot k, zeros where there is none
 abbrev pub freeAt : FreeList → ℕ → AllocRec

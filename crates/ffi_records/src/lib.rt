@@ -6,6 +6,8 @@ ghost use Rattle.plan_rmap.specs.Rmap.{inserted};
 ghost use Rattle.ffi_records.specs.Parts.{freeFrom, rmapFrom, freeAt, rmapAt, partOf, takenPart, insertedPart};
 use btree::AllocRec;
 use btree::RmapRec;
+use ffi_recs::alloc_array;
+use ffi_recs::rmap_array;
 use plan_free::FreeList;
 use plan_free::Taken;
 use plan_rmap::Inserted;
@@ -22,38 +24,17 @@ pub const COUNT: u32 = 3;
 
 pub const OWNER: u32 = 4;
 
-fn free_from(starts: [u32; 64], counts: [u32; 64], n: usize) -> FreeList
-    ensures { λ r. ⌜ r ≡ freeFrom starts counts n ⌝ }
+fn free_from(starts: &[u32; 64], counts: &[u32; 64], n: usize) -> FreeList
+    ensures { λ r. ⌜ r ≡ freeFrom (now (starts .entry)) (now (counts .entry)) n ⌝ }
 {
-    let mut list = plan_free::empty();
-    let mut i: usize = 0;
-    while i < 64 {
-        let rec = AllocRec {
-            start: starts[i],
-            count: counts[i],
-        };
-        list = plan_free::push(list, rec);
-        i += 1;
-    }
-    let recs = list.recs;
+    let recs = alloc_array(starts, counts);
     FreeList { recs, len: n }
 }
 
-fn rmap_from(starts: [u32; 64], counts: [u32; 64], owners: [u64; 64], n: usize) -> RmapList
-    ensures { λ r. ⌜ r ≡ rmapFrom starts counts owners n ⌝ }
+fn rmap_from(starts: &[u32; 64], counts: &[u32; 64], owners: &[u64; 64], n: usize) -> RmapList
+    ensures { λ r. ⌜ r ≡ rmapFrom (now (starts .entry)) (now (counts .entry)) (now (owners .entry)) n ⌝ }
 {
-    let mut list = plan_rmap::empty();
-    let mut i: usize = 0;
-    while i < 64 {
-        let rec = RmapRec {
-            start: starts[i],
-            count: counts[i],
-            owner: owners[i],
-        };
-        list = plan_rmap::push(list, rec);
-        i += 1;
-    }
-    let recs = list.recs;
+    let recs = rmap_array(starts, counts, owners);
     RmapList { recs, len: n }
 }
 
@@ -115,7 +96,7 @@ pub extern "C" fn zq_take(
 ) -> u64
     ensures { λ r. ⌜ r ≡ takenPart part k (taken (freeFrom (now (starts .entry)) (now (counts .entry)) n) start len) ⌝ }
 {
-    let list = free_from(*starts, *counts, n);
+    let list = free_from(starts, counts, n);
     let t = plan_free::take(list, start, len);
     let left = t.list;
     let rec = free_at(left, k);
@@ -137,7 +118,7 @@ pub extern "C" fn zq_rmap_insert(
 ) -> u64
     ensures { λ r. ⌜ r ≡ insertedPart part k (inserted (rmapFrom (now (starts .entry)) (now (counts .entry)) (now (owners .entry)) n) (record { start = start; count = count; owner = owner })) ⌝ }
 {
-    let list = rmap_from(*starts, *counts, *owners, n);
+    let list = rmap_from(starts, counts, owners, n);
     let rec = RmapRec {
         start,
         count,

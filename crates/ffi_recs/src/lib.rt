@@ -10,7 +10,7 @@ use btree::InobtRec;
 use btree::RmapRec;
 
 // The free extents whose first blocks and lengths these are.
-fn alloc_array(start: &[u32; 64], count: &[u32; 64]) -> [AllocRec; 64]
+pub fn alloc_array(start: &[u32; 64], count: &[u32; 64]) -> [AllocRec; 64]
     ensures { λ r. ⌜ r ≡ allocArray (now (start .entry)) (now (count .entry)) ⌝ }
 {
     let none = AllocRec { start: 0, count: 0 };
@@ -91,7 +91,7 @@ pub extern "C" fn zq_inobt_recs(
 }
 
 // The reverse mappings whose first blocks, lengths and owners these are.
-fn rmap_array(start: &[u32; 64], count: &[u32; 64], owner: &[u64; 64]) -> [RmapRec; 64]
+pub fn rmap_array(start: &[u32; 64], count: &[u32; 64], owner: &[u64; 64]) -> [RmapRec; 64]
     ensures { λ r. ⌜ r ≡ rmapArray (now (start .entry)) (now (count .entry)) (now (owner .entry)) ⌝ }
 {
     let none = RmapRec {

@@ -1,7 +1,7 @@
 // The records of a group before anything is taken: free extents, and the reverse mappings of head and log.
 ghost use mathlib.Core.Path.{_≡_};
 ghost use Prim.Native.Nat.{_+_};
-ghost use Rattle.seqs.specs.Lists.{appended};
+ghost use Rattle.seqs.specs.Lists.{pushed, appended};
 ghost use Rattle.plan_free.specs.Free.{packFree, ofFree, toFree};
 ghost use Rattle.plan_rmap.specs.Rmap.{packRmap, ofRmap, toRmap};
 ghost use Rattle.plan_site.specs.Sites.{Sound};
@@ -15,6 +15,33 @@ use plan_free::FreeList;
 use plan_rmap::RmapList;
 use plan_site::Site;
 
+// One record more; a full list stays as it is. These lists have six records at most.
+fn push_free(l: FreeList, r: AllocRec) -> FreeList
+    ensures { λ x. ⌜ x ≡ toFree (pushed (ofFree l) r) ⌝ }
+{
+    let at = l.len;
+    if at < 64 {
+        let mut out = l;
+        out.recs[at] = r;
+        out.len = at + 1;
+        return out;
+    }
+    l
+}
+
+fn push_rmap(l: RmapList, r: RmapRec) -> RmapList
+    ensures { λ x. ⌜ x ≡ toRmap (pushed (ofRmap l) r) ⌝ }
+{
+    let at = l.len;
+    if at < 64 {
+        let mut out = l;
+        out.recs[at] = r;
+        out.len = at + 1;
+        return out;
+    }
+    l
+}
+
 // The free record from a up to b, if there is one.
 fn put_gap(l: FreeList, a: u32, b: u32) -> FreeList
     ensures { λ x. ⌜ x ≡ toFree (appended (ofFree l) (gap a b)) ⌝ }
@@ -24,7 +51,7 @@ fn put_gap(l: FreeList, a: u32, b: u32) -> FreeList
             start: a,
             count: b - a,
         };
-        return plan_free::push(l, r);
+        return push_free(l, r);
     }
     l
 }
@@ -43,7 +70,7 @@ fn first_free(s: Site) -> FreeList
         start: s.head,
         count: s.length - s.head,
     };
-    plan_free::push(none, r)
+    push_free(none, r)
 }
 
 // The head by its parts.
@@ -51,7 +78,7 @@ fn put_head(l: RmapList, s: Site) -> RmapList
     requires { ⌜ Sound s ⌝ }
     ensures { λ x. ⌜ x ≡ toRmap (appended (ofRmap l) (headMap s)) ⌝ }
 {
-    let a = plan_rmap::push(
+    let a = push_rmap(
         l,
         RmapRec {
             start: 0,
@@ -59,7 +86,7 @@ fn put_head(l: RmapList, s: Site) -> RmapList
             owner: owner::FS,
         },
     );
-    let b = plan_rmap::push(
+    let b = push_rmap(
         a,
         RmapRec {
             start: s.bno,
@@ -67,7 +94,7 @@ fn put_head(l: RmapList, s: Site) -> RmapList
             owner: owner::AG,
         },
     );
-    let c = plan_rmap::push(
+    let c = push_rmap(
         b,
         RmapRec {
             start: s.ibt,
@@ -75,7 +102,7 @@ fn put_head(l: RmapList, s: Site) -> RmapList
             owner: owner::INOBT,
         },
     );
-    plan_rmap::push(
+    push_rmap(
         c,
         RmapRec {
             start: s.rmap_at,
@@ -94,7 +121,7 @@ fn put_refc(l: RmapList, s: Site) -> RmapList
             count: 1,
             owner: owner::REFC,
         };
-        return plan_rmap::push(l, r);
+        return push_rmap(l, r);
     }
     l
 }
@@ -108,7 +135,7 @@ fn put_log(l: RmapList, s: Site) -> RmapList
             count: s.log_blocks,
             owner: owner::LOG,
         };
-        return plan_rmap::push(l, r);
+        return push_rmap(l, r);
     }
     l
 }

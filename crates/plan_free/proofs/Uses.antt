@@ -18,7 +18,8 @@ use Rattle.seqs.proofs.Weights.{Additive, weigh-append, weigh-spliced}
 use Rattle.btree.specs.declared.records.AllocRec.{AllocRec}
 use Rattle.plan_free.specs.declared.FreeList.{FreeList}
 use Rattle.plan_free.specs.declared.Choice.{Choice}
-use Rattle.plan_free.specs.Free.{zeroRec, freeOf, packFree, startOf, countOf, endOf, before, after, cut, taken, noChoice, chosen, smaller, larger, fitter, bigger, pickedFrom, picked}
+use Rattle.refusals.specs.Numbers.{tooManyRecords}
+use Rattle.plan_free.specs.Free.{zeroRec, freeOf, packFree, startOf, countOf, endOf, before, after, cut, taken, unpicked, noChoice, chosen, smaller, larger, fitter, bigger, pickedFrom, picked}
 use Rattle.plan_free.proofs.Laws.{holder, held, leftOf, taken-ok}
 
 abbrev pub weighFree : (ℕ → ℕ → ℕ) → List AllocRec → ℕ
@@ -86,7 +87,7 @@ bigger-some c r h g = choose-elim Some (choose (c .found) (larger r (c .rec)) tr
 pub picked-some : (l : FreeList) (want : ℕ) → valid startOf countOf 0 (freeOf l) ≡ true → picked l want .found ≡ true → 0 < picked l want .rec .count
 unfolding picked pickedFrom
 picked-some l want v =
-    choose-elim Some (ltb 64 (l .len)) noChoice _ (λ t e. never e)
+    choose-elim Some (ltb 64 (l .len)) (unpicked tooManyRecords) _ (λ t e. never e)
     (λ t. choose-elim Some (fold (fitter want) noChoice (freeOf l) .found) _ _
     (λ u. fold-some (fitter want) (fitter-some want) 0 (freeOf l) noChoice v (λ e. never e))
     (λ u. fold-some bigger bigger-some 0 (freeOf l) noChoice v (λ e. never e)))

@@ -83,12 +83,15 @@ taken l start len =
     (choose (ltb (start + len) (2 ^ 64)) (takenFrom (freeOf l) start (start + len)) (refusal notFree))
     (refusal notValid))
 
--- ---- the record that the free list is taken from: none, or one
+-- ---- the record that the free list is taken from: a number and none, 0 and none, or 0 and one
+abbrev pub unpicked : ℕ → Choice
+unpicked n = record { number = n; found = false; rec = zeroRec }
+
 abbrev pub noChoice : Choice
-noChoice = record { found = false; rec = zeroRec }
+noChoice = unpicked 0
 
 abbrev pub chosen : AllocRec → Choice
-chosen r = record { found = true; rec = r }
+chosen r = record { number = 0; found = true; rec = r }
 
 -- size p is less than size q, or they are equal and start s is lower than start t
 abbrev pub ahead : ℕ → ℕ → ℕ → ℕ → Bool
@@ -117,6 +120,6 @@ bigger c r = next true (larger r (c .rec)) c r
 unfoldable pub pickedFrom : ℕ → List AllocRec → Choice
 pickedFrom want xs = choose (fold (fitter want) noChoice xs .found) (fold (fitter want) noChoice xs) (fold bigger noChoice xs)
 
--- `pick`: nothing of a list of more than 64
+-- `pick`: 34 above 64 records
 unfoldable pub picked : FreeList → ℕ → Choice
-picked l want = choose (ltb 64 (l .len)) noChoice (pickedFrom want (freeOf l))
+picked l want = choose (ltb 64 (l .len)) (unpicked tooManyRecords) (pickedFrom want (freeOf l))

@@ -6,7 +6,6 @@ pub mod taking; // taking.rt: a run taken out of the record that holds it
 
 use btree::AllocRec;
 pub use list::empty;
-pub use list::push;
 pub use picking::pick;
 pub use taking::take;
 
@@ -22,8 +21,9 @@ pub struct Taken {
     pub list: FreeList,
 }
 
-// A record, where there is one.
+// A record, where there is one; `number` is 0, or 34 for a list of more than 64, and then there is none.
 pub struct Choice {
+    pub number: u32,
     pub found: bool,
     pub rec: AllocRec,
 }

@@ -19,7 +19,7 @@ pub fn empty() -> FreeList
 }
 
 // One record more; a full list stays as it is.
-pub fn push(l: FreeList, r: AllocRec) -> FreeList
+pub(crate) fn push(l: FreeList, r: AllocRec) -> FreeList
     ensures { λ x. ⌜ x ≡ toFree (pushed (ofFree l) r) ⌝ }
 {
     let at = l.len;

@@ -2,7 +2,7 @@
 ghost use mathlib.Core.Path.{_≡_};
 ghost use Prim.Native.Nat.{_≤_};
 ghost use Rattle.seqs.specs.Lists.{fold};
-ghost use Rattle.plan_free.specs.Free.{freeOf, noChoice, ahead, next, fitter, bigger, picked};
+ghost use Rattle.plan_free.specs.Free.{freeOf, unpicked, noChoice, ahead, next, fitter, bigger, picked};
 use crate::Choice;
 use crate::FreeList;
 use btree::AllocRec;
@@ -12,7 +12,23 @@ fn nothing() -> Choice
     ensures { λ x. ⌜ x ≡ noChoice ⌝ }
 {
     let rec = AllocRec { start: 0, count: 0 };
-    Choice { found: false, rec }
+    Choice {
+        number: 0,
+        found: false,
+        rec,
+    }
+}
+
+// The answer of a refusal.
+fn refused(number: u32) -> Choice
+    ensures { λ x. ⌜ x ≡ unpicked number ⌝ }
+{
+    let rec = AllocRec { start: 0, count: 0 };
+    Choice {
+        number,
+        found: false,
+        rec,
+    }
 }
 
 // Size p is less than size q, or they are equal and start s is lower than start t.
@@ -33,6 +49,7 @@ fn keep(passes: bool, wins: bool, c: Choice, r: AllocRec) -> Choice
         if c.found {
             if wins {
                 return Choice {
+                    number: 0,
                     found: true,
                     rec: r,
                 };
@@ -40,6 +57,7 @@ fn keep(passes: bool, wins: bool, c: Choice, r: AllocRec) -> Choice
             return c;
         }
         return Choice {
+            number: 0,
             found: true,
             rec: r,
         };
@@ -97,12 +115,12 @@ fn largest(l: FreeList) -> Choice
     c
 }
 
-// The smallest record that has `want` blocks, else the largest; nothing of a list of none, or of more than 64.
+// The smallest record that has `want` blocks, else the largest; none of a list of none. 34 above 64 records.
 pub fn pick(l: FreeList, want: u64) -> Choice
     ensures { λ x. ⌜ x ≡ picked l want ⌝ }
 {
     if l.len > 64 {
-        return nothing();
+        return refused(refusals::TOO_MANY_RECORDS);
     }
     let c = best_fit(l, want);
     if c.found {

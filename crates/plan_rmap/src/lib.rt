@@ -6,7 +6,6 @@ pub mod list; // list.rt: an array of 64 records with a count
 use btree::RmapRec;
 pub use inserting::rmap_insert;
 pub use list::empty;
-pub use list::push;
 
 // The first `len` of `recs` are the list.
 pub struct RmapList {

@@ -23,7 +23,7 @@ pub fn empty() -> RmapList
 }
 
 // One record more; a full list stays as it is.
-pub fn push(l: RmapList, r: RmapRec) -> RmapList
+pub(crate) fn push(l: RmapList, r: RmapRec) -> RmapList
     ensures { λ x. ⌜ x ≡ toRmap (pushed (ofRmap l) r) ⌝ }
 {
     let at = l.len;

@@ -18,7 +18,7 @@ returns c = let s = c .before .before .before .before .before .args .s in c .put
 
 returns-2 : tie.Need-returns-2
 unfolding freeAtFirst
-returns-2 c = c .push .ensures ∙ rw (c .before .before .before .empty .ensures, c .before .before .if1 .left) (ap toFree (pushed-packed zeroRec [] _ (omega arith)))
+returns-2 c = c .push-free .ensures ∙ rw (c .before .before .before .empty .ensures, c .before .before .if1 .left) (ap toFree (pushed-packed zeroRec [] _ (omega arith)))
 
 pub first-free-spec : {M : Type 1} → statement M
 first-free-spec =

@@ -9,7 +9,7 @@ use Rattle.plan.proofs.first.put_gap.Tie as tie
 
 returns : tie.Need-returns
 unfolding appended
-returns c = c .push .ensures ∙ simp (lt-ltb _ _ (c .before .if1 .taken))
+returns c = c .push-free .ensures ∙ simp (lt-ltb _ _ (c .before .if1 .taken))
 
 returns-2 : tie.Need-returns-2
 unfolding appended

@@ -9,7 +9,7 @@ use Rattle.plan.proofs.first.put_head.Tie as tie
 
 returns : tie.Need-returns
 unfolding appended negative
-returns c = c .push4 .ensures ∙ rw (c .before .push3 .ensures, c .before .before .before .push2 .ensures, c .before .before .before .before .push .ensures)
+returns c = c .push-rmap4 .ensures ∙ rw (c .before .push-rmap3 .ensures, c .before .before .before .push-rmap2 .ensures, c .before .before .before .before .push-rmap .ensures)
 
 pub put-head-spec : {M : Type 1} → statement M
 put-head-spec =

@@ -9,7 +9,7 @@ use Rattle.plan.proofs.first.put_log.Tie as tie
 
 returns : tie.Need-returns
 unfolding appended negative
-returns c = c .push .ensures ∙ rw (c .before .if1 .taken)
+returns c = c .push-rmap .ensures ∙ rw (c .before .if1 .taken)
 
 returns-2 : tie.Need-returns-2
 unfolding appended

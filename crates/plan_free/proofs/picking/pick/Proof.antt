@@ -9,7 +9,7 @@ use Rattle.plan_free.proofs.picking.pick.Tie as tie
 
 returns : tie.Need-returns
 unfolding picked pickedFrom
-returns c = c .nothing .ensures ∙ simp (lt-ltb _ _ (c .before .if1 .taken))
+returns c = c .refused .ensures ∙ simp (lt-ltb _ _ (c .before .if1 .taken))
 
 returns-2 : tie.Need-returns-2
 unfolding picked pickedFrom
