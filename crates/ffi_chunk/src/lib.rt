@@ -3,12 +3,14 @@
 ghost use mathlib.Core.Bool.{false};
 ghost use mathlib.Core.Path.{_≡_};
 ghost use lib.ListN.{length};
-ghost use Rattle.chunk.specs.Chunk.{summaryDraw, chunkNumber, chunkBytes, ChunkMade};
+ghost use Rattle.chunk.specs.Chunk.{summaryDraw, chunkNumber, chunkBytes};
+ghost use Rattle.ffi_chunk.specs.Lent.{ChunkLent};
 use chunk::root_chunk;
 use geometry::Geometry;
 use params::Features;
 use params::Timestamp;
 
+// `root_chunk`, which leaves the state after the draws in `next`; a refused call changes neither `next` nor `buf`.
 #[no_mangle]
 pub extern "C" fn zq_root_chunk(
     blocksize: u32,
@@ -46,7 +48,7 @@ pub extern "C" fn zq_root_chunk(
     next: &mut u64,
     buf: &mut [u8],
 ) -> u32
-    ensures { λ r. ⌜ ChunkMade (chunkNumber (record { blocksize = blocksize; blocklog = blocklog; sectsize = sectsize; sectlog = sectlog; lsectsize = lsectsize; lsectlog = lsectlog; inodesize = inodesize; inodelog = inodelog; inopblock = inopblock; inopblog = inopblog; dirblocklog = dirblocklog; dblocks = dblocks; agsize = agsize; agcount = agcount; agblklog = agblklog; imaxpct = imaxpct; logblocks = logblocks; logagno = logagno; «log_agbno» = «log_agbno»; features = record { finobt = finobt; rmapbt = rmapbt; reflink = reflink; inobtcount = inobtcount; bigtime = bigtime; nrext64 = nrext64; sparse = sparse }; label = now (label .entry); roomy = false }) agbno (record { secs = secs; nsecs = nsecs }) (length (now (buf .entry)))) (summaryDraw seed .state) (chunkBytes (record { blocksize = blocksize; blocklog = blocklog; sectsize = sectsize; sectlog = sectlog; lsectsize = lsectsize; lsectlog = lsectlog; inodesize = inodesize; inodelog = inodelog; inopblock = inopblock; inopblog = inopblog; dirblocklog = dirblocklog; dblocks = dblocks; agsize = agsize; agcount = agcount; agblklog = agblklog; imaxpct = imaxpct; logblocks = logblocks; logagno = logagno; «log_agbno» = «log_agbno»; features = record { finobt = finobt; rmapbt = rmapbt; reflink = reflink; inobtcount = inobtcount; bigtime = bigtime; nrext64 = nrext64; sparse = sparse }; label = now (label .entry); roomy = false }) agbno (now (uuid .entry)) (record { secs = secs; nsecs = nsecs }) seed) (now (buf .entry)) r (now (next .exit)) (now (buf .exit)) ⌝ }
+    ensures { λ r. ⌜ ChunkLent (chunkNumber (record { blocksize = blocksize; blocklog = blocklog; sectsize = sectsize; sectlog = sectlog; lsectsize = lsectsize; lsectlog = lsectlog; inodesize = inodesize; inodelog = inodelog; inopblock = inopblock; inopblog = inopblog; dirblocklog = dirblocklog; dblocks = dblocks; agsize = agsize; agcount = agcount; agblklog = agblklog; imaxpct = imaxpct; logblocks = logblocks; logagno = logagno; «log_agbno» = «log_agbno»; features = record { finobt = finobt; rmapbt = rmapbt; reflink = reflink; inobtcount = inobtcount; bigtime = bigtime; nrext64 = nrext64; sparse = sparse }; label = now (label .entry); roomy = false }) agbno (record { secs = secs; nsecs = nsecs }) (length (now (buf .entry)))) (summaryDraw seed .state) (chunkBytes (record { blocksize = blocksize; blocklog = blocklog; sectsize = sectsize; sectlog = sectlog; lsectsize = lsectsize; lsectlog = lsectlog; inodesize = inodesize; inodelog = inodelog; inopblock = inopblock; inopblog = inopblog; dirblocklog = dirblocklog; dblocks = dblocks; agsize = agsize; agcount = agcount; agblklog = agblklog; imaxpct = imaxpct; logblocks = logblocks; logagno = logagno; «log_agbno» = «log_agbno»; features = record { finobt = finobt; rmapbt = rmapbt; reflink = reflink; inobtcount = inobtcount; bigtime = bigtime; nrext64 = nrext64; sparse = sparse }; label = now (label .entry); roomy = false }) agbno (now (uuid .entry)) (record { secs = secs; nsecs = nsecs }) seed) (now (buf .entry)) (now (next .entry)) r (now (next .exit)) (now (buf .exit)) ⌝ }
 {
     let text = *label;
     let features = Features {
@@ -84,6 +86,9 @@ pub extern "C" fn zq_root_chunk(
     };
     let time = Timestamp { secs, nsecs };
     let made = root_chunk(g, agbno, uuid, time, seed, buf);
-    *next = made.state;
+    if made.number == 0 {
+        *next = made.state;
+        return 0;
+    }
     made.number
 }

@@ -2,11 +2,15 @@
 -- Assumes nothing.
 use mathlib.Core.List.{List, [], _∷_, _++_}
 use Prim.Native.Nat.{ℕ}
+use lib.Dec.{eqb}
+use lib.ListN.{getD}
+use Rattle.seqs.specs.Lists.{choose}
 use Rattle.geometry.specs.Log.{headerOf, preallocOf}
 use Rattle.geometry.specs.declared.Geometry.{Geometry}
+use Rattle.geometry.specs.declared.Computed.{Computed}
 use Rattle.geometry_answers.specs.Named.{isAnswer}
 use Rattle.geometry_layout.specs.Places.{cntBlock, ibtBlock, fibtBlock, rmapBlock, refcBlock, usableOf, agflSize, freelistOf, chunkOf, clusterOf, alignOf, sparseAlign, rootChunkOf, rextSize, lsunitBytes, logsunitOf}
-use Rattle.geometry_counts.specs.Known.{known64}
+use Rattle.geometry_counts.specs.Known.{known64, number64}
 use Rattle.geometry_counts.specs.declared.Value64.{Value64}
 use Rattle.geometry_counts.specs.declared.Value64.the-variants.{Refused, Of}
 use Rattle.geometry_counts.specs.declared.Value32.{Value32}
@@ -100,3 +104,7 @@ placeValues g b slot =
 -- all of them
 unfoldable pub valuesOf : Geometry → GroupBlock → ℕ → List Value64
 valuesOf g b slot = headValues g ++ (inodeValues g ++ (fixedValues g ++ placeValues g b slot))
+
+-- the number of one answer: the geometry step's own comes first
+unfoldable pub placeNumber : Computed → GroupBlock → ℕ → ℕ → ℕ
+placeNumber c b slot which = choose (eqb (c .number) 0) (number64 (getD (valuesOf (c .geometry) b slot) which none)) (c .number)

@@ -2,10 +2,9 @@
 // a time. The comparison with the Rust calls the port through it.
 ghost use mathlib.Core.Path.{_≡_};
 ghost use lib.ListN.{getD};
-ghost use Rattle.geometry_counts.specs.Known.{number64};
 ghost use Rattle.geometry.specs.Compute.{computeDef};
 ghost use Rattle.ffi_geometry.specs.Input.{paramsOf};
-ghost use Rattle.ffi_places.specs.Values.{value64, none, valuesOf};
+ghost use Rattle.ffi_places.specs.Values.{value64, none, valuesOf, placeNumber};
 use crate::row::chosen;
 use crate::row::number_of;
 use crate::row::value_of;
@@ -17,7 +16,7 @@ use params::Label;
 pub mod row; // all answers for a geometry and a place
 
 // The number of one answer: 0 to 22 are the methods without a number in the Rust's order, then come ag_blocks, agb_to_fsb, agb_to_byte,
-// agb_to_daddr and ino. Options and device are those of `zq_geometry`; a refused geometry gives 31.
+// agb_to_daddr and ino. Options and device are those of `zq_geometry`; their own refusal comes first.
 #[no_mangle]
 pub extern "C" fn zq_place_number(
     which: u64,
@@ -39,7 +38,7 @@ pub extern "C" fn zq_place_number(
     logical: u32,
     physical: u32,
 ) -> u64
-    ensures { λ r. ⌜ r ≡ number64 (getD (valuesOf (computeDef (paramsOf given size block sector inode agcount agsize imaxpct features (record { length = «label_length»; bytes = now (label .entry) })) device logical physical .geometry) (record { 0 = agno; 1 = agbno }) slot) which none) ⌝ }
+    ensures { λ r. ⌜ r ≡ placeNumber (computeDef (paramsOf given size block sector inode agcount agsize imaxpct features (record { length = «label_length»; bytes = now (label .entry) })) device logical physical) (record { 0 = agno; 1 = agbno }) slot which ⌝ }
 {
     let bytes = *label;
     let text = Label {
@@ -59,6 +58,9 @@ pub extern "C" fn zq_place_number(
         text,
     );
     let c = Geometry::compute(p, device, logical, physical);
+    if c.number != 0 {
+        return c.number as u64;
+    }
     let g = c.geometry;
     number_of(chosen(which, g, GroupBlock(agno, agbno), slot))
 }

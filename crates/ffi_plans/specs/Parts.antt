@@ -23,9 +23,14 @@ use Rattle.ffi_records.specs.Parts.{freeAt, rmapAt}
 unfoldable pub stepNumbers : Request → List ℕ
 stepNumbers r = orNext (r .number) (stepOf r .number) ∷ stepOf r .geometry .agcount ∷ stepOf r .geometry .logagno ∷ []
 
--- the plan of a group of the geometry that the records ask for; 31 where it is refused
+-- a plan with a number before its own
+abbrev pub after : ℕ → Planned → Planned
+after n p = record { number = orNext n (p .number); plan = p .plan }
+
+-- the plan of a group of the geometry that the records ask for: 28, then the geometry step's number, then the plan's
 unfoldable pub planFrom : List ℕ → ℕ → Planned
-planFrom xs agno = planned (stepOf (parseDef xs) .geometry) agno
+planFrom xs agno =
+    after (orNext (parseDef xs .number) (stepOf (parseDef xs) .number)) (planned (stepOf (parseDef xs) .geometry) agno)
 
 -- 1 where it is given
 abbrev pub presence : OptU64 → ℕ

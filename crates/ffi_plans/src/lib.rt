@@ -57,18 +57,24 @@ fn step_of(r: Request) -> Computed
 fn plan_from(input: &[u8], agno: u64) -> Planned
     ensures { λ p. ⌜ p ≡ planFrom (now (input .entry)) agno ⌝ }
 {
-    let c = step_of(parse(input));
+    let r = parse(input);
+    let c = step_of(r);
     let g = c.geometry;
-    plan_ag(g, agno)
+    let p = plan_ag(g, agno);
+    let plan = p.plan;
+    let step = first_number(r.number, c.number);
+    let number = first_number(step, p.number);
+    Planned { number, plan }
 }
 
-fn first_number(records: u32, step: u32) -> u64
-    ensures { λ n. ⌜ n ≡ orNext records step ⌝ }
+// The first of two numbers that isn't 0.
+fn first_number(a: u32, b: u32) -> u32
+    ensures { λ n. ⌜ n ≡ orNext a b ⌝ }
 {
-    if records != 0 {
-        return records as u64;
+    if a != 0 {
+        return a;
     }
-    step as u64
+    b
 }
 
 fn step_numbers(r: Request) -> [u64; 3]
@@ -77,7 +83,7 @@ fn step_numbers(r: Request) -> [u64; 3]
     let c = step_of(r);
     let g = c.geometry;
     let number = first_number(r.number, c.number);
-    [number, g.agcount, g.logagno]
+    [number as u64, g.agcount, g.logagno]
 }
 
 fn plan_numbers(p: Planned) -> [u64; 10]
@@ -145,7 +151,7 @@ pub extern "C" fn zq_step(which: u64, input: &[u8]) -> u64
     0
 }
 
-// Number `which` of the plan of group agno: its number, agno, length, how many free records, free-list blocks and reverse mappings
+// Number `which` of the plan of group agno: its number (28, 1 to 24, 29, 25), agno, length, how many free records, free-list blocks and reverse mappings
 // there are, whether there is a chunk and where, freeblks, longest; any other is 0.
 #[no_mangle]
 pub extern "C" fn zq_plan(which: u64, agno: u64, input: &[u8]) -> u64

@@ -1,6 +1,6 @@
 //! The root chunk. A case is a change of the geometry (1 byte: 0 is none), the chunk's first block (8), UUID, time (12),
 //! the generator's state (8), the input records with their length (4) before them, and the lent buffer. An answer is the
-//! number (4 bytes), the state after the draws (8, zeros where the call is refused), and the buffer as it is left.
+//! number (4 bytes), the state after the draws (8, the state given where the call is refused), and the buffer as it is left.
 
 use std::io;
 
@@ -106,7 +106,7 @@ impl Mode for RootChunk {
         let buf = f.rest();
         let number = number(&c, buf.len());
         if number != 0 {
-            out.write_all(&answered(number, 0, buf))?;
+            out.write_all(&answered(number, c.seed, buf))?; // the lent state stays, and it begins as the seed
             return Ok(Told::apart("", number));
         }
         let mut gen = Gen(c.seed);

@@ -11,4 +11,4 @@ returns c = rw (c .first-number .ensures, c .before .before .step-of .ensures)
 
 pub step-numbers-spec : {M : Type 1} → statement M
 step-numbers-spec = tie.close (tie.spec
-    (λ c κs. search needs) (λ c κs. search needs) returns)
+    (λ c κs. search needs) (λ c κs. search needs) (λ c. search needs) returns)
