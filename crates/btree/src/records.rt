@@ -7,8 +7,6 @@ pub const INOBT_REC: usize = 16;
 
 pub const RMAP_REC: usize = 24;
 
-pub const REFC_REC: usize = 12;
-
 // A free extent: first block, length in blocks.
 pub struct AllocRec {
     pub start: u32,

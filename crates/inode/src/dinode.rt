@@ -71,13 +71,9 @@ pub mod off {
 
 // The formats of a fork.
 pub mod format {
-    pub const DEV: u8 = 0;
-
     pub const LOCAL: u8 = 1;
 
     pub const EXTENTS: u8 = 2;
-
-    pub const BTREE: u8 = 3;
 }
 
 // The bitmap inode's access time is a counter.
