@@ -139,7 +139,25 @@ fn answer_first(words: &[u8], n: usize) -> bool {
     false
 }
 
-fn main() {
+fn usage(fd: i32) {
+    io::write_all(
+        fd,
+        b"usage: mkrequest size=2T logical=512 physical=4096 uuid=none WORD.. > INPUT\n",
+    );
+    io::write_all(
+        fd,
+        b"words: use= block= sector= inode= agcount= agsize= imaxpct= label= seed= time= nanoseconds= features= sizing=\n",
+    );
+}
+
+// Whether the first argument is this word.
+fn is_word(word: &[u8]) -> bool {
+    let mut argument = io::buffer();
+    let n = os::arg(1, &mut argument);
+    check::same(&argument[..n], word)
+}
+
+fn make() {
     let mut words = io::buffer();
     let taken = take_words(&mut words);
     if taken.failed {
@@ -149,4 +167,16 @@ fn main() {
     if !answer_first(&words, taken.n) {
         os::fail(b"standard output");
     }
+}
+
+fn main() {
+    if is_word(b"--help") {
+        usage(STDOUT_FILENO);
+        return;
+    }
+    if os::arg_count() < 2 {
+        usage(STDERR_FILENO);
+        return;
+    }
+    make();
 }

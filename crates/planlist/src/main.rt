@@ -2,6 +2,7 @@
 // What is printed is `planBytes` of the input (`plan_table`); here bytes are only read and written.
 ghost use lib.ListN.{length};
 ghost use Rattle.plan_table.specs.Filling.{begun, Printing};
+use libc::STDERR_FILENO;
 use libc::STDIN_FILENO;
 use libc::STDOUT_FILENO;
 use plan_print::Printed;
@@ -14,7 +15,22 @@ fn answer(input: &[u8], buf: &mut [u8]) -> Printed
     plan_print::print(STDOUT_FILENO, t, buf)
 }
 
-fn main() {
+fn usage(fd: i32) {
+    io::write_all(fd, b"usage: planlist < INPUT\n");
+    io::write_all(
+        fd,
+        b"Prints the plan of every group of the disk that the input records ask for, or a refusal's number.\n",
+    );
+}
+
+// Whether the first argument is this word.
+fn is_word(word: &[u8]) -> bool {
+    let mut argument = io::buffer();
+    let n = os::arg(1, &mut argument);
+    check::same(&argument[..n], word)
+}
+
+fn plan() {
     let mut input = request::input_buffer();
     let mut buf = io::large_buffer();
     let i = input_bytes::read_input(STDIN_FILENO, &mut input);
@@ -27,4 +43,16 @@ fn main() {
     if !p.written {
         os::fail(b"standard output");
     }
+}
+
+fn main() {
+    if is_word(b"--help") {
+        usage(STDOUT_FILENO);
+        return;
+    }
+    if os::arg_count() != 1 {
+        usage(STDERR_FILENO);
+        return;
+    }
+    plan();
 }
