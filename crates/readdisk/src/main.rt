@@ -40,26 +40,34 @@ fn most_bytes() -> [u8; 163840]
     [0; 163840]
 }
 
-// The pass, what it wants next, and how it stands with the reading.
+// The pass, what it wants next, how it stands with the reading, and where the bytes that were read last stand on the disk.
 struct Reading {
     stop: u8,
     pass: Pass,
     wanted: Wanted,
+    offset: u64,
+    length: usize,
 }
 
-fn read_so_far(stop: u8, pass: Pass) -> Reading {
+fn read_so_far(stop: u8, pass: Pass, offset: u64, length: usize) -> Reading {
     let wanted = reader_pass::wants(pass);
-    Reading { stop, pass, wanted }
+    Reading {
+        stop,
+        pass,
+        wanted,
+        offset,
+        length,
+    }
 }
 
 // Reads at the offset and feeds what was read, in buffers of its length.
 fn read_and_feed(fd: i32, p: Pass, offset: u64, work: &mut [u8], buf: &mut [u8]) -> Reading {
     let stop = input::fill(fd, offset, buf);
     if stop != WHOLE {
-        return read_so_far(stop, p);
+        return read_so_far(stop, p, offset, 0);
     }
     let fed = reader_pass::feed(p, buf, work);
-    read_so_far(WHOLE, fed)
+    read_so_far(WHOLE, fed, offset, buf.len())
 }
 
 // One turn. Buffers that are shorter than what is wanted give the pass fewer bytes, and it refuses them.
@@ -86,13 +94,12 @@ fn read_on(fd: i32, first: Reading, work: &mut [u8], buf: &mut [u8]) -> Reading 
     r
 }
 
-// The table of an accepted disk, or the refusal.
-fn answer(v: Verdict) -> u8 {
+// The table of an accepted disk, or the refusal of the bytes that stand at this offset.
+fn answer(v: Verdict, offset: u64, bytes: &[u8]) -> u8 {
     let g = v.geometry;
     let uuid = v.uuid;
     if v.number != 0 {
-        words::say_place(v.place, g.agcount);
-        words::say_refused();
+        words::say_refused(v, offset, bytes);
         return printed::print_refused(v.number);
     }
     words::say_disk(g, uuid);
@@ -114,8 +121,8 @@ fn refuse_short(stop: u8, number: u32) {
     }
 }
 
-// What is said of a disk that was read.
-fn say_read(r: Reading) {
+// What is said of a disk that was read; the buffer begins with the bytes that were read last.
+fn say_read(r: Reading, buf: &[u8]) {
     let v = reader_pass::finish(r.pass);
     let g = v.geometry;
     if r.stop != WHOLE {
@@ -124,34 +131,35 @@ fn say_read(r: Reading) {
         refuse_short(r.stop, v.number);
         return;
     }
-    say_written(answer(v));
+    let n = min_usize(r.length, buf.len());
+    say_written(answer(v, r.offset, &buf[..n]));
 }
 
 fn read_few(fd: i32, first: Reading) {
     let mut work = few_bytes();
     let mut buf = few_bytes();
     let r = read_on(fd, first, &mut work, &mut buf);
-    say_read(r);
+    say_read(r, &buf);
 }
 
 fn read_most(fd: i32, first: Reading) {
     let mut work = most_bytes();
     let mut buf = most_bytes();
     let r = read_on(fd, first, &mut work, &mut buf);
-    say_read(r);
+    say_read(r, &buf);
 }
 
 // The first turn says how long a head is.
 fn read_open(fd: i32) {
     let mut work = [0u8; 512];
     let mut buf = [0u8; 512];
-    let first = turn(
-        fd,
-        read_so_far(WHOLE, reader_pass::begin()),
-        &mut work,
-        &mut buf,
-    );
+    let begun = read_so_far(WHOLE, reader_pass::begin(), 0, 0);
+    let first = turn(fd, begun, &mut work, &mut buf);
     let w = first.wanted;
+    if !goes_on(first) {
+        say_read(first, &buf);
+        return;
+    }
     if w.length <= FEW {
         read_few(fd, first);
         return;

@@ -1,12 +1,14 @@
 // What is said of a disk in words, on standard error.
-ghost use Prim.Native.Nat.{_≤_};
-ghost use lib.ListN.{length};
 use crate::ENDED;
 use crate::READ_FAILED;
 use endian::be16;
 use endian::be32;
 use geometry::Geometry;
 use libc::STDERR_FILENO;
+use params::Features;
+use reader_agreement::Agreement;
+use reader_agreement::agreed_at;
+use reader_pass::Verdict;
 
 fn say(text: &[u8]) {
     io::write_all(STDERR_FILENO, text);
@@ -41,21 +43,18 @@ fn say_uuid(uuid: &[u8]) {
     say_long(uuid, 12);
 }
 
-// The bytes of a label before the zeros at its end.
-fn label_length(label: &[u8]) -> usize
-    ensures { λ r. ⌜ r ≤ length (now (label .entry)) ⌝ }
-{
-    let mut n = label.len();
-    while 0 < n && label[n - 1] == 0 {
-        n -= 1;
+// The bytes from `start` on.
+fn say_from(text: &[u8], start: usize) {
+    if start <= text.len() {
+        say(&text[start..]);
     }
-    n
 }
 
-fn say_label(label: &[u8]) {
-    let n = label_length(label);
+fn say_label(label: [u8; 12]) {
+    let text = label_text::text_of(label);
+    let bytes = text.bytes;
     say(b", label \"");
-    say(&label[..n]);
+    say_from(&bytes, text.start);
     say(b"\"");
 }
 
@@ -73,6 +72,26 @@ fn say_blocks(g: Geometry) {
     say(b"\n");
 }
 
+fn say_feature(on: bool, name: &[u8]) {
+    if on {
+        say(b" ");
+        say(name);
+    }
+}
+
+// The features that are on, by the names that mkrequest takes.
+fn say_features(f: Features) {
+    say(b"features:");
+    say_feature(f.finobt, b"finobt");
+    say_feature(f.rmapbt, b"rmapbt");
+    say_feature(f.reflink, b"reflink");
+    say_feature(f.inobtcount, b"inobtcount");
+    say_feature(f.bigtime, b"bigtime");
+    say_feature(f.nrext64, b"nrext64");
+    say_feature(f.sparse, b"sparse");
+    say(b"\n");
+}
+
 // The sizing of the log: plain also where a roomy run leaves the same log.
 fn say_sizing(roomy: bool) {
     if roomy {
@@ -82,14 +101,17 @@ fn say_sizing(roomy: bool) {
     say(b"log sizing: plain\n");
 }
 
-// An accepted disk: UUID, label, sizes and the sizing of its log.
+// An accepted disk: UUID, label, sizes, imaxpct, features and the sizing of its log.
 pub(crate) fn say_disk(g: Geometry, uuid: [u8; 16]) {
     let label = g.label;
     say(b"uuid ");
     say_uuid(&uuid);
-    say_label(&label);
+    say_label(label);
     say_sizes(g);
     say_blocks(g);
+    say_number(b"imaxpct: ", g.imaxpct as u64);
+    say(b"\n");
+    say_features(g.features);
     say_sizing(g.roomy);
 }
 
@@ -111,6 +133,22 @@ pub(crate) fn say_stop(stop: u8) {
     }
 }
 
-pub(crate) fn say_refused() {
-    say(b": no accepted run leaves these bytes here\n");
+// The first byte that differs from what a run leaves in the place at this offset, if that is known.
+fn say_differs(a: Agreement, offset: u64, length: usize) {
+    if a.known && a.count < length {
+        say_number(
+            b"; they differ from offset ",
+            std::num::wrapping_add_u64(offset, a.count as u64),
+        );
+        say(b" on");
+    }
+}
+
+// A refused place, whose bytes stand at this offset.
+pub(crate) fn say_refused(v: Verdict, offset: u64, bytes: &[u8]) {
+    let g = v.geometry;
+    say_place(v.place, g.agcount);
+    say(b": no accepted run leaves these bytes here");
+    say_differs(agreed_at(v, bytes), offset, bytes.len());
+    say(b"\n");
 }
