@@ -2,14 +2,16 @@
 -- Assumes nothing.
 use mathlib.Core.Path.{_≡_, refl, sym, ap, _∙_}
 use mathlib.Core.List.{List, [], _∷_, _++_, append-assoc, append-nil}
-use Prim.Native.Nat.{ℕ, _+_, _^_, _≤_, _<_}
+use Prim.Native.Nat.{ℕ, _+_, _-_, _^_, _≤_, _<_, min}
 use native.Mathlib.Omega.{arith}
-use lib.ListN.{length, getD, drop, take, length-append}
+use lib.ListN.{length, getD, drop, take, replicate, length-append}
 use lib.Seq.{drop-append-add, drop-at, take-at, getD-append-add}
 use Rattle.endian.specs.Bytes.{beBytes, beAt}
+use Rattle.endian.specs.Fields.{part}
 use Rattle.endian.proofs.Laws.{length-be}
 use Rattle.endian.proofs.Fields.{at-written}
 use Rattle.request.specs.Cases.{dv, op, lb, id}
+use Rattle.request.specs.Options.{labelAt}
 use Rattle.request_input.specs.declared.Record.{Record}
 use Rattle.request_input.specs.Records.{entry, whole, option, recordAt, records}
 use Rattle.request_input.proofs.Marks.{held, device-at, option-at, label-at, uuid-at}
@@ -131,3 +133,20 @@ uuid-reads bs h = record {
       ∙ ap (λ (n : ℕ). entry 2 (length pre + 2) n) (sym q);
   some = omega arith;
 }
+
+-- ---- the bytes behind a mark
+pub label-there : (pre text post : List ℕ) → length text ≤ 12
+    → labelAt (length pre + 2) (pre ++ (lb text ++ post)) ≡ record { length = length text; bytes = text ++ replicate (12 - length text) 0 }
+unfolding labelAt lb beBytes
+label-there pre text post h =
+    let xs = pre ++ (lb text ++ post) in
+    let n : getD xs (length pre + 2) 0 ≡ length text = getD-append-add pre (lb text ++ post) 2 0 in
+    let m : min (length text) 12 ≡ length text = omega arith in
+    let e : length pre + 2 + 1 ≡ length pre + 3 = omega arith in
+    let d : part (length pre + 2 + 1) (length text) xs ≡ text =
+    rw e (ap (take (length text)) (drop-append-add pre (lb text ++ post) 3) ∙ take-at text post (length text) refl) in
+    rw (n, m, d) refl
+
+pub uuid-there : (pre bytes post : List ℕ) → length bytes ≡ 16 → part (length pre + 2) 16 (pre ++ (id bytes ++ post)) ≡ bytes
+unfolding id beBytes
+uuid-there pre bytes post h = ap (take 16) (drop-append-add pre (id bytes ++ post) 2) ∙ take-at bytes post 16 h

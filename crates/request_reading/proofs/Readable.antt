@@ -6,13 +6,16 @@ use mathlib.Core.List.{List, [], _∷_, _++_, append-assoc, append-nil}
 use Prim.Native.Nat.{ℕ, zero, suc, _+_, _-_, _^_, _≤_, _<_}
 use native.Mathlib.Omega.{arith}
 use lib.Dec.{eqb, ltb}
-use lib.ListN.{length, getD}
+use lib.ListN.{length, getD, replicate, length-append, length-take}
 use borrow.Author.Tests.{lt-ltb, le-ltb, eq-eqb, ne-eqb, eqb-true}
 use mathlib.Core.Logic.{_⊎_, inl, inr}
 use Rattle.seqs.specs.Lists.{choose}
 use Rattle.seqs.proofs.Laws.{lt-or-le}
 use Rattle.endian.specs.Bytes.{beBytes, beAt}
-use Rattle.request.specs.Cases.{dv, op}
+use Rattle.request.specs.Cases.{dv, op, lb, id}
+use Rattle.request.specs.Options.{labelGiven, uuidGiven}
+use Rattle.params.specs.declared.Presence.the-variants.{Given as Yes}
+use Rattle.params.specs.Params.{noLabel, noUuid}
 use Rattle.params.specs.Options.{given64}
 use Rattle.params.specs.declared.OptU64.{OptU64}
 use Rattle.params.specs.declared.OptU64.the-variants.{Absent, Given}
@@ -22,8 +25,8 @@ use Rattle.request_words.specs.Values.{largest}
 use Rattle.request_words.specs.Words.{lookup, given, wordsFrom}
 use Rattle.request_words.specs.Asked.{pairs, deviceRecord, optionRecord, optionRecords, labelText, labelRecord, uuidRecord, wordsRequest}
 use Rattle.request_words.proofs.Writing.{found-small, length-pairs}
-use Rattle.request_reading.proofs.Pieces.{field-at, Piece, Reads, All, joined, entries, records-are, device-piece, option-piece, label-piece, uuid-piece, device-reads, option-reads, label-reads, uuid-reads}
-use Rattle.request_reading.specs.Reading.{Readable, optionAsked, OptionsReadBack, DeviceReadBack}
+use Rattle.request_reading.proofs.Pieces.{field-at, Piece, Reads, All, joined, entries, records-are, device-piece, option-piece, label-piece, uuid-piece, device-reads, option-reads, label-reads, uuid-reads, label-there, uuid-there}
+use Rattle.request_reading.specs.Reading.{Readable, optionAsked, OptionsReadBack, DeviceReadBack, labelAsked, uuidAsked, LabelReadBack, UuidReadBack}
 
 -- ---- pieces that are known, each key once
 abbrev Fresh : ℕ → List Piece → Type 0
@@ -76,6 +79,53 @@ skip : (b : Bool) (key c v at : ℕ) (ps : List Piece) (o : OptU64) → (3 + c �
 unfolding lookupRecord entries
 skip true key c v at ps o ne f = rw (ne-eqb key (3 + c) (λ e. ne (sym e))) (f (at + length (op c v)))
 skip false key c v at ps o ne f = f at
+
+-- a record that is there or isn't is passed
+pass : (b : Bool) (key c v at n : ℕ) (ps rest : List Piece) → (3 + c ≡ key → ⊥)
+    → ((at : ℕ) → lookupRecord key (entries at ps) ≡ lookupRecord key (entries (at + n) rest))
+    → lookupRecord key (entries at (kept b (option-piece c v) ps)) ≡ lookupRecord key (entries (at + (length (choose b (op c v) []) + n)) rest)
+unfolding lookupRecord entries
+pass true key c v at n ps rest ne f =
+    let e : at + length (op c v) + n ≡ at + (length (op c v) + n) = omega arith in
+    rw (ne-eqb key (3 + c) (λ d. ne (sym d))) (f (at + length (op c v)) ∙ ap (λ (k : ℕ). lookupRecord key (entries k rest)) e)
+pass false key c v at n ps rest ne f = f at ∙ ap (λ (k : ℕ). lookupRecord key (entries k rest)) (let e : at + n ≡ at + (0 + n) = omega arith in e)
+
+-- ---- label and UUID, each there or not
+module _ (b c : Bool) (text bytes : List ℕ) where
+  both-names : List Piece
+  both-names = kept b (label-piece text) (kept c (uuid-piece bytes) [])
+
+  label-found : (at : ℕ) → lookupRecord 1 (entries at both-names) ≡ choose b (Given (at + 2)) Absent
+  unfolding both-names lookupRecord entries
+  label-found at = by b c
+    where
+      by : (b c : Bool) → lookupRecord 1 (entries at (kept b (label-piece text) (kept c (uuid-piece bytes) []))) ≡ choose b (Given (at + 2)) Absent
+      by true c = refl
+      by false true = refl
+      by false false = refl
+
+  uuid-found : (at : ℕ) → lookupRecord 2 (entries at both-names) ≡ choose c (Given (at + length (choose b (lb text) []) + 2)) Absent
+  unfolding both-names lookupRecord entries
+  uuid-found at = by b c
+    where
+      by : (b c : Bool) → lookupRecord 2 (entries at (kept b (label-piece text) (kept c (uuid-piece bytes) [])))
+          ≡ choose c (Given (at + length (choose b (lb text) []) + 2)) Absent
+      by true true = refl
+      by true false = refl
+      by false true = ap Given (let e : at + 2 ≡ at + 0 + 2 = omega arith in e)
+      by false false = refl
+
+-- ---- what stands where they are found
+label-given : (b : Bool) (pre text post : List ℕ) → length text ≤ 12
+    → labelGiven (choose b (Given (length pre + 2)) Absent) (pre ++ (choose b (lb text) [] ++ post))
+    ≡ choose b (record { length = length text; bytes = text ++ replicate (12 - length text) 0 }) noLabel
+label-given true pre text post h = label-there pre text post h
+label-given false pre text post h = refl
+
+uuid-given : (b : Bool) (pre bytes post : List ℕ) → length bytes ≡ 16
+    → uuidGiven (choose b (Given (length pre + 2)) Absent) (pre ++ (choose b (id bytes) [] ++ post)) ≡ choose b (record { presence = Yes; bytes = bytes }) noUuid
+uuid-given true pre bytes post h = ap (λ (u : List ℕ). record { presence = Yes; bytes = u }) (uuid-there pre bytes post h)
+uuid-given false pre bytes post h = refl
 
 -- ---- numbers fit their options
 fits-code : (code v : ℕ) → 1 ≤ code → code ≤ 12 → v ≤ getD largest code 0 → fits code v ≡ true
@@ -255,6 +305,59 @@ module _ (xs : List ℕ) where
       rw (ne-eqb (3 + k) 0 (λ e. omega arith))
       (options-found k 12 1 names a (omega arith) (names-fresh (3 + k) (omega arith)) (0 + length (device-piece (value-of 13) (value-of 14) (value-of 15) .bytes)))
 
+  options-passed : (key n code : ℕ) (rest : List Piece) → key < 3 + code → (at : ℕ)
+      → lookupRecord key (entries at (option-pieces n code rest)) ≡ lookupRecord key (entries (at + length (optionRecords n code (wordsFrom 0 xs))) rest)
+  unfolding option-pieces optionRecords optionRecord value-of
+  options-passed key zero code rest h at = ap (λ (k : ℕ). lookupRecord key (entries k rest)) (let e : at ≡ at + 0 = omega arith in e)
+  options-passed key (suc n) code rest h at =
+      pass (given code (wordsFrom 0 xs)) key code (value-of code) at (length (optionRecords n (code + 1) (wordsFrom 0 xs))) (option-pieces n (code + 1) rest) rest
+      (λ e. omega arith) (options-passed key n (code + 1) rest (omega arith))
+      ∙ ap (λ (k : ℕ). lookupRecord key (entries (at + k) rest)) (sym (length-append (optionRecord code (wordsFrom 0 xs)) (optionRecords n (code + 1) (wordsFrom 0 xs))))
+
+  -- what stands before label and UUID
+  before : List ℕ
+  before = deviceRecord (wordsFrom 0 xs) ++ optionRecords 12 1 (wordsFrom 0 xs)
+
+  behind : wordsRequest xs ≡ before ++ (labelRecord (wordsFrom 0 xs) xs ++ uuidRecord (wordsFrom 0 xs) xs)
+  unfolding wordsRequest before
+  behind = sym (append-assoc (deviceRecord (wordsFrom 0 xs)) (optionRecords 12 1 (wordsFrom 0 xs)) (labelRecord (wordsFrom 0 xs) xs ++ uuidRecord (wordsFrom 0 xs) xs))
+
+  names-found : (key : ℕ) → 1 ≤ key → key ≤ 2 → lookupRecord key (records 0 (wordsRequest xs)) ≡ lookupRecord key (entries (length before) names)
+  unfolding pieces device entries lookupRecord before deviceRecord value-of
+  names-found key a b =
+      let d = length (dv (value-of 13) (value-of 14) (value-of 15)) in
+      let o = length (optionRecords 12 1 (wordsFrom 0 xs)) in
+      let l : 0 + d + o ≡ length before = rw (length-append (dv (value-of 13) (value-of 14) (value-of 15)) (optionRecords 12 1 (wordsFrom 0 xs))) (omega arith) in
+      rw (words-records, ne-eqb key 0 (λ e. omega arith))
+      (options-passed key 12 1 names (omega arith) (0 + d) ∙ ap (λ (k : ℕ). lookupRecord key (entries k names)) l)
+
+  label-text : List ℕ
+  label-text = labelText (lookup 0 (wordsFrom 0 xs)) xs
+
+  label-short : length label-text ≤ 12
+  unfolding label-text
+  label-short = simp length-take (omega arith)
+
+  label-read : labelGiven (lookupRecord 1 (records 0 (wordsRequest xs))) (wordsRequest xs) ≡ labelAsked (wordsFrom 0 xs) xs
+  unfolding names label-flag uuid-flag uuid-text label-text labelRecord both-names
+  label-read =
+      rw (names-found 1 (omega arith) (omega arith), label-found label-flag uuid-flag label-text uuid-text (length before), behind)
+      (label-given label-flag before label-text (uuidRecord (wordsFrom 0 xs) xs) label-short)
+
+  uuid-read : uuidGiven (lookupRecord 2 (records 0 (wordsRequest xs))) (wordsRequest xs) ≡ uuidAsked (wordsFrom 0 xs) xs
+  unfolding names label-flag uuid-flag uuid-text label-text labelRecord uuidRecord both-names
+  uuid-read =
+      let ws = wordsFrom 0 xs in
+      let pre = before ++ labelRecord ws xs in
+      let l : length before + length (labelRecord ws xs) ≡ length pre = sym (length-append before (labelRecord ws xs)) in
+      let w : wordsRequest xs ≡ pre ++ (uuidRecord ws xs ++ []) =
+      behind ∙ sym (append-assoc before (labelRecord ws xs) (uuidRecord ws xs)) ∙ ap (λ (u : List ℕ). pre ++ u) (sym (append-nil (uuidRecord ws xs))) in
+      ap (λ (o : OptU64). uuidGiven o (wordsRequest xs))
+      (names-found 2 (omega arith) (omega arith) ∙ uuid-found label-flag uuid-flag label-text uuid-text (length before)
+      ∙ ap (λ (k : ℕ). choose uuid-flag (Given (k + 2)) Absent) l)
+      ∙ ap (uuidGiven (choose uuid-flag (Given (length pre + 2)) Absent)) w
+      ∙ uuid-given uuid-flag pre uuid-text [] (length-pairs 16 0 (lookup 16 ws .from) xs)
+
   found-asked : (k : ℕ) → 1 ≤ k → k ≤ 12 → lookupRecord (3 + k) (records 0 (wordsRequest xs)) ≡ optionAsked k (wordsFrom 0 xs)
   unfolding asked value-of
   found-asked k a b = rw words-records (pieces-found k a b)
@@ -287,3 +390,11 @@ options-read-back xs code a b = found-asked xs code a b
 pub readable : Readable
 unfolding Readable wellFormed
 readable xs = rw (words-records xs, starts xs, good-sound 0 (pieces xs) (all-good xs))
+
+pub label-read-back : LabelReadBack
+unfolding LabelReadBack
+label-read-back xs = label-read xs
+
+pub uuid-read-back : UuidReadBack
+unfolding UuidReadBack
+uuid-read-back xs = uuid-read xs
