@@ -2,6 +2,7 @@
 // extends a plain file only where it is told to: a record that ends behind the file or device stops it, and where that is one of a run's first
 // two, nothing was changed.
 // `list_apply` says what is to be read next and what is to be done with it; here bytes are only moved.
+mod clock; // a line of progress
 mod input; // reading
 mod output; // writing
 
@@ -52,8 +53,8 @@ struct Progress {
 }
 
 // Zeros, and then a flush.
-fn put_and_flush(fd: i32, zeros: &[u8], len: usize, at: u64) -> u8 {
-    let failed = output::put_zeros(fd, zeros, len as u64, at);
+fn put_and_flush(fd: i32, zeros: &[u8], len: usize, at: u64, extends: bool) -> u8 {
+    let failed = output::put_zeros(fd, zeros, len as u64, at, extends);
     if failed != DONE {
         return failed;
     }
@@ -61,15 +62,15 @@ fn put_and_flush(fd: i32, zeros: &[u8], len: usize, at: u64) -> u8 {
 }
 
 // What a step asks for: the first record's zeros and a flush, zeros, the bytes that were read, or a flush.
-fn perform(fd: i32, s: Step, zeros: &[u8], buf: &[u8]) -> u8 {
+fn perform(fd: i32, extends: bool, s: Step, zeros: &[u8], buf: &[u8]) -> u8 {
     if s.action == FIRST {
-        return put_and_flush(fd, zeros, s.len, s.at);
+        return put_and_flush(fd, zeros, s.len, s.at, extends);
     }
     if s.action == FLUSH {
         return output::flush(fd);
     }
     if s.action == ZEROS {
-        return output::put_bytes(fd, zeros, s.len, s.at);
+        return output::put_blank(fd, zeros, s.len, s.at, extends);
     }
     if s.action == BYTES {
         return output::put_bytes(fd, buf, s.len, s.at);
@@ -98,12 +99,12 @@ fn halted(a: Applying, failed: u8, record: u64) -> Progress
 }
 
 // Feeds the first n bytes of the buffer, and does what they ask for.
-fn feed_first(fd: i32, a: Applying, n: usize, zeros: &[u8], buf: &[u8]) -> Progress
+fn feed_first(fd: i32, extends: bool, a: Applying, n: usize, zeros: &[u8], buf: &[u8]) -> Progress
     requires { ⌜ n ≤ length (now buf) ⌝ }
     ensures { λ r. ⌜ Fed (length (now (buf .entry))) a (r .applying) ⌝ }
 {
     let s = feed(a, &buf[..n], buf.len());
-    let failed = perform(fd, s, zeros, buf);
+    let failed = perform(fd, extends, s, zeros, buf);
     if failed != DONE {
         return halted(a, failed, record_for(a, s.action));
     }
@@ -117,18 +118,18 @@ fn feed_first(fd: i32, a: Applying, n: usize, zeros: &[u8], buf: &[u8]) -> Progr
 }
 
 // Reads what is wanted, behind what is kept of it, and feeds it.
-fn take_turn(fd: i32, a: Applying, zeros: &[u8], buf: &mut [u8]) -> Progress
+fn take_turn(fd: i32, extends: bool, a: Applying, zeros: &[u8], buf: &mut [u8]) -> Progress
     ensures { λ r. ⌜ Fed (length (now (buf .entry))) a (r .applying) ⌝ }
 {
     let i = input::fill_wanted(kept_of(a), wants(a, buf.len()), buf);
     if i.failed {
         return halted(a, READ_FAILED, record_of(a));
     }
-    feed_first(fd, a, i.n, zeros, buf)
+    feed_first(fd, extends, a, i.n, zeros, buf)
 }
 
 // All records, as far as the limit. A proved loop has to end, so it counts its turns down from a number that no list uses up.
-fn apply(fd: i32, limit: u64, zeros: &[u8], buf: &mut [u8]) -> Progress
+fn apply(fd: i32, extends: bool, limit: u64, zeros: &[u8], buf: &mut [u8]) -> Progress
     ensures { λ r. ⌜ Fed (length (now (buf .entry))) (begun limit) (r .applying) ⌝ }
 {
     let mut p = Progress {
@@ -137,11 +138,14 @@ fn apply(fd: i32, limit: u64, zeros: &[u8], buf: &mut [u8]) -> Progress
         record: 1,
         goes_on: true,
     };
+    let mut clock = clock::start();
     let mut turns = u64::MAX;
     while 0 < turns && p.goes_on {
-        p = take_turn(fd, p.applying, zeros, buf);
+        p = take_turn(fd, extends, p.applying, zeros, buf);
+        clock = clock.show(p.record);
         turns -= 1;
     }
+    clock.end();
     p
 }
 
@@ -256,11 +260,18 @@ fn limit_of(fd: i32, extends: bool) -> i64 {
 }
 
 // An offset that isn't negative, as a number of bytes.
-fn bytes_to(end: i64) -> u64 {
+pub(crate) fn bytes_to(end: i64) -> u64 {
     if end < 0 {
         return 0;
     }
     end as u64
+}
+
+// As many bytes as one write has at most; the check of a longer array's length takes more memory than the prover has.
+fn half_mebibyte() -> [u8; 524288]
+    ensures { λ r. ⌜ 524288 ≡ length r ⌝ }
+{
+    [0; 524288]
 }
 
 // Applies the list to an open file or device.
@@ -270,9 +281,9 @@ fn apply_open(fd: i32, extends: bool) {
         os::fail(b"size");
         return;
     }
-    let zeros = io::large_buffer();
-    let mut buf = io::large_buffer();
-    let p = apply(fd, bytes_to(end), &zeros, &mut buf);
+    let zeros = half_mebibyte();
+    let mut buf = half_mebibyte();
+    let p = apply(fd, extends, bytes_to(end), &zeros, &mut buf);
     finish(p);
 }
 

@@ -6,8 +6,18 @@ use crate::DONE;
 use crate::FLUSH_FAILED;
 use crate::NOTHING_TAKEN;
 use crate::WRITE_FAILED;
+use crate::bytes_to;
 use arith::numbers::min_u64;
+use list_holes::in_hole;
 use list_read::within;
+
+// What lseek is asked for holes: the next data, and the next hole.
+const SEEK_DATA: i32 = 3;
+
+const SEEK_HOLE: i32 = 4;
+
+// Its error where no data follows.
+const ENXIO: i32 = 6;
 
 // How many bytes one write took, and why it stopped where that is none.
 struct Put {
@@ -68,19 +78,52 @@ pub(crate) fn put_bytes(fd: i32, bytes: &[u8], n: usize, at: u64) -> u8 {
     WRITE_FAILED
 }
 
-// So many zeros, as many at a time as are lent.
-pub(crate) fn put_zeros(fd: i32, zeros: &[u8], len: u64, at: u64) -> u8 {
+// Where the first hole, or the next data, begins from the offset on: the largest number where no data follows, 0 where the call failed.
+fn next_place(fd: i32, at: u64, whence: i32) -> u64
+    requires { ⌜ at ≤ largest ⌝ }
+{
+    let found = libc::lseek(fd, at as i64, whence);
+    if 0 <= found {
+        return bytes_to(found);
+    }
+    if os::errno() == ENXIO {
+        return u64::MAX;
+    }
+    0
+}
+
+// Whether the bytes are in a hole of a plain file; a device has none.
+fn lies_in_hole(fd: i32, n: usize, at: u64) -> bool {
+    if within(at, n as u64) {
+        let hole = next_place(fd, at, SEEK_HOLE);
+        let data = next_place(fd, at, SEEK_DATA);
+        return in_hole(hole, data, at, n as u64);
+    }
+    false
+}
+
+// So many zeros; none where they lie in a hole, unless the file is to be extended.
+pub(crate) fn put_blank(fd: i32, zeros: &[u8], n: usize, at: u64, extends: bool) -> u8 {
+    if !extends && lies_in_hole(fd, n, at) {
+        return DONE;
+    }
+    put_bytes(fd, zeros, n, at)
+}
+
+// The same of any number, as many at a time as are lent.
+pub(crate) fn put_zeros(fd: i32, zeros: &[u8], len: u64, at: u64, extends: bool) -> u8 {
     let mut left = len;
     while 0 < left {
         let n = min_u64(left, zeros.len() as u64);
         if n == 0 {
             return NOTHING_TAKEN;
         }
-        let failed = put_bytes(
+        let failed = put_blank(
             fd,
             zeros,
             n as usize,
             std::num::wrapping_add_u64(at, len - left),
+            extends,
         );
         if failed != DONE {
             return failed;
