@@ -7,9 +7,9 @@ use Rattle.head.proofs.sectors.agf_of.Tie as tie
 
 returns : tie.Need-returns
 unfolding agfOf
-returns c = rw (← c .before .before .blocks-in .ensures, ← c .before .longest-in .ensures) (c .agf-with .ensures)
+returns c = rw (← c .before .before .pre .2 .blocks, ← c .before .before .pre .2 .longest) (c .agf-with .ensures)
 
 pub agf-of-spec : {M : Type 1} → statement M
 agf-of-spec =
     tie.close (tie.spec
-    (λ c. search needs) (λ c κs. search needs) (λ c κs. search needs) (λ c κs. search needs) returns)
+    (λ c. search needs) (λ c κs. search needs) returns)

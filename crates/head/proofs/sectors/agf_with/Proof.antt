@@ -8,8 +8,8 @@ use borrow.Author.Needs.{needs}
 use Rattle.head.proofs.sectors.agf_with.Statement.{statement}
 use Rattle.head.proofs.sectors.agf_with.Tie as tie
 
-rem-t12 : tie.Need-rem-t12
-rem-t12 c = let h : 512 ≤ c .before .before .before .before .before .before .before .before .before .args .w .sector = sector-least _ (c .before .before .before .before .before .before .before .before .before .pre .sector-is) in omega (arith, c .before .minus-u32 .ensures, h)
+rem-t10 : tie.Need-rem-t10
+rem-t10 c = let h : 512 ≤ c .before .before .before .before .before .before .before .before .before .args .w .sector = sector-least _ (c .before .before .before .before .before .before .before .before .before .pre .sector-is) in omega (arith, c .before .minus-u32 .ensures, h)
 
 returns : tie.Need-returns
 unfolding cntBlock agflSize
@@ -20,4 +20,4 @@ agf-with-spec =
     tie.close
     (tie.spec
     (λ c κs. search needs) (λ c κs. search needs) (λ c κs. search needs) (λ c κs. search needs)
-    (λ c κs. search needs) (λ c κs. search needs) (λ c κs. search needs) (λ c. search needs) rem-t12 returns)
+    (λ c κs. search needs) (λ c κs. search needs) (λ c κs. search needs) (λ c. search needs) rem-t10 returns)
