@@ -11,11 +11,10 @@ ghost use Rattle.ag.specs.Agf.{agfBytes};
 ghost use Rattle.ag.specs.Agi.{agiBytes};
 ghost use Rattle.ag.specs.Agfl.{agflBytes};
 ghost use Rattle.sb.specs.Superblock.{sbNumber, sbBytes};
-ghost use Rattle.head_bytes.specs.Head.{agfWith, agfOf, agiOf};
+ghost use Rattle.head_bytes.specs.Head.{agfWith, agiOf};
 ghost use Rattle.head_bytes.specs.Parts.{sectorOn, sectorsOn};
 use ag::Agf;
 use ag::Agi;
-use arith::choice::bit_of;
 use arith::choice::pick_u32;
 use arith::numbers::minus_u32;
 use geometry::Geometry;
@@ -29,7 +28,7 @@ use sb::SbState;
 fn flag(on: bool) -> u32
     ensures { λ r. ⌜ (r ≡ bit on) × (r ≤ 1) ⌝ }
 {
-    bit_of(on) as u32
+    if on { 1 } else { 0 }
 }
 
 // The root of the reverse mappings.
@@ -48,9 +47,10 @@ pub(crate) fn refc_at(f: Features, header: u32) -> u32
     header + 3 + flag(f.finobt) + flag(f.rmapbt)
 }
 
-fn agf_with(w: Frame, list: u32) -> Agf
+// The AGF, whose totals the frame has.
+fn agf_of(w: Frame) -> Agf
     requires { ⌜ Fine w ⌝ }
-    ensures { λ r. ⌜ r ≡ agfWith w list (w .freeblks) (w .longest) ⌝ }
+    ensures { λ r. ⌜ r ≡ agfWith w (w .list) (w .freeblks) (w .longest) ⌝ }
 {
     let f = w.features;
     let rmap = flag(f.rmapbt);
@@ -72,20 +72,12 @@ fn agf_with(w: Frame, list: u32) -> Agf
         refcount_level: refc,
         refcount_blocks: refc,
         flfirst: 1,
-        fllast: list % slots,
-        flcount: list,
+        fllast: w.list % slots,
+        flcount: w.list,
         freeblks: w.freeblks,
         longest: w.longest,
         btreeblks: 0,
     }
-}
-
-fn agf_of(w: Frame, p: AgPlan) -> Agf
-    requires { ⌜ (Fine w) × (Few p) × (Counted w p) ⌝ }
-    ensures { λ r. ⌜ r ≡ agfOf w (p .free) (p .agfl .len) ⌝ }
-{
-    let list = p.agfl.len as u32;
-    agf_with(w, list)
 }
 
 fn agi_of(w: Frame) -> Agi
@@ -148,7 +140,7 @@ pub(crate) fn put_sectors(w: Frame, p: AgPlan, uuid: &[u8; 16], buf: &mut [u8])
 {
     let ss = w.sector as usize;
     let list = p.agfl;
-    put_agf(agf_of(w, p), uuid, ss, buf);
+    put_agf(agf_of(w), uuid, ss, buf);
     put_agi(agi_of(w), uuid, ss, buf);
     put_agfl(w.agno, list, uuid, ss, buf);
 }

@@ -51,7 +51,7 @@ sector-is g p = refl
 
 counted-is : (g : Geometry) (p : AgPlan) → Counted (frameOf g p) p
 unfolding frameOf
-counted-is g p = record { blocks = refl; longest = refl }
+counted-is g p = record { blocks = refl; longest = refl; list = refl }
 
 pub ready : (g : Geometry) (p : AgPlan) (w : Frame) (len : ℕ) → length (g .label) ≡ 12 → isPlan g p ≡ true → w ≡ frameOf g p → len ≡ headLength g → Ready g p w len
 ready g p w len l h e n =

@@ -35,8 +35,6 @@ use Rattle.plan_closed.specs.Closed.{isFirst, isJoined, listAt, headParts, list
 use Rattle.plan_totals.specs.Totals.{freeblksOf, longestOf}
 use Rattle.plan_totals.proofs.Rows.{list-is}
 use Rattle.plan_same.specs.Same.{isPlan}
-use Rattle.plan_summary.specs.declared.records.FreeTotals.{FreeTotals}
-use Rattle.plan_summary.specs.Summaries.{freeTotals}
 use Rattle.plan_summary.proofs.Narrow.{free-few, free-least, longest-least, plan-answer, plan-closed}
 use Rattle.head_frame.specs.declared.Frame.{Frame}
 use Rattle.head_frame.specs.declared.Framed.{Framed}
@@ -100,6 +98,7 @@ pub record Narrow (g : Geometry) (p : AgPlan) : Type 0 where
   pub header : headerOf (g .sectsize) (g .blocksize) < 2 ^ 32
   pub shift : g .inopblog < 64
   pub inode : chunkIno (g .inopblog) (p .chunk) < 2 ^ 32
+  pub list : p .agfl .len < 2 ^ 32
 
 module _ (g : Geometry) (p : AgPlan) (l : length (g .label) ≡ 12) (h : isPlan g p ≡ true) where
   abbrev its : Site
@@ -126,6 +125,7 @@ module _ (g : Geometry) (p : AgPlan) (l : length (g .label) ≡ 12) (h : isPlan 
         header = omega arith;
         shift = omega arith;
         inode = rw (plan-closed g p l h) (ino-least its (g .inopblog) sound (inodes-most g bounds));
+        list = rw (plan-closed g p l h) (omega (arith, list-is its, sound .need-most));
       }
 
   -- THE LISTS ARE SHORT
@@ -187,27 +187,3 @@ told-at false e = absurd (omega arith)
 
 pub framed-plan : (g : Geometry) (p : AgPlan) → framed g p .number ≡ 0 → isPlan g p ≡ true
 framed-plan g p e = told-at (isPlan g p) (sym (framed-number g p) ∙ e)
-
--- ---- and one of `free_totals`
-
-totals-at : (t : Bool) (a b : ℕ) → choose {A = FreeTotals} t (record { number = 0; blocks = a; longest = b }) (record { number = 31; blocks = 0; longest = 0 }) .number ≡ choose t 0 31
-totals-at true a b = refl
-totals-at false a b = refl
-
-totals-number : (g : Geometry) (p : AgPlan) → freeTotals g p .number ≡ choose (isPlan g p) 0 31
-unfolding freeTotals
-totals-number g p = totals-at (isPlan g p) (freeblksOf (p .free)) (longestOf (p .free))
-
-pub totals-plan : (g : Geometry) (p : AgPlan) → freeTotals g p .number ≡ 0 → isPlan g p ≡ true
-totals-plan g p e = told-at (isPlan g p) (sym (totals-number g p) ∙ e)
-
-none-at : (t : Bool) → (choose {A = ℕ} t 0 31 ≡ 0 → ⊥) → t ≡ false
-none-at true n = absurd (n refl)
-none-at false n = refl
-
-pub totals-none : (g : Geometry) (p : AgPlan) → (freeTotals g p .number ≡ 0 → ⊥) → isPlan g p ≡ false
-totals-none g p n = none-at (isPlan g p) (λ e. n (totals-number g p ∙ e))
-
-pub totals-are : (g : Geometry) (p : AgPlan) → isPlan g p ≡ true → (freeTotals g p .blocks ≡ freeblksOf (p .free)) × (freeTotals g p .longest ≡ longestOf (p .free))
-unfolding freeTotals
-totals-are g p h = rw h (refl, refl)

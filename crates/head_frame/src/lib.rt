@@ -24,6 +24,7 @@ pub struct Frame {
     pub newino: u32, // the chunk's first inode within the group, or NULL32
     pub freeblks: u32, // blocks of the free records
     pub longest: u32, // blocks of the longest
+    pub list: u32, // blocks on the free list
     pub features: Features,
 }
 
@@ -84,6 +85,7 @@ fn no_frame() -> Framed
         newino: 0,
         freeblks: 0,
         longest: 0,
+        list: 0,
         features,
     };
     Framed {
@@ -112,6 +114,7 @@ fn frame_with(g: Geometry, p: AgPlan, freeblks: u32, longest: u32) -> Frame
         newino,
         freeblks,
         longest,
+        list: p.agfl.len as u32,
         features,
     }
 }

@@ -12,6 +12,9 @@ use Rattle.seqs.specs.Lists.{choose}
 use Rattle.seqs.proofs.Laws.{choose-elim}
 use Rattle.geometry.specs.declared.Geometry.{Geometry}
 use Rattle.geometry_answers.specs.Named.{isAnswer}
+use Rattle.geometry_layout.specs.Bounds.{Bounds}
+use Rattle.geometry_layout.proofs.Bounding.{answer-bounds}
+use Rattle.geometry_layout.proofs.Small.{freelist-most}
 use Rattle.geometry_places.proofs.Refused.{a-group}
 use Rattle.btree.specs.declared.records.AllocRec.{AllocRec}
 use Rattle.plan_site.specs.declared.Site.{Site}
@@ -31,7 +34,8 @@ use Rattle.plan_totals.proofs.Running.{records-narrow}
 use Rattle.plan_totals.proofs.Whole.{all-planned}
 use Rattle.plan_summary.specs.declared.Summary.{Summary}
 use Rattle.plan_summary.specs.Summaries.{summaryOf, lengthIn, logIn, chunkIn, freeIn, longestIn}
-use Rattle.plan_summary.specs.Narrow.{NarrowRow, NarrowGroup}
+use Rattle.plan_summary.specs.Narrow.{NarrowSummary, NarrowRow, NarrowLog, NarrowGroup}
+use Rattle.plan_summary.proofs.Laws.{last-fits}
 use Rattle.plan_summary.proofs.Rows.{length-is, head-is, list-is, chunk-at-is, chunk-blocks-is, not-short-at}
 
 -- ---- the free records of a site
@@ -132,13 +136,43 @@ module _ (g : Geometry) (k : ℕ) (ok : Sound (siteOf g k)) where
         after-log = omega arith;
         after-list = omega arith;
         free = omega arith;
-        chunk-at = omega arith;
         head-to-chunk = omega arith;
         list-to-chunk = omega arith;
         from-chunk = omega arith;
         after-chunk = omega arith;
         longest = when-least (eqb k 0) (max (m .«chunk_at» - m .head - m .list) (lengthIn m k - m .«chunk_at» - m .chunk)) (lengthIn m k - m .head - logIn m k - m .list - chunkIn m k) (2 ^ 30) (omega arith) (omega arith);
       }
+
+-- ---- the numbers of every answer
+
+module _ (g : Geometry) (l : length (g .label) ≡ 12) (h : isAnswer g ≡ true) where
+  b : Bounds g
+  b = answer-bounds g l h
+
+  summary-narrow : NarrowSummary (summaryOf g)
+  unfolding summaryOf
+  summary-narrow =
+      let n = b .places .log-blocks in
+      let a = b .places .head-most in
+      let f = freelist-most (g .features) in
+      let c = b .places .chunk-room in
+      record {
+        agsize = b .groups .group-most;
+        last = last-fits g l h;
+        logblocks = omega arith;
+        head = omega arith;
+        list = omega arith;
+        chunk-at = omega arith;
+        chunk = omega arith;
+      }
+
+  log-narrow : (k : ℕ) → NarrowLog (siteOf g k)
+  unfolding siteOf
+  log-narrow k =
+      let r = b .places .log-room in
+      let n = b .groups .group-most in
+      let m = site-sound g k l h .length-most in
+      record { log-end = omega arith; behind = omega arith }
 
 -- EVERY RUNNING NUMBER OF EVERY GROUP OF A GEOMETRY WITH ACCEPTED PLANS IS BELOW 2^30
 pub narrow : (g : Geometry) → length (g .label) ≡ 12 → plansNumber g ≡ 0 → (k : ℕ) → k < g .agcount → NarrowGroup g k
@@ -148,5 +182,7 @@ narrow g l e k i =
     let p = planned-plan g l (a .0) k i (not-short-at g k (eqb k (g .logagno)) refl (a .1)) in
     record {
       records = rw p (site-records (siteOf g k) ok);
+      summary = summary-narrow g l (a .0);
       row = row-narrow g k ok;
+      log = log-narrow g l (a .0) k;
     }

@@ -11,6 +11,7 @@ ghost use Rattle.plan_summary.specs.Summaries.{summaryOf, noSummary, sum
 pub mod records; // records.rt: the free records of one plan
 
 use arith::numbers::minus;
+use arith::numbers::minus_u32;
 use geometry::Geometry;
 use geometry_counts::Value64;
 use plan_site::Site;
@@ -76,8 +77,8 @@ fn is_short(s: Site) -> bool
     requires { ⌜ (Sound s) × (s .«has_log» ≡ true) ⌝ }
     ensures { λ r. ⌜ r ≡ short s ⌝ }
 {
-    let after = (s.log_at as u64) + (s.log_blocks as u64);
-    minus(s.length as u64, after) < (s.need as u64)
+    let after = s.log_at + s.log_blocks;
+    minus_u32(s.length, after) < s.need
 }
 
 // A few blocks of each group.

@@ -1,6 +1,9 @@
 // The free records of a plan of the planner: their blocks, and the longest. Every number is below 2^30, and held in 32 bits.
 ghost use mathlib.Core.Path.{_≡_};
 ghost use Prim.Native.Nat.{_≤_};
+ghost use lib.Dec.{eqb};
+ghost use Rattle.seqs.specs.Lists.{choose};
+ghost use Rattle.geometry_counts.specs.declared.Value32.the-variants.{Refused, Of};
 ghost use Rattle.geometry_counts.specs.Known.{known32};
 ghost use Rattle.plan_same.specs.Same.{isPlan};
 ghost use Rattle.plan_totals.specs.Totals.{larger, freeblksOf, longestOf, NarrowRecords};
@@ -45,11 +48,11 @@ fn longest_of(l: FreeList) -> u32
 {
     let n = l.len;
     let mut most: u32 = 0;
-    let mut i: usize = 0;
-    while i < n {
-        let r = l.recs[i];
+    let mut j: usize = 0;
+    while j < n {
+        let r = l.recs[j];
         most = larger_of(most, r.count);
-        i += 1;
+        j += 1;
     }
     most
 }
@@ -73,24 +76,28 @@ pub fn free_totals(g: Geometry, p: AgPlan) -> FreeTotals
     }
 }
 
+// The value beside a number of 0, or the refusal.
+fn value_of(number: u32, n: u32) -> Value32
+    ensures { λ r. ⌜ r ≡ choose (eqb number 0) (Of n) (Refused number) ⌝ }
+{
+    if number != 0 {
+        return Value32::Refused(number);
+    }
+    Value32::Of(n)
+}
+
 // Free blocks in the free space btrees; 31 unless the plan is the planner's for its group.
 pub fn freeblks(g: Geometry, p: AgPlan) -> Value32
     ensures { λ r. ⌜ r ≡ known32 (isPlan g p) (freeblksOf (p .free)) ⌝ }
 {
-    if !is_plan(g, p) {
-        return Value32::Refused(refusals::NO_ANSWER);
-    }
-    let l = p.free;
-    Value32::Of(sum_of(l))
+    let t = free_totals(g, p);
+    value_of(t.number, t.blocks)
 }
 
 // The longest free extent, 0 where there is none; 31 unless the plan is the planner's for its group.
 pub fn longest(g: Geometry, p: AgPlan) -> Value32
     ensures { λ r. ⌜ r ≡ known32 (isPlan g p) (longestOf (p .free)) ⌝ }
 {
-    if !is_plan(g, p) {
-        return Value32::Refused(refusals::NO_ANSWER);
-    }
-    let l = p.free;
-    Value32::Of(longest_of(l))
+    let t = free_totals(g, p);
+    value_of(t.number, t.longest)
 }

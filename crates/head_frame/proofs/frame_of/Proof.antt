@@ -1,6 +1,6 @@
 -- `head_frame::frame_of` meets its contract.
 -- Assumes nothing.
-use Rattle.head_frame.proofs.Fitting.{totals-plan, totals-none, totals-are}
+use Rattle.plan_summary.proofs.Told.{totals-plan, totals-none, totals-are}
 use Rattle.head_frame.specs.Frames.{framed}
 use Rattle.plan_summary.specs.declared.records.FreeTotals.{FreeTotals}
 use mathlib.Core.Path.{sym, ap, _∙_}
