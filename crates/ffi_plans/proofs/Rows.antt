@@ -8,6 +8,7 @@ use lib.ListN.{length, getD, List·getD-eq-default}
 use Rattle.plan.specs.declared.AgPlan.{AgPlan}
 use Rattle.plan.specs.declared.Planned.{Planned}
 use Rattle.request.specs.declared.Request.{Request}
+use Rattle.geometry.specs.declared.Geometry.{Geometry}
 use Rattle.ffi_plans.specs.Parts.{stepNumbers, planNumbers, recordNumbers}
 
 behind : (xs : List ℕ) (n k : ℕ) → length xs ≡ n → n ≤ k → getD xs k 0 ≡ 0
@@ -17,9 +18,9 @@ pub no-step : (r : Request) (k : ℕ) → 3 ≤ k → getD (stepNumbers r) k 0 �
 unfolding stepNumbers
 no-step r k h = behind (stepNumbers r) 3 k refl h
 
-pub no-number : (p : Planned) (k : ℕ) → 10 ≤ k → getD (planNumbers p) k 0 ≡ 0
+pub no-number : (g : Geometry) (p : Planned) (k : ℕ) → 10 ≤ k → getD (planNumbers g p) k 0 ≡ 0
 unfolding planNumbers
-no-number p k h = behind (planNumbers p) 10 k refl h
+no-number g p k h = behind (planNumbers g p) 10 k refl h
 
 pub no-record : (p : AgPlan) (i k : ℕ) → 6 ≤ k → getD (recordNumbers p i) k 0 ≡ 0
 unfolding recordNumbers

@@ -9,11 +9,10 @@ use Rattle.params.specs.declared.OptU64.{OptU64}
 use Rattle.params.specs.declared.OptU64.the-variants.{Absent, Given}
 use Rattle.params.specs.Options.{or64}
 use Rattle.geometry.specs.declared.Geometry.{Geometry}
-use Rattle.plan_site.specs.Sites.{value64}
 use Rattle.plan.specs.declared.AgPlan.{AgPlan}
 use Rattle.plan.specs.declared.Planned.{Planned}
 use Rattle.plan.specs.Plan.{planned}
-use Rattle.plan_totals.specs.Totals.{freeblksOf, longestOf, ofFew}
+use Rattle.plan_summary.specs.Summaries.{freeTotals}
 use Rattle.request.specs.declared.Request.{Request}
 use Rattle.request.specs.Parse.{parseDef}
 use Rattle.run.specs.Runs.{orNext, stepOf}
@@ -23,14 +22,17 @@ use Rattle.ffi_records.specs.Parts.{freeAt, rmapAt}
 unfoldable pub stepNumbers : Request → List ℕ
 stepNumbers r = orNext (r .number) (stepOf r .number) ∷ stepOf r .geometry .agcount ∷ stepOf r .geometry .logagno ∷ []
 
+-- the geometry that the records ask for
+unfoldable pub geometryFrom : List ℕ → Geometry
+geometryFrom xs = stepOf (parseDef xs) .geometry
+
 -- a plan with a number before its own
 abbrev pub after : ℕ → Planned → Planned
 after n p = record { number = orNext n (p .number); plan = p .plan }
 
--- the plan of a group of the geometry that the records ask for: 28, then the geometry step's number, then the plan's
+-- the plan of a group of it: 28, then the geometry step's number, then the plan's
 unfoldable pub planFrom : List ℕ → ℕ → Planned
-planFrom xs agno =
-    after (orNext (parseDef xs .number) (stepOf (parseDef xs) .number)) (planned (stepOf (parseDef xs) .geometry) agno)
+planFrom xs agno = after (orNext (parseDef xs .number) (stepOf (parseDef xs) .number)) (planned (geometryFrom xs) agno)
 
 -- 1 where it is given
 abbrev pub presence : OptU64 → ℕ
@@ -38,8 +40,8 @@ presence Absent = 0
 presence (Given n) = 1
 
 -- the plan's numbers outside its lists
-unfoldable pub planNumbers : Planned → List ℕ
-planNumbers p =
+unfoldable pub planNumbers : Geometry → Planned → List ℕ
+planNumbers g p =
     p .number
     ∷ p .plan .agno
     ∷ p .plan .length
@@ -48,8 +50,8 @@ planNumbers p =
     ∷ p .plan .rmap .len
     ∷ presence (p .plan .chunk)
     ∷ or64 (p .plan .chunk) 0
-    ∷ value64 (ofFew (p .plan .free) (freeblksOf (p .plan .free)))
-    ∷ value64 (ofFew (p .plan .free) (longestOf (p .plan .free)))
+    ∷ freeTotals g (p .plan) .blocks
+    ∷ freeTotals g (p .plan) .longest
     ∷ []
 
 -- the numbers at index k of its lists: free record, free-list block, reverse mapping

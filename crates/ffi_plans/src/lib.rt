@@ -6,7 +6,7 @@ ghost use lib.ListN.{getD};
 ghost use Rattle.params.specs.Options.{or64};
 ghost use Rattle.request.specs.Parse.{parseDef};
 ghost use Rattle.run.specs.Runs.{orNext, stepOf};
-ghost use Rattle.ffi_plans.specs.Parts.{stepNumbers, planFrom, presence, planNumbers, recordNumbers};
+ghost use Rattle.ffi_plans.specs.Parts.{stepNumbers, geometryFrom, planFrom, presence, planNumbers, recordNumbers};
 use ffi_records::free_at;
 use ffi_records::rmap_at;
 use geometry::Computed;
@@ -16,9 +16,7 @@ use plan::AgPlan;
 use plan::Agfl;
 use plan::Planned;
 use plan::plan_ag;
-use plan_site::value_of;
-use plan_summary::records::freeblks;
-use plan_summary::records::longest;
+use plan_summary::records::free_totals;
 use request::Request;
 use request::parse;
 
@@ -86,16 +84,15 @@ fn step_numbers(r: Request) -> [u64; 3]
     [number as u64, g.agcount, g.logagno]
 }
 
-fn plan_numbers(p: Planned) -> [u64; 10]
-    ensures { λ x. ⌜ x ≡ planNumbers p ⌝ }
+fn plan_numbers(g: Geometry, p: Planned) -> [u64; 10]
+    ensures { λ x. ⌜ x ≡ planNumbers g p ⌝ }
 {
     let plan = p.plan;
     let free = plan.free;
     let agfl = plan.agfl;
     let rmap = plan.rmap;
     let chunk = plan.chunk;
-    let blocks = value_of(freeblks(plan));
-    let most = value_of(longest(plan));
+    let t = free_totals(g, plan);
     [
         p.number as u64,
         plan.agno,
@@ -105,8 +102,8 @@ fn plan_numbers(p: Planned) -> [u64; 10]
         rmap.len as u64,
         is_given(chunk),
         given(chunk),
-        blocks,
-        most,
+        t.blocks as u64,
+        t.longest as u64,
     ]
 }
 
@@ -155,10 +152,12 @@ pub extern "C" fn zq_step(which: u64, input: &[u8]) -> u64
 // there are, whether there is a chunk and where, freeblks, longest; any other is 0.
 #[no_mangle]
 pub extern "C" fn zq_plan(which: u64, agno: u64, input: &[u8]) -> u64
-    ensures { λ r. ⌜ r ≡ getD (planNumbers (planFrom (now (input .entry)) agno)) which 0 ⌝ }
+    ensures { λ r. ⌜ r ≡ getD (planNumbers (geometryFrom (now (input .entry))) (planFrom (now (input .entry)) agno)) which 0 ⌝ }
 {
     let p = plan_from(input, agno);
-    let numbers = plan_numbers(p);
+    let c = step_of(parse(input));
+    let g = c.geometry;
+    let numbers = plan_numbers(g, p);
     if which < NUMBERS {
         let i = which as usize;
         return numbers[i];

@@ -8,7 +8,7 @@ ghost use Rattle.structs.specs.Written.{Written};
 ghost use Rattle.geometry_answers.specs.Named.{isAnswer};
 ghost use Rattle.sb.specs.Superblock.{sbBytes};
 ghost use Rattle.plan_same.specs.Same.{isPlan};
-ghost use Rattle.head_frame.specs.Frames.{frameOf, Fine, Few};
+ghost use Rattle.head_frame.specs.Frames.{frameOf, Fine, Few, Counted};
 ghost use Rattle.head_bytes.specs.Head.{headBlocks, headBytes, headLength, headNumber};
 ghost use Rattle.head_bytes.specs.Parts.{sectorOn, sectorsOn, rootsOn, moreOn};
 
@@ -24,7 +24,7 @@ use sb::SbState;
 
 // Zeros in the header blocks, and the four sectors over them.
 fn put_headers(g: Geometry, s: SbState, w: Frame, p: AgPlan, uuid: &[u8; 16], buf: &mut [u8])
-    requires { ⌜ (isAnswer g ≡ true) × (w .sector ≡ g .sectsize) × (Fine w) × (Few p) × (w .header * w .block ≤ length (now buf)) ⌝ }
+    requires { ⌜ (isAnswer g ≡ true) × (w .sector ≡ g .sectsize) × (Fine w) × (Few p) × (w .header * w .block ≤ length (now buf)) × (Counted w p) ⌝ }
     ensures { λ _. ⌜ now (buf .exit) ≡ sectorsOn w p (now (uuid .entry)) (sectorOn 0 (w .sector) (sbBytes g s) (patch 0 (replicate (w .header * w .block) 0) (now (buf .entry)))) ⌝ }
 {
     let header = (w.header as usize) * (w.block as usize);

@@ -6,22 +6,18 @@ ghost use lib.ListN.{length, take};
 ghost use Rattle.arith.specs.Choice.{bit};
 ghost use Rattle.structs.specs.Sizes.{isSector};
 ghost use Rattle.geometry_layout.specs.Places.{rmapBlock, refcBlock};
-ghost use Rattle.plan_site.specs.Sites.{value64};
-ghost use Rattle.plan_totals.specs.Totals.{freeblksOf, longestOf};
-ghost use Rattle.head_frame.specs.Frames.{Fine, Few};
+ghost use Rattle.head_frame.specs.Frames.{Fine, Few, Counted};
 ghost use Rattle.ag.specs.Agf.{agfBytes};
 ghost use Rattle.ag.specs.Agi.{agiBytes};
 ghost use Rattle.ag.specs.Agfl.{agflBytes};
 ghost use Rattle.sb.specs.Superblock.{sbNumber, sbBytes};
-ghost use Rattle.head_bytes.specs.Head.{agfWith, agfOf, agiOf};
+ghost use Rattle.head_bytes.specs.Head.{agfWith, agiOf};
 ghost use Rattle.head_bytes.specs.Parts.{sectorOn, sectorsOn};
 use ag::Agf;
 use ag::Agi;
-use arith::choice::bit_of;
 use arith::choice::pick_u32;
 use arith::numbers::minus_u32;
 use geometry::Geometry;
-use geometry_counts::Value64;
 use head_frame::Frame;
 use params::Features;
 use plan::AgPlan;
@@ -32,7 +28,7 @@ use sb::SbState;
 fn flag(on: bool) -> u32
     ensures { λ r. ⌜ (r ≡ bit on) × (r ≤ 1) ⌝ }
 {
-    bit_of(on) as u32
+    if on { 1 } else { 0 }
 }
 
 // The root of the reverse mappings.
@@ -51,35 +47,10 @@ pub(crate) fn refc_at(f: Features, header: u32) -> u32
     header + 3 + flag(f.finobt) + flag(f.rmapbt)
 }
 
-// The value of an answer, 0 of a refusal.
-fn value_of(v: Value64) -> u64
-    ensures { λ r. ⌜ r ≡ value64 v ⌝ }
-{
-    match v {
-        Value64::Refused(_) => 0,
-        Value64::Of(n) => n,
-    }
-}
-
-// The free blocks of a plan, which are few.
-fn blocks_in(p: AgPlan) -> u32
-    requires { ⌜ Few p ⌝ }
-    ensures { λ r. ⌜ r ≡ freeblksOf (p .free) ⌝ }
-{
-    value_of(plan_summary::records::freeblks(p)) as u32
-}
-
-// Its longest free extent.
-fn longest_in(p: AgPlan) -> u32
-    requires { ⌜ Few p ⌝ }
-    ensures { λ r. ⌜ r ≡ longestOf (p .free) ⌝ }
-{
-    value_of(plan_summary::records::longest(p)) as u32
-}
-
-fn agf_with(w: Frame, list: u32, freeblks: u32, longest: u32) -> Agf
+// The AGF, whose totals the frame has.
+fn agf_of(w: Frame) -> Agf
     requires { ⌜ Fine w ⌝ }
-    ensures { λ r. ⌜ r ≡ agfWith w list freeblks longest ⌝ }
+    ensures { λ r. ⌜ r ≡ agfWith w (w .list) (w .freeblks) (w .longest) ⌝ }
 {
     let f = w.features;
     let rmap = flag(f.rmapbt);
@@ -101,22 +72,12 @@ fn agf_with(w: Frame, list: u32, freeblks: u32, longest: u32) -> Agf
         refcount_level: refc,
         refcount_blocks: refc,
         flfirst: 1,
-        fllast: list % slots,
-        flcount: list,
-        freeblks,
-        longest,
+        fllast: w.list % slots,
+        flcount: w.list,
+        freeblks: w.freeblks,
+        longest: w.longest,
         btreeblks: 0,
     }
-}
-
-fn agf_of(w: Frame, p: AgPlan) -> Agf
-    requires { ⌜ (Fine w) × (Few p) ⌝ }
-    ensures { λ r. ⌜ r ≡ agfOf w (p .free) (p .agfl .len) ⌝ }
-{
-    let list = p.agfl.len as u32;
-    let freeblks = blocks_in(p);
-    let longest = longest_in(p);
-    agf_with(w, list, freeblks, longest)
 }
 
 fn agi_of(w: Frame) -> Agi
@@ -174,12 +135,12 @@ fn put_agfl(agno: u32, l: Agfl, uuid: &[u8; 16], ss: usize, buf: &mut [u8])
 
 // The three sectors behind it: AGF, AGI and free list.
 pub(crate) fn put_sectors(w: Frame, p: AgPlan, uuid: &[u8; 16], buf: &mut [u8])
-    requires { ⌜ (Fine w) × (Few p) × (4 * w .sector ≤ length (now buf)) ⌝ }
+    requires { ⌜ (Fine w) × (Few p) × (4 * w .sector ≤ length (now buf)) × (Counted w p) ⌝ }
     ensures { λ _. ⌜ now (buf .exit) ≡ sectorsOn w p (now (uuid .entry)) (now (buf .entry)) ⌝ }
 {
     let ss = w.sector as usize;
     let list = p.agfl;
-    put_agf(agf_of(w, p), uuid, ss, buf);
+    put_agf(agf_of(w), uuid, ss, buf);
     put_agi(agi_of(w), uuid, ss, buf);
     put_agfl(w.agno, list, uuid, ss, buf);
 }

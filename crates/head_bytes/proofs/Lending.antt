@@ -28,8 +28,6 @@ use Rattle.ag.specs.Agf.{agfFields, agfBytes}
 use Rattle.ag.specs.Agi.{agiFields, agiBytes}
 use Rattle.ag.specs.Agfl.{agflNumber, agflFields, agflBytes}
 use Rattle.plan_free.specs.declared.FreeList.{FreeList}
-use Rattle.plan_site.specs.Sites.{value64}
-use Rattle.plan_totals.specs.Totals.{ofFew}
 use Rattle.sb.specs.declared.SbState.{SbState}
 use Rattle.sb.specs.Superblock.{sbFields, sbBytes}
 use Rattle.head_frame.specs.declared.Frame.{Frame}
@@ -104,8 +102,3 @@ list-accepted size n len e h k = rw (e, le-leb n 64 h) (leaf-accepted (size * n)
 pub agfl-accepted : (n len : ℕ) → isSector len ≡ true → n ≤ 64 → agflNumber n len ≡ 0
 unfolding agflNumber
 agfl-accepted n len e h = rw (e, le-leb n 64 h) refl
-
--- the value that is answered for few records
-pub few-value : (l : FreeList) (n : ℕ) → l .len ≤ 2 → value64 (ofFew l n) ≡ n
-unfolding ofFew
-few-value l n h = rw (le-ltb 64 (l .len) (omega arith)) refl

@@ -20,8 +20,9 @@ use Rattle.sb.specs.Superblock.{sbNumber, sbBytes}
 use Rattle.plan.specs.declared.AgPlan.{AgPlan}
 use Rattle.plan_same.specs.Same.{isPlan}
 use Rattle.head_frame.specs.declared.Frame.{Frame}
-use Rattle.head_frame.specs.Frames.{frameOf, framed, Fine, Few}
-use Rattle.head_frame.proofs.Fitting.{plan-answer, plan-few, plan-fine, framed-number}
+use Rattle.head_frame.specs.Frames.{frameOf, framed, Fine, Few, Counted}
+use Rattle.plan_summary.proofs.Narrow.{plan-answer}
+use Rattle.head_frame.proofs.Fitting.{plan-few, plan-fine, framed-number}
 use Rattle.head_bytes.specs.Head.{zeros, headBlocks, behindBytes, headBytes, headLength, headNumber}
 use Rattle.head_bytes.proofs.Whole.{three-inside}
 
@@ -39,6 +40,7 @@ pub record Ready (g : Geometry) (p : AgPlan) (w : Frame) (len : ℕ) : Type 0 wh
   pub sector : w .sector ≡ g .sectsize
   pub fine : Fine w
   pub few : Few p
+  pub counted : Counted w p
   pub headers : w .header * w .block ≤ len
   pub exact : len ≡ headBlocks w * w .block
   pub all : headBlocks w * w .block ≤ len
@@ -46,6 +48,10 @@ pub record Ready (g : Geometry) (p : AgPlan) (w : Frame) (len : ℕ) : Type 0 wh
 sector-is : (g : Geometry) (p : AgPlan) → frameOf g p .sector ≡ g .sectsize
 unfolding frameOf
 sector-is g p = refl
+
+counted-is : (g : Geometry) (p : AgPlan) → Counted (frameOf g p) p
+unfolding frameOf
+counted-is g p = record { blocks = refl; longest = refl; list = refl }
 
 pub ready : (g : Geometry) (p : AgPlan) (w : Frame) (len : ℕ) → length (g .label) ≡ 12 → isPlan g p ≡ true → w ≡ frameOf g p → len ≡ headLength g → Ready g p w len
 ready g p w len l h e n =
@@ -57,6 +63,7 @@ ready g p w len l h e n =
       sector = rw e (sector-is g p);
       fine = rw e (plan-fine g p l h);
       few = plan-few g p l h;
+      counted = rw e (counted-is g p);
       headers = omega arith;
       exact = x;
       all = omega arith;

@@ -20,27 +20,22 @@ use Rattle.geometry_layout.specs.Places.{groupBlocks}
 use Rattle.geometry_layout.proofs.Bounding.{answer-bounds}
 use Rattle.geometry_layout.proofs.Ceil.{counted}
 use Rattle.geometry_layout.proofs.Inside.{blocks-least, inodes-most}
-use Rattle.geometry_places.proofs.Refused.{a-group}
 use Rattle.geometry_places.proofs.Room.{room-at}
 use Rattle.geometry_places.specs.Answers.{groupRefusal}
 use Rattle.plan_site.specs.declared.Site.{Site}
 use Rattle.plan_site.specs.Sites.{siteOf, Sound}
 use Rattle.plan_site.proofs.Sites.{site-sound}
 use Rattle.structs.specs.Sizes.{isPower, isSector, isBlock}
-use Rattle.plan_free.specs.Free.{packFree}
 use Rattle.plan.specs.declared.AgPlan.{AgPlan}
-use Rattle.plan.specs.declared.Planned.{Planned}
 use Rattle.params.specs.declared.OptU64.{OptU64}
 use Rattle.params.specs.declared.OptU64.the-variants.{Absent, Given}
-use Rattle.btree.specs.declared.records.AllocRec.{AllocRec}
 use Rattle.btree.specs.declared.records.RmapRec.{RmapRec}
-use Rattle.plan.specs.Plan.{ownAg, ownLog, ownInodes, ownRefc, gap, mapRec, refcMap, logMap, refusedPlan, planOf, planned}
-use Rattle.plan_closed.specs.Closed.{isFirst, isJoined, listAt, headParts, listParts, chunkParts, closedFree, closedList, closedRmap, closedAgPlan, closedPlan, short}
-use Rattle.plan_closed.proofs.Planning.{closed-plan}
-use Rattle.plan_totals.specs.Totals.{larger, freeblksOf, longestOf, beforeChunk, afterChunk}
-use Rattle.plan_totals.proofs.Rows.{free-is, longest-is, list-is}
+use Rattle.plan.specs.Plan.{ownAg, ownLog, ownInodes, ownRefc, mapRec, refcMap, logMap}
+use Rattle.plan_closed.specs.Closed.{isFirst, isJoined, listAt, headParts, listParts, chunkParts, closedList, closedRmap, closedAgPlan}
+use Rattle.plan_totals.specs.Totals.{freeblksOf, longestOf}
+use Rattle.plan_totals.proofs.Rows.{list-is}
 use Rattle.plan_same.specs.Same.{isPlan}
-use Rattle.plan_same.proofs.Planners.{planned-there, is-plan-number, is-plan-same}
+use Rattle.plan_summary.proofs.Narrow.{free-few, free-least, longest-least, plan-answer, plan-closed}
 use Rattle.head_frame.specs.declared.Frame.{Frame}
 use Rattle.head_frame.specs.declared.Framed.{Framed}
 use Rattle.head_frame.specs.Frames.{frameOf, noFrame, framed, Fine, Few, chunkIno}
@@ -59,30 +54,10 @@ is-power k (suc c) j h l =
     (λ le. let e : j ≡ k = omega arith in rw e (rw (eq-eqb (2 ^ k) (2 ^ k) refl) refl))
     (lt-or-le k j)
 
--- ---- the plan in closed form
-
-plan-at : (t : Bool) (p : AgPlan) → choose {A = Planned} t (refusedPlan 25) (record { number = 0; plan = p }) .number ≡ 0
-    → choose {A = Planned} t (refusedPlan 25) (record { number = 0; plan = p }) .plan ≡ p
-plan-at true p e = absurd (omega arith)
-plan-at false p e = refl
-
 -- records in a list of choices
-gap-few : (a b : ℕ) → length (gap a b) ≤ 1
-gap-few a b = choose-elim (λ (l : List AllocRec). length l ≤ 1) (ltb a b) _ _ (λ t. omega arith) (λ t. omega arith)
-
 maybe-few : {A : Type 0} (t : Bool) (x : A) → length (choose t (x ∷ []) []) ≤ 1
 maybe-few true x = omega arith
 maybe-few false x = omega arith
-
-free-few : (s : Site) → length (closedFree s) ≤ 2
-unfolding closedFree
-free-few s =
-    choose-elim (λ (l : List AllocRec). length l ≤ 2) (isFirst s) _ _
-    (λ t. let n = length-append (gap (s .head + s .need) (s .«chunk_at»)) (gap (s .«chunk_at» + s .«chunk_blocks») (s .length)) in
-    let a = gap-few (s .head + s .need) (s .«chunk_at») in
-    let b = gap-few (s .«chunk_at» + s .«chunk_blocks») (s .length) in
-    omega arith)
-    (λ t. let a = gap-few (listAt s + s .need) (s .length) in omega arith)
 
 between-few : (s : Site) → length (listParts s) ≤ 4
 between-few s =
@@ -106,22 +81,6 @@ rmap-few s =
     omega arith)
     (λ t. omega arith)
 
-larger-most : (a b n : ℕ) → a < n → b < n → larger a b < n
-larger-most a b n h k = choose-elim (λ (x : ℕ). x < n) (ltb a b) b a (λ t. k) (λ t. h)
-
-free-least : (s : Site) → Sound s → freeblksOf (packFree (closedFree s)) < 2 ^ 32
-free-least s ok =
-    let l = ok .length-most in
-    let c = ok .chunk-ends in
-    rw (free-is s) (choose-elim (λ (x : ℕ). x < 2 ^ 32) (isFirst s) _ _ (λ t. omega arith) (λ t. omega arith))
-
-longest-least : (s : Site) → Sound s → longestOf (packFree (closedFree s)) < 2 ^ 32
-longest-least s ok =
-    let l = ok .length-most in
-    let c = ok .chunk-ends in
-    rw (longest-is s) (choose-elim (λ (x : ℕ). x < 2 ^ 32) (isFirst s) _ _
-    (λ t. larger-most (beforeChunk s) (afterChunk s) (2 ^ 32) (omega arith) (omega arith)) (λ t. omega arith))
-
 -- the chunk's first inode, for at most 32 inodes a block
 ino-least : (s : Site) (log : ℕ) → Sound s → 2 ^ log ≤ 32 → chunkIno log (choose (isFirst s) (Given (s .«chunk_at»)) Absent) < 2 ^ 32
 unfolding chunkIno
@@ -139,42 +98,34 @@ pub record Narrow (g : Geometry) (p : AgPlan) : Type 0 where
   pub header : headerOf (g .sectsize) (g .blocksize) < 2 ^ 32
   pub shift : g .inopblog < 64
   pub inode : chunkIno (g .inopblog) (p .chunk) < 2 ^ 32
+  pub list : p .agfl .len < 2 ^ 32
 
 module _ (g : Geometry) (p : AgPlan) (l : length (g .label) ≡ 12) (h : isPlan g p ≡ true) where
   abbrev its : Site
   its = siteOf g (p .agno)
 
-  pub plan-answer : (isAnswer g ≡ true) × (p .agno < g .agcount)
-  plan-answer = a-group g (p .agno) (planned-there g (p .agno) (is-plan-number g p h))
-
-  pub plan-closed : p ≡ closedAgPlan its
-  unfolding closedPlan
-  plan-closed =
-      let e = closed-plan g l (plan-answer .0) (p .agno) (plan-answer .1) in
-      is-plan-same g p h ∙ ap (λ (x : Planned). x .plan) e
-      ∙ plan-at (short its) (closedAgPlan its) (sym (ap (λ (x : Planned). x .number) e) ∙ is-plan-number g p h)
-
   bounds : Bounds g
-  bounds = answer-bounds g l (plan-answer .0)
+  bounds = answer-bounds g l (plan-answer g p l h .0)
 
   sound : Sound its
-  sound = site-sound g (p .agno) l (plan-answer .0)
+  sound = site-sound g (p .agno) l (plan-answer g p l h .0)
 
   pub plan-narrow : Narrow g p
   unfolding siteOf
   plan-narrow =
       let n = bounds .groups .count-most in
-      let k = plan-answer .1 in
+      let k = plan-answer g p l h .1 in
       let b = sound .length-most in
-      let h = bounds .places .header-most in
+      let t = bounds .places .header-most in
       let e = bounds .sizes .inodes-log in
       let m = bounds .sizes .block-most in
       record {
         group = omega arith;
-        blocks = rw plan-closed (omega arith);
+        blocks = rw (plan-closed g p l h) (omega arith);
         header = omega arith;
         shift = omega arith;
-        inode = rw plan-closed (ino-least its (g .inopblog) sound (inodes-most g bounds));
+        inode = rw (plan-closed g p l h) (ino-least its (g .inopblog) sound (inodes-most g bounds));
+        list = rw (plan-closed g p l h) (omega (arith, list-is its, sound .need-most));
       }
 
   -- THE LISTS ARE SHORT
@@ -182,11 +133,11 @@ module _ (g : Geometry) (p : AgPlan) (l : length (g .label) ≡ 12) (h : isPlan 
   plan-few =
       let n = sound .need-most in
       record {
-        free-most = rw plan-closed (free-few its);
-        list-most = rw plan-closed (rw (list-is its) n);
-        rmap-most = rw plan-closed (rmap-few its);
-        blocks-most = rw plan-closed (free-least its sound);
-        longest-most = rw plan-closed (longest-least its sound);
+        free-most = rw (plan-closed g p l h) (free-few its);
+        list-most = rw (plan-closed g p l h) (rw (list-is its) n);
+        rmap-most = rw (plan-closed g p l h) (rmap-few its);
+        blocks-most = rw (plan-closed g p l h) (omega (arith, free-least its sound));
+        longest-most = rw (plan-closed g p l h) (omega (arith, longest-least its sound));
       }
 
   -- THE FRAME IS FINE
@@ -212,7 +163,7 @@ module _ (g : Geometry) (p : AgPlan) (l : length (g .label) ≡ 12) (h : isPlan 
         block-is = rw bp (is-power 10 4 (g .blocklog) bl (omega arith));
         block-most = omega arith;
         sectors-fit = c .enough;
-        addresses = λ b le. room-at g bounds (p .agno) b (plan-answer .1) (let w = blocks-least g bounds (p .agno) in omega arith) .daddr;
+        addresses = λ b le. room-at g bounds (p .agno) b (plan-answer g p l h .1) (let w = blocks-least g bounds (p .agno) in omega arith) .daddr;
       }
 
 -- ---- what an answer of `frame_of` says

@@ -39,6 +39,9 @@ frameOf g p =
       agsize = g .agsize;
       «has_chunk» = hasChunk (p .chunk);
       newino = chunkIno (g .inopblog) (p .chunk);
+      freeblks = freeblksOf (p .free);
+      longest = longestOf (p .free);
+      list = p .agfl .len;
       features = g .features;
     }
 
@@ -46,7 +49,7 @@ abbrev pub noFeatures : Features
 noFeatures = record { finobt = false; rmapbt = false; reflink = false; inobtcount = false; bigtime = false; nrext64 = false; sparse = false }
 
 abbrev pub noFrame : Frame
-noFrame = record { agno = 0; length = 0; header = 0; sector = 0; block = 0; agsize = 0; «has_chunk» = false; newino = 0; features = noFeatures }
+noFrame = record { agno = 0; length = 0; header = 0; sector = 0; block = 0; agsize = 0; «has_chunk» = false; newino = 0; freeblks = 0; longest = 0; list = 0; features = noFeatures }
 
 -- `frame_of`: 31, or the frame
 unfoldable pub framed : Geometry → AgPlan → Framed
@@ -72,3 +75,9 @@ pub record Few (p : AgPlan) : Type 0 where
   pub rmap-most : p .rmap .len ≤ 8
   pub blocks-most : freeblksOf (p .free) < 2 ^ 32
   pub longest-most : longestOf (p .free) < 2 ^ 32
+
+-- the frame's totals are those of the plan's free records, and of its free list
+pub record Counted (w : Frame) (p : AgPlan) : Type 0 where
+  pub blocks : w .freeblks ≡ freeblksOf (p .free)
+  pub longest : w .longest ≡ longestOf (p .free)
+  pub list : w .list ≡ p .agfl .len

@@ -3,13 +3,14 @@ ghost use mathlib.Core.Path.{_≡_};
 ghost use mathlib.Core.Bool.{true};
 ghost use Prim.Native.Nat.{_*_, _<_, _^_};
 ghost use Rattle.plan_same.specs.Same.{isPlan};
+ghost use Rattle.plan_totals.specs.Totals.{freeblksOf, longestOf};
 ghost use Rattle.head_frame.specs.Frames.{hasChunk, chunkIno, frameOf, noFrame, framed};
 use geometry::Geometry;
 use geometry::log_size::header_of;
 use params::Features;
 use params::OptU64;
 use plan::AgPlan;
-use plan_same::is_plan;
+use plan_summary::records::free_totals;
 
 // A group, its head and its root chunk.
 pub struct Frame {
@@ -21,6 +22,9 @@ pub struct Frame {
     pub agsize: u64, // blocks of a whole group
     pub has_chunk: bool,
     pub newino: u32, // the chunk's first inode within the group, or NULL32
+    pub freeblks: u32, // blocks of the free records
+    pub longest: u32, // blocks of the longest
+    pub list: u32, // blocks on the free list
     pub features: Features,
 }
 
@@ -79,6 +83,9 @@ fn no_frame() -> Framed
         agsize: 0,
         has_chunk: false,
         newino: 0,
+        freeblks: 0,
+        longest: 0,
+        list: 0,
         features,
     };
     Framed {
@@ -87,8 +94,8 @@ fn no_frame() -> Framed
     }
 }
 
-fn frame_with(g: Geometry, p: AgPlan) -> Frame
-    requires { ⌜ isPlan g p ≡ true ⌝ }
+fn frame_with(g: Geometry, p: AgPlan, freeblks: u32, longest: u32) -> Frame
+    requires { ⌜ (isPlan g p ≡ true) × (freeblks ≡ freeblksOf (p .free)) × (longest ≡ longestOf (p .free)) ⌝ }
     ensures { λ r. ⌜ r ≡ frameOf g p ⌝ }
 {
     let features = g.features;
@@ -105,6 +112,9 @@ fn frame_with(g: Geometry, p: AgPlan) -> Frame
         agsize: g.agsize,
         has_chunk: there,
         newino,
+        freeblks,
+        longest,
+        list: p.agfl.len as u32,
         features,
     }
 }
@@ -113,9 +123,10 @@ fn frame_with(g: Geometry, p: AgPlan) -> Frame
 pub fn frame_of(g: Geometry, p: AgPlan) -> Framed
     ensures { λ r. ⌜ r ≡ framed g p ⌝ }
 {
-    if !is_plan(g, p) {
+    let t = free_totals(g, p);
+    if t.number != 0 {
         return no_frame();
     }
-    let frame = frame_with(g, p);
+    let frame = frame_with(g, p, t.blocks, t.longest);
     Framed { number: 0, frame }
 }

@@ -92,6 +92,9 @@ pub record Demand2 : Type 0 where
   pub planned-once : (g : Geometry) → Answered g → (k : ℕ) → k < g .agcount → planned g k .number ≡ 0
       → ((b : ℕ) → b < groupBlocks (g .dblocks) (g .agsize) (g .agcount) k → usesOf g k b ≡ 1)
       × (g .features .rmapbt ≡ true → (b : ℕ) → mappedOf g k b ≡ usedOf g k b)
+  -- Where all plans are accepted, every running number of a group is below 2^30: the sums and the longest over its free records, and the
+  -- differences of which its row is made. So 32 bits hold them.
+  pub narrow : (g : Geometry) → Answered g → plansNumber g ≡ 0 → (k : ℕ) → k < g .agcount → NarrowGroup g k
   -- The bytes that are sent for an accepted input, turn by turn through buffers that hold the longest chunk, are its list of written
   -- records, one after the other; and these bytes, read by themselves, are that list again.
   pub sent-and-read : (xs : List ℕ) → Octets xs → accepted xs .number ≡ 0

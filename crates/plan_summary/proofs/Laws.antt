@@ -12,6 +12,8 @@ use lib.Pow.{pow-pos}
 use Rattle.seqs.specs.Lists.{both, choose}
 use Rattle.geometry.specs.declared.Geometry.{Geometry}
 use Rattle.geometry_answers.specs.Named.{isAnswer}
+use Rattle.arith.specs.Choice.{when}
+use Rattle.geometry_layout.specs.Places.{groupBlocks}
 use Rattle.geometry_layout.proofs.Bounding.{answer-bounds}
 use Rattle.geometry_counts.specs.declared.Value64.the-variants.{Of}
 use Rattle.geometry_places.specs.Answers.{groupRefusal, unless64}
@@ -65,6 +67,13 @@ module _ (g : Geometry) where
       let o : 1 ≤ g .blocksize = omega arith in
       let m = mul-le-mul-left (g .dblocks) o in
       omega arith
+
+  last-length : siteOf g (g .agcount - 1) .length ≡ g .dblocks - (g .agcount - 1) * g .agsize
+  unfolding siteOf groupBlocks when
+  last-length = rw (eq-eqb (g .agcount - 1) (g .agcount - 1) refl)
+
+  pub last-fits : length (g .label) ≡ 12 → isAnswer g ≡ true → g .dblocks - (g .agcount - 1) * g .agsize < 2 ^ 30
+  last-fits l h = rw (← last-length) (site-sound g (g .agcount - 1) l h .length-most)
 
 -- a few blocks of each group fit
 pub each-fits : (n b : ℕ) → n < 2 ^ 32 → b ≤ 10 → n * b < 2 ^ 64

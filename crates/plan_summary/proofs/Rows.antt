@@ -56,7 +56,7 @@ module _ (g : Geometry) (k : ℕ) where
   abbrev m : Summary
   m = summaryOf g
 
-  length-is : lengthIn m k ≡ s .length
+  pub length-is : lengthIn m k ≡ s .length
   unfolding summaryOf siteOf lengthIn groupBlocks
   length-is = length-at (g .dblocks) (g .agsize) (g .agcount) k (eqb k (g .agcount - 1)) refl
 
@@ -83,19 +83,19 @@ module _ (g : Geometry) (k : ℕ) where
   free-at false false e i ok = omega arith
 
   -- the numbers that a summary and a site share
-  head-is : m .head ≡ s .head
+  pub head-is : m .head ≡ s .head
   unfolding summaryOf siteOf
   head-is = refl
 
-  list-is : m .list ≡ s .need
+  pub list-is : m .list ≡ s .need
   unfolding summaryOf siteOf
   list-is = refl
 
-  chunk-at-is : m .«chunk_at» ≡ s .«chunk_at»
+  pub chunk-at-is : m .«chunk_at» ≡ s .«chunk_at»
   unfolding summaryOf siteOf
   chunk-at-is = refl
 
-  chunk-blocks-is : m .chunk ≡ s .«chunk_blocks»
+  pub chunk-blocks-is : m .chunk ≡ s .«chunk_blocks»
   unfolding summaryOf siteOf
   chunk-blocks-is = refl
 
@@ -134,7 +134,7 @@ module _ (g : Geometry) (k : ℕ) where
   no-log e = rw e
 
   -- no group but the log's is short of blocks
-  not-short-at : (t : Bool) → eqb k (g .logagno) ≡ t → short (siteOf g (g .logagno)) ≡ false → short s ≡ false
+  pub not-short-at : (t : Bool) → eqb k (g .logagno) ≡ t → short (siteOf g (g .logagno)) ≡ false → short s ≡ false
   not-short-at true e h = ap (λ (x : ℕ). short (siteOf g x)) (eqb-true k (g .logagno) e) ∙ h
   not-short-at false e h = no-log e
 

@@ -2,16 +2,19 @@
 -- Assumes nothing.
 use Prim.Native.Nat.{ℕ, _*_, _-_, max}
 use lib.Dec.{ltb, eqb}
-use Rattle.refusals.specs.Numbers.{noPlace}
+use Rattle.refusals.specs.Numbers.{noPlace, noAnswer}
 use Rattle.arith.specs.Choice.{when}
 use Rattle.seqs.specs.Lists.{choose}
 use Rattle.geometry.specs.declared.Geometry.{Geometry}
 use Rattle.geometry.specs.Log.{preallocOf}
 use Rattle.geometry_layout.specs.Places.{freelistOf, chunkOf, rootChunkOf}
+use Rattle.plan.specs.declared.AgPlan.{AgPlan}
+use Rattle.plan_same.specs.Same.{isPlan}
 use Rattle.plan_totals.specs.declared.Row.{Row}
-use Rattle.plan_totals.specs.Totals.{plansNumber, constCount, noRow, closedTotal}
+use Rattle.plan_totals.specs.Totals.{plansNumber, constCount, noRow, closedTotal, freeblksOf, longestOf}
 use Rattle.plan_summary.specs.declared.Summary.{Summary}
 use Rattle.plan_summary.specs.declared.Summarised.{Summarised}
+use Rattle.plan_summary.specs.declared.records.FreeTotals.{FreeTotals}
 
 -- ---- the numbers of a geometry
 
@@ -53,7 +56,15 @@ summarised g =
     choose (eqb (plansNumber g) 0) (record { number = 0; summary = summaryOf g })
     (record { number = plansNumber g; summary = noSummary })
 
--- ---- a row of it
+-- ---- the free records of one plan
+
+-- `free_totals`: 31 unless the plan is the planner's for its group
+unfoldable pub freeTotals : Geometry → AgPlan → FreeTotals
+freeTotals g p =
+    choose (isPlan g p) (record { number = 0; blocks = freeblksOf (p .free); longest = longestOf (p .free) })
+    (record { number = noAnswer; blocks = 0; longest = 0 })
+
+-- ---- a row of a summary
 
 unfoldable pub lengthIn : Summary → ℕ → ℕ
 lengthIn s k = when (eqb k (s .agcount - 1)) (s .last) (s .agsize)

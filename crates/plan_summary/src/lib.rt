@@ -11,23 +11,24 @@ ghost use Rattle.plan_summary.specs.Summaries.{summaryOf, noSummary, sum
 pub mod records; // records.rt: the free records of one plan
 
 use arith::numbers::minus;
+use arith::numbers::minus_u32;
 use geometry::Geometry;
 use geometry_counts::Value64;
 use plan_site::Site;
 use plan_site::site_of;
 use plan_totals::Total;
 
-// Blocks; `chunk_at` is a place in group 0.
+// Blocks, those of one group in 32 bits; `chunk_at` is a place in group 0.
 pub struct Summary {
     pub agcount: u64, // groups
-    pub agsize: u64,
-    pub last: u64, // of the last group
+    pub agsize: u32,
+    pub last: u32, // of the last group
     pub logagno: u64, // the log's group
-    pub logblocks: u64,
-    pub head: u64, // preallocated in each group
-    pub list: u64, // on each free list
-    pub chunk_at: u64,
-    pub chunk: u64,
+    pub logblocks: u32,
+    pub head: u32, // preallocated in each group
+    pub list: u32, // on each free list
+    pub chunk_at: u32,
+    pub chunk: u32,
     pub count: u64, // free and on free lists, in all groups
     pub total: Total,
 }
@@ -76,8 +77,8 @@ fn is_short(s: Site) -> bool
     requires { ⌜ (Sound s) × (s .«has_log» ≡ true) ⌝ }
     ensures { λ r. ⌜ r ≡ short s ⌝ }
 {
-    let after = (s.log_at as u64) + (s.log_blocks as u64);
-    minus(s.length as u64, after) < (s.need as u64)
+    let after = s.log_at + s.log_blocks;
+    minus_u32(s.length, after) < s.need
 }
 
 // A few blocks of each group.
@@ -123,14 +124,14 @@ fn summary_with(g: Geometry, s: Site) -> Summary
     let total = total_with(g, s, count);
     Summary {
         agcount: g.agcount,
-        agsize: g.agsize,
-        last: minus(g.dblocks, before),
+        agsize: g.agsize as u32,
+        last: minus(g.dblocks, before) as u32,
         logagno: g.logagno,
-        logblocks: g.logblocks,
-        head: s.head as u64,
-        list: s.need as u64,
-        chunk_at: s.chunk_at as u64,
-        chunk: s.chunk_blocks as u64,
+        logblocks: s.log_blocks,
+        head: s.head,
+        list: s.need,
+        chunk_at: s.chunk_at,
+        chunk: s.chunk_blocks,
         count,
         total,
     }

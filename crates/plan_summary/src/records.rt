@@ -1,72 +1,103 @@
-// The free records of one plan: their blocks, and the longest.
+// The free records of a plan of the planner: their blocks, and the longest. Every number is below 2^30, and held in 32 bits.
 ghost use mathlib.Core.Path.{_≡_};
-ghost use Prim.Native.Nat.{_≤_, _<_, _^_};
-ghost use Rattle.plan_totals.specs.Totals.{larger, freeblksOf, longestOf, ofFew};
-use btree::records::AllocRec;
-use geometry_counts::Value64;
+ghost use Prim.Native.Nat.{_≤_};
+ghost use lib.Dec.{eqb};
+ghost use Rattle.seqs.specs.Lists.{choose};
+ghost use Rattle.geometry_counts.specs.declared.Value32.the-variants.{Refused, Of};
+ghost use Rattle.geometry_counts.specs.Known.{known32};
+ghost use Rattle.plan_same.specs.Same.{isPlan};
+ghost use Rattle.plan_totals.specs.Totals.{larger, freeblksOf, longestOf, NarrowRecords};
+ghost use Rattle.plan_summary.specs.Summaries.{freeTotals};
+use geometry::Geometry;
+use geometry_counts::Value32;
 use plan::AgPlan;
 use plan_free::FreeList;
+use plan_same::is_plan;
 
-fn count_of(r: AllocRec) -> u64
-    ensures { λ n. ⌜ (n ≡ r .count) × (n < 2 ^ 32) ⌝ }
-{
-    r.count as u64
+// Blocks of a plan's free records, and of the longest. The number is 0 for a plan of the planner; a refusal has zeros.
+pub struct FreeTotals {
+    pub number: u32,
+    pub blocks: u32,
+    pub longest: u32,
 }
 
-fn larger_of(a: u64, b: u64) -> u64
+fn larger_of(a: u32, b: u32) -> u32
     ensures { λ n. ⌜ n ≡ larger a b ⌝ }
 {
     if a < b { b } else { a }
 }
 
-fn sum_of(l: FreeList) -> u64
-    requires { ⌜ l .len ≤ 64 ⌝ }
+fn sum_of(l: FreeList) -> u32
+    requires { ⌜ (l .len ≤ 64) × (NarrowRecords l) ⌝ }
     ensures { λ r. ⌜ r ≡ freeblksOf l ⌝ }
 {
     let n = l.len;
-    let mut sum: u64 = 0;
+    let mut sum: u32 = 0;
     let mut i: usize = 0;
     while i < n {
         let r = l.recs[i];
-        sum += count_of(r);
+        sum += r.count;
         i += 1;
     }
     sum
 }
 
-fn longest_of(l: FreeList) -> u64
+fn longest_of(l: FreeList) -> u32
     requires { ⌜ l .len ≤ 64 ⌝ }
     ensures { λ r. ⌜ r ≡ longestOf l ⌝ }
 {
     let n = l.len;
-    let mut most: u64 = 0;
-    let mut i: usize = 0;
-    while i < n {
-        let r = l.recs[i];
-        most = larger_of(most, count_of(r));
-        i += 1;
+    let mut most: u32 = 0;
+    let mut j: usize = 0;
+    while j < n {
+        let r = l.recs[j];
+        most = larger_of(most, r.count);
+        j += 1;
     }
     most
 }
 
-// Free blocks in the free space btrees; 34 for more than 64 records.
-pub fn freeblks(p: AgPlan) -> Value64
-    ensures { λ r. ⌜ r ≡ ofFew (p .free) (freeblksOf (p .free)) ⌝ }
+// Both totals; 31 unless the plan is the planner's for its group.
+pub fn free_totals(g: Geometry, p: AgPlan) -> FreeTotals
+    ensures { λ r. ⌜ r ≡ freeTotals g p ⌝ }
 {
-    let l = p.free;
-    if 64 < l.len {
-        return Value64::Refused(refusals::TOO_MANY_RECORDS);
+    if !is_plan(g, p) {
+        return FreeTotals {
+            number: refusals::NO_ANSWER,
+            blocks: 0,
+            longest: 0,
+        };
     }
-    Value64::Of(sum_of(l))
+    let l = p.free;
+    FreeTotals {
+        number: 0,
+        blocks: sum_of(l),
+        longest: longest_of(l),
+    }
 }
 
-// The longest free extent, 0 where there is none; 34 for more than 64 records.
-pub fn longest(p: AgPlan) -> Value64
-    ensures { λ r. ⌜ r ≡ ofFew (p .free) (longestOf (p .free)) ⌝ }
+// The value beside a number of 0, or the refusal.
+fn value_of(number: u32, n: u32) -> Value32
+    ensures { λ r. ⌜ r ≡ choose (eqb number 0) (Of n) (Refused number) ⌝ }
 {
-    let l = p.free;
-    if 64 < l.len {
-        return Value64::Refused(refusals::TOO_MANY_RECORDS);
+    if number != 0 {
+        return Value32::Refused(number);
     }
-    Value64::Of(longest_of(l))
+    Value32::Of(n)
+}
+
+// Free blocks in the free space btrees; 31 unless the plan is the planner's for its group.
+pub fn freeblks(g: Geometry, p: AgPlan) -> Value32
+    ensures { λ r. ⌜ r ≡ known32 (isPlan g p) (freeblksOf (p .free)) ⌝ }
+{
+    let t = free_totals(g, p);
+    value_of(t.number, t.blocks)
+}
+
+// The longest free extent, 0 where there is none; 31 unless the plan is the planner's for its group.
+pub fn longest(g: Geometry, p: AgPlan) -> Value32
+    ensures { λ r. ⌜ r ≡ known32 (isPlan g p) (longestOf (p .free)) ⌝ }
+{
+    let t = free_totals(g, p);
+    value_of(t.number, t.longest)
 }

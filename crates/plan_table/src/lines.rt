@@ -23,12 +23,12 @@ fn put_group(s: Summary, k: u64, buf: &mut [u8], at: usize) -> Written
     let row = row_in(s, k);
     let line = Row {
         group: row.group,
-        length: row.length,
-        log: row.log,
-        list: row.list,
-        chunk: row.chunk,
-        free: row.free,
-        longest: row.longest,
+        length: row.length as u64,
+        log: row.log as u64,
+        list: row.list as u64,
+        chunk: row.chunk as u64,
+        free: row.free as u64,
+        longest: row.longest as u64,
     };
     put_row(line, buf, at)
 }

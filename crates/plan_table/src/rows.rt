@@ -1,45 +1,46 @@
-// A group's row from the summary of all groups, in constant time.
+// A group's row from the summary of all groups, in constant time; blocks of a group in 32 bits.
 ghost use mathlib.Core.Path.{_≡_};
 ghost use Rattle.plan_totals.specs.Totals.{noRow};
 ghost use Rattle.plan_summary.specs.Summaries.{lengthIn, logIn, chunkIn, freeIn, longestIn, rowIn};
-use arith::choice::pick_u64;
-use arith::numbers::max_u64;
+use arith::choice::pick_u32;
+use arith::numbers::max_u32;
 use arith::numbers::minus;
+use arith::numbers::minus_u32;
 use plan_summary::Summary;
 use plan_totals::Row;
 
-fn length_in(s: Summary, k: u64) -> u64
+fn length_in(s: Summary, k: u64) -> u32
     ensures { λ r. ⌜ r ≡ lengthIn s k ⌝ }
 {
-    pick_u64(k == minus(s.agcount, 1), s.last, s.agsize)
+    pick_u32(k == minus(s.agcount, 1), s.last, s.agsize)
 }
 
-fn log_in(s: Summary, k: u64) -> u64
+fn log_in(s: Summary, k: u64) -> u32
     ensures { λ r. ⌜ r ≡ logIn s k ⌝ }
 {
-    pick_u64(k == s.logagno, s.logblocks, 0)
+    pick_u32(k == s.logagno, s.logblocks, 0)
 }
 
-fn chunk_in(s: Summary, k: u64) -> u64
+fn chunk_in(s: Summary, k: u64) -> u32
     ensures { λ r. ⌜ r ≡ chunkIn s k ⌝ }
 {
-    pick_u64(k == 0, s.chunk, 0)
+    pick_u32(k == 0, s.chunk, 0)
 }
 
-fn free_in(s: Summary, k: u64) -> u64
+fn free_in(s: Summary, k: u64) -> u32
     ensures { λ r. ⌜ r ≡ freeIn s k ⌝ }
 {
-    let after = minus(minus(length_in(s, k), s.head), log_in(s, k));
-    minus(minus(after, s.list), chunk_in(s, k))
+    let after = minus_u32(minus_u32(length_in(s, k), s.head), log_in(s, k));
+    minus_u32(minus_u32(after, s.list), chunk_in(s, k))
 }
 
 // Before or after the chunk in group 0.
-fn longest_in(s: Summary, k: u64) -> u64
+fn longest_in(s: Summary, k: u64) -> u32
     ensures { λ r. ⌜ r ≡ longestIn s k ⌝ }
 {
-    let before = minus(minus(s.chunk_at, s.head), s.list);
-    let after = minus(minus(length_in(s, k), s.chunk_at), s.chunk);
-    pick_u64(k == 0, max_u64(before, after), free_in(s, k))
+    let before = minus_u32(minus_u32(s.chunk_at, s.head), s.list);
+    let after = minus_u32(minus_u32(length_in(s, k), s.chunk_at), s.chunk);
+    pick_u32(k == 0, max_u32(before, after), free_in(s, k))
 }
 
 pub(crate) fn no_row(n: u32) -> Row

@@ -1,3 +1,4 @@
 pub mod Sums
 pub mod Rows
+pub mod Running
 pub mod Whole

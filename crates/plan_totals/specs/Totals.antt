@@ -1,8 +1,9 @@
 -- What the plans of all groups come to: free blocks, rows of planlist's table, sums over the groups.
 -- Assumes nothing.
-use Prim.Native.Nat.{ℕ, zero, suc, _+_, _*_, _-_}
+use Prim.Native.Nat.{ℕ, zero, suc, _+_, _*_, _-_, _^_, _<_}
 use lib.Dec.{ltb, eqb}
-use Rattle.refusals.specs.Numbers.{tooManyRecords, noAnswer, freeListShort}
+use lib.ListN.{take}
+use Rattle.refusals.specs.Numbers.{noAnswer, freeListShort}
 use Rattle.seqs.specs.Lists.{choose, fold}
 use Rattle.params.specs.declared.OptU64.{OptU64}
 use Rattle.params.specs.declared.OptU64.the-variants.{Absent, Given}
@@ -12,7 +13,6 @@ use Rattle.geometry_answers.specs.Named.{isAnswer}
 use Rattle.geometry_layout.specs.Places.{freelistOf, chunkOf}
 use Rattle.btree.specs.declared.records.AllocRec.{AllocRec}
 use Rattle.geometry_counts.specs.declared.Value64.{Value64}
-use Rattle.geometry_counts.specs.declared.Value64.the-variants.{Refused, Of}
 use Rattle.geometry_places.specs.Answers.{unless64}
 use Rattle.plan_site.specs.declared.Site.{Site}
 use Rattle.plan_site.specs.Sites.{siteOf}
@@ -42,9 +42,17 @@ freeblksOf l = fold addCount 0 (freeOf l)
 unfoldable pub longestOf : FreeList → ℕ
 longestOf l = fold maxCount 0 (freeOf l)
 
--- `freeblks` and `longest` answer 34 above 64 records
-unfoldable pub ofFew : FreeList → ℕ → Value64
-ofFew l n = choose (ltb 64 (l .len)) (Refused tooManyRecords) (Of n)
+-- the running numbers: blocks of the first n records, and of the longest of these
+abbrev pub totalAfter : FreeList → ℕ → ℕ
+totalAfter l n = fold addCount 0 (take n (freeOf l))
+
+abbrev pub longestAfter : FreeList → ℕ → ℕ
+longestAfter l n = fold maxCount 0 (take n (freeOf l))
+
+-- none of them reaches 2^30
+pub record NarrowRecords (l : FreeList) : Type 0 where
+  pub total : (n : ℕ) → totalAfter l n < 2 ^ 30
+  pub longest : (n : ℕ) → longestAfter l n < 2 ^ 30
 
 -- ---- sums over groups
 

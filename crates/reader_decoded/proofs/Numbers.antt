@@ -31,7 +31,7 @@ use Rattle.plan_closed.specs.Closed.{isFirst, listAt, closedFree, closedList, c
 use Rattle.plan_totals.specs.Totals.{freeblksOf, longestOf}
 use Rattle.plan_same.specs.Same.{isPlan}
 use Rattle.head_frame.specs.declared.Frame.{Frame}
-use Rattle.head_frame.proofs.Fitting.{plan-answer, plan-closed}
+use Rattle.plan_summary.proofs.Narrow.{plan-answer, plan-closed}
 use Rattle.head_bytes.specs.Head.{agfOf, agiOf}
 
 -- ---- the headers

@@ -35,7 +35,8 @@ use Rattle.plan.specs.declared.AgPlan.{AgPlan}
 use Rattle.plan_same.specs.Same.{isPlan}
 use Rattle.head_frame.specs.declared.Frame.{Frame}
 use Rattle.head_frame.specs.Frames.{frameOf, hasChunk, chunkIno, Fine}
-use Rattle.head_frame.proofs.Fitting.{plan-answer, plan-narrow, plan-few}
+use Rattle.plan_summary.proofs.Narrow.{plan-answer}
+use Rattle.head_frame.proofs.Fitting.{plan-narrow, plan-few}
 use Rattle.head_bytes.specs.Head.{agfOf, agiOf, bnoMagic, inoMagic, rootBytes, bnoRoot, inodeRoot, headBytes}
 use Rattle.reader_decoded.specs.Decoded.{blockAt, agfIn, agiIn, numrecsIn, recordsIn, freeIn, chunkOfRecord, chunksIn, chunkList}
 use Rattle.reader_decoded.proofs.Numbers.{free-length, free-narrow}

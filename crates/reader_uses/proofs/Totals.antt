@@ -22,7 +22,7 @@ use Rattle.plan_totals.specs.Totals.{freeOfPlan, freeCount}
 use Rattle.plan_totals.proofs.Sums.{sum-same, sum-plus, only, sum-only}
 use Rattle.plan_totals.proofs.Whole.{disk-adds}
 use Rattle.plan_same.proofs.Planners.{planned-group}
-use Rattle.head_frame.proofs.Fitting.{plan-closed}
+use Rattle.plan_summary.proofs.Narrow.{plan-closed}
 use Rattle.reader_decoded.specs.Decoded.{LogRun, listIn, freeIn, chunksIn, chunkList, logIn, countIn}
 use Rattle.reader_uses.specs.ByUse.{freeTotal, listTotal, chunkTotal, restTotal, LeftHeads}
 use Rattle.reader_uses.proofs.Decodings.{answer, full, first-group, numbered, is-plan, entries-are, lengths-are, chunks-are, log-is, count-is}

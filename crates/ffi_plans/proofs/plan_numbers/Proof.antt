@@ -7,11 +7,11 @@ use Rattle.ffi_plans.proofs.plan_numbers.Tie as tie
 
 returns : tie.Need-returns
 unfolding planNumbers
-returns c = rw (c .given .ensures, c .before .is-given .ensures, c .before .before .before .value-of2 .ensures, c .before .before .before .before .longest .ensures, c .before .before .before .before .before .value-of .ensures, c .before .before .before .before .before .before .freeblks .ensures)
+returns c = rw (c .before .before .given .ensures, c .before .before .before .is-given .ensures, c .before .before .before .before .before .free-totals .ensures)
 
 pub plan-numbers-spec : {M : Type 1} → statement M
 plan-numbers-spec =
     tie.close
     (tie.spec
-    (λ c κs. search needs) (λ c κs. search needs) (λ c κs. search needs) (λ c κs. search needs)
-    (λ c. search needs) (λ c κs. search needs) (λ c κs. search needs) returns)
+    (λ c κs. search needs) (λ c. search needs) (λ c κs. search needs) (λ c κs. search needs)
+    (λ c. search needs) (λ c. search needs) returns)

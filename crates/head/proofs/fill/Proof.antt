@@ -10,7 +10,7 @@ use Rattle.head.proofs.fill.Statement.{statement}
 use Rattle.head.proofs.fill.Tie as tie
 
 put-headers-requires : tie.Need-put-headers-requires
-put-headers-requires c κs = let s = c .before .before in let l : length (s .args .g .label) ≡ 12 = search (needs, s .good .0 .1 .1 .1 .1 .1 .1 .1 .1 .1 .1 .1 .1 .1 .1 .1 .1 .1 .1 .1) in let r = ready (s .args .g) (s .args .p) (s .args .w) (length (s .args .buf .now)) l (s .pre .0) (s .pre .1) (s .pre .2) in (r .answer, r .sector, r .fine, r .few, r .headers)
+put-headers-requires c κs = let s = c .before .before in let l : length (s .args .g .label) ≡ 12 = search (needs, s .good .0 .1 .1 .1 .1 .1 .1 .1 .1 .1 .1 .1 .1 .1 .1 .1 .1 .1 .1 .1) in let r = ready (s .args .g) (s .args .p) (s .args .w) (length (s .args .buf .now)) l (s .pre .0) (s .pre .1) (s .pre .2) in (r .answer, r .sector, r .fine, r .few, r .headers, r .counted)
 
 put-trees-requires : tie.Need-put-trees-requires
 put-trees-requires c κs = let s = c .before .before .before .before .before .before in let l : length (s .args .g .label) ≡ 12 = search (needs, s .good .0 .1 .1 .1 .1 .1 .1 .1 .1 .1 .1 .1 .1 .1 .1 .1 .1 .1 .1 .1) in let r = ready (s .args .g) (s .args .p) (s .args .w) (length (s .args .buf .now)) l (s .pre .0) (s .pre .1) (s .pre .2) in (r .fine, r .few, kept (c .before .before .before .put-headers .kept .1 .1 .1 .1 .1 .0) (r .all))

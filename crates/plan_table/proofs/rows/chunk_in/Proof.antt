@@ -7,7 +7,7 @@ use Rattle.plan_table.proofs.rows.chunk_in.Tie as tie
 
 returns : tie.Need-returns
 unfolding chunkIn
-returns c = c .pick-u64 .ensures
+returns c = c .pick-u32 .ensures
 
 pub chunk-in-spec : {M : Type 1} → statement M
 chunk-in-spec = tie.close (tie.spec

@@ -8,7 +8,7 @@ use Rattle.plan_table.proofs.rows.free_in.Tie as tie
 
 returns : tie.Need-returns
 unfolding freeIn
-returns c = c .minus4 .ensures ∙ rw (c .before .chunk-in .ensures, c .before .before .minus3 .ensures, c .before .before .before .minus2 .ensures, c .before .before .before .before .log-in .ensures, c .before .before .before .before .before .minus .ensures, c .before .before .before .before .before .before .length-in .ensures)
+returns c = c .minus-u324 .ensures ∙ rw (c .before .chunk-in .ensures, c .before .before .minus-u323 .ensures, c .before .before .before .minus-u322 .ensures, c .before .before .before .before .log-in .ensures, c .before .before .before .before .before .minus-u32 .ensures, c .before .before .before .before .before .before .length-in .ensures)
 
 pub free-in-spec : {M : Type 1} → statement M
 free-in-spec =

@@ -8,7 +8,7 @@ use Rattle.plan_table.proofs.rows.length_in.Tie as tie
 
 returns : tie.Need-returns
 unfolding lengthIn
-returns c = c .pick-u64 .ensures ∙ rw (c .before .minus .ensures)
+returns c = c .pick-u32 .ensures ∙ rw (c .before .minus .ensures)
 
 pub length-in-spec : {M : Type 1} → statement M
 length-in-spec = tie.close (tie.spec

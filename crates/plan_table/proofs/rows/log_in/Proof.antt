@@ -7,7 +7,7 @@ use Rattle.plan_table.proofs.rows.log_in.Tie as tie
 
 returns : tie.Need-returns
 unfolding logIn
-returns c = c .pick-u64 .ensures
+returns c = c .pick-u32 .ensures
 
 pub log-in-spec : {M : Type 1} → statement M
 log-in-spec = tie.close (tie.spec

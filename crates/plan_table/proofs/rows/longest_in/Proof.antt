@@ -8,7 +8,7 @@ use Rattle.plan_table.proofs.rows.longest_in.Tie as tie
 
 returns : tie.Need-returns
 unfolding longestIn
-returns c = c .pick-u64 .ensures ∙ rw (c .before .free-in .ensures, c .before .before .max-u64 .ensures, c .before .before .before .minus4 .ensures, c .before .before .before .before .minus3 .ensures, c .before .before .before .before .before .length-in .ensures, c .before .before .before .before .before .before .minus2 .ensures, c .before .before .before .before .before .before .before .minus .ensures)
+returns c = c .pick-u32 .ensures ∙ rw (c .before .free-in .ensures, c .before .before .max-u32 .ensures, c .before .before .before .minus-u324 .ensures, c .before .before .before .before .minus-u323 .ensures, c .before .before .before .before .before .length-in .ensures, c .before .before .before .before .before .before .minus-u322 .ensures, c .before .before .before .before .before .before .before .minus-u32 .ensures)
 
 pub longest-in-spec : {M : Type 1} → statement M
 longest-in-spec =

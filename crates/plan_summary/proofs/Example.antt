@@ -1,0 +1,61 @@
+-- The bound of 2^30 is near: a group with 2^30 − 10 free blocks, computed.
+-- Assumes nothing.
+use mathlib.Core.Path.{_≡_, refl, _∙_}
+use mathlib.Core.Bool.{true, false}
+use Prim.Native.Nat.{_+_, _-_, _^_}
+use native.Mathlib.Omega.{arith}
+use lib.ListN.{length}
+use Rattle.arith.specs.Choice.{when, bit}
+use Rattle.arith.specs.Numbers.{ceilDiv}
+use Rattle.arith.specs.Powers.{powerIn, powerLog, leastFrom, log2Up}
+use Rattle.geometry_sizes.specs.Sizes.{defaultSector, sizesOf, sizesRefusals}
+use Rattle.geometry.specs.Groups.{askedBlocks, defaultSize, initialGroups, isShort, trim, optionsRefusals, groupsRefusals}
+use Rattle.geometry.specs.Log.{headerOf, preallocOf, logLimit, logBlocks, defaultImaxpct, lastRefusals}
+use Rattle.geometry.specs.Compute.{withGroups, withSizes, chosenOf, refusals, refusalOf, labelOf, geometryOf, computeDef}
+use Rattle.geometry.specs.Compute as compute
+use Rattle.geometry_answers.specs.Same.{sameFeatures, numbersOf, sameFrom, sameGeometry}
+use Rattle.geometry_answers.specs.Named.{namedOptions, namedOn, namedFits, namedAnswer, namesOf, isAnswer}
+use Rattle.geometry_layout.specs.Places.{freelistOf, chunkOf, clusterOf, alignOf, roundUp, aligned, rootChunkOf, groupBlocks}
+use Rattle.seqs.specs.Lists.{choose}
+use Rattle.plan_site.specs.declared.Site.{Site}
+use Rattle.plan_site.specs.Sites.{siteOf}
+use Rattle.plan_closed.specs.Closed.{isFirst, listAt, short}
+use Rattle.plan_closed.proofs.Planning.{planned-plan}
+use Rattle.plan_totals.specs.Totals.{larger, constNumber, beforeChunk, afterChunk, afterList}
+use Rattle.plan_totals.proofs.Rows.{free-is, longest-is}
+use Rattle.plan_totals.proofs.Whole.{plans-number}
+use Rattle.plan_summary.specs.Summaries.{summaryOf, lengthIn, logIn, chunkIn, freeIn, longestIn}
+use Rattle.plan_summary.specs.Narrow.{largest, Near}
+
+abbrev last : Site
+last = siteOf largest 2
+
+-- what is computed of it
+record Computed : Type 0 where
+  label : length (largest .label) ≡ 12
+  groups : largest .agcount ≡ 3
+  answer : isAnswer largest ≡ true
+  number : constNumber largest ≡ 0
+  full : short last ≡ false
+  free : choose (isFirst last) (beforeChunk last + afterChunk last) (afterList last) ≡ 2 ^ 30 - 10
+  longest : choose (isFirst last) (larger (beforeChunk last) (afterChunk last)) (afterList last) ≡ 2 ^ 30 - 10
+  row-free : freeIn (summaryOf largest) 2 ≡ 2 ^ 30 - 10
+  row-longest : longestIn (summaryOf largest) 2 ≡ 2 ^ 30 - 10
+
+computed : Computed
+unfolding largest when bit ceilDiv powerIn powerLog leastFrom log2Up defaultSector sizesOf sizesRefusals askedBlocks defaultSize initialGroups isShort trim optionsRefusals groupsRefusals headerOf preallocOf logLimit logBlocks defaultImaxpct lastRefusals withGroups withSizes chosenOf refusals refusalOf labelOf geometryOf computeDef compute.answer sameFeatures numbersOf sameFrom sameGeometry namedOptions namedOn namedFits namedAnswer namesOf isAnswer freelistOf chunkOf clusterOf alignOf roundUp aligned rootChunkOf groupBlocks siteOf listAt short constNumber summaryOf lengthIn logIn chunkIn freeIn longestIn
+computed = record { label = refl; groups = refl; answer = refl; number = refl; full = refl; free = refl; longest = refl; row-free = refl; row-longest = refl }
+
+-- THE BOUND IS NEAR
+pub near : Near
+near =
+    let c = computed in
+    let p = planned-plan largest (c .label) (c .answer) 2 (omega (arith, c .groups)) (c .full) in
+    record {
+      answer = c .answer;
+      plans = plans-number largest (c .label) ∙ c .number;
+      free = rw p (free-is last ∙ c .free);
+      longest = rw p (longest-is last ∙ c .longest);
+      row-free = c .row-free;
+      row-longest = c .row-longest;
+    }
