@@ -23,6 +23,15 @@ use Rattle.plan_orders.proofs.Orders.{rising-once, falling-once, even-o
 
 -- ---- the sums, in any order
 
+-- column by column
+pub same-totals : {s t : Total} → s .length ≡ t .length → s .log ≡ t .log → s .list ≡ t .list → s .chunk ≡ t .chunk → s .free ≡ t .free → s ≡ t
+same-totals {s} {t} a b c d e =
+    ap (λ (x : ℕ). record { length = x; log = s .log; list = s .list; chunk = s .chunk; free = s .free }) a
+    ∙ ap (λ (x : ℕ). record { length = t .length; log = x; list = s .list; chunk = s .chunk; free = s .free }) b
+    ∙ ap (λ (x : ℕ). record { length = t .length; log = t .log; list = x; chunk = s .chunk; free = s .free }) c
+    ∙ ap (λ (x : ℕ). record { length = t .length; log = t .log; list = t .list; chunk = x; free = s .free }) d
+    ∙ ap (λ (x : ℕ). record { length = t .length; log = t .log; list = t .list; chunk = t .chunk; free = x }) e
+
 module _ (g : Geometry) (ks : List ℕ) (once : Order (g .agcount) ks) where
   -- FREE AND FREE-LIST BLOCKS COME TO THE DISK'S FREE COUNT
   pub count-in-order : freeBy g ks ≡ freeCount g
@@ -33,9 +42,12 @@ module _ (g : Geometry) (ks : List ℕ) (once : Order (g .agcount) ks) where
   pub total-in-order : totalBy g ks ≡ totalOf g
   unfolding totalOf
   total-in-order =
-      rw
-      (in-order (λ k. rowOf g k .length) (g .agcount) ks once, in-order (λ k. rowOf g k .log) (g .agcount) ks once, in-order (λ k. rowOf g k .list) (g .agcount) ks once, in-order (λ k. rowOf g k .chunk) (g .agcount) ks once, in-order (λ k. rowOf g k .free) (g .agcount) ks once)
-      refl
+      same-totals
+      (in-order (λ k. rowOf g k .length) (g .agcount) ks once)
+      (in-order (λ k. rowOf g k .log) (g .agcount) ks once)
+      (in-order (λ k. rowOf g k .list) (g .agcount) ks once)
+      (in-order (λ k. rowOf g k .chunk) (g .agcount) ks once)
+      (in-order (λ k. rowOf g k .free) (g .agcount) ks once)
 
 -- ---- their bounds
 

@@ -13,18 +13,18 @@ use Rattle.table_lines.specs.Lines.{headerBytes, refusedBytes}
 use Rattle.geometry.specs.declared.Geometry.{Geometry}
 use Rattle.plan_totals.specs.declared.Row.{Row}
 use Rattle.plan_totals.specs.declared.Total.{Total}
-use Rattle.plan_totals.specs.Totals.{plansNumber, rowOf, totalOf}
+use Rattle.plan_totals.specs.Totals.{plansNumber, noRow, rowOf, totalOf}
 use Rattle.plan_summary.specs.declared.Summary.{Summary}
 use Rattle.plan_summary.specs.Summaries.{summaryOf, noSummary, rowIn}
 use Rattle.plan_summary.proofs.Rows.{rows-agree}
 use Rattle.plan_orders.specs.Orders.{falling, addedBy, totalBy}
 use Rattle.plan_orders.proofs.Sums.{falling-more, none-added}
 use Rattle.plan_orders.proofs.Orders.{falling-whole}
-use Rattle.plan_orders.proofs.Groups.{adds-falling}
+use Rattle.plan_orders.proofs.Groups.{same-totals, adds-falling}
 use Rattle.run.specs.Runs.{accepted}
 use Rattle.run.proofs.Accepted.{plans-zero}
 use Rattle.plan_table.specs.declared.Table.{Table}
-use Rattle.plan_table.specs.Printed.{rowLine, totalLine, rowLines, tableBytes, tableOr, tableAnswer, noDiskBytes, planBytes}
+use Rattle.plan_table.specs.Printed.{rowLine, totalLine, rowLines, tableBytes, tableOr, tableAnswer, noDiskBytes, planBytes, rowAnswer}
 use Rattle.plan_table.specs.Filling.{noSums, refusal, whole, begunTable, noDisk, begun, lineOf, withRow, sumsAfter, afterLine, afterLines, linesOf, joined, restOf}
 use Rattle.plan_table.proofs.Parts.{line-more}
 
@@ -98,9 +98,12 @@ module _ (g : Geometry) where
     unfolding withRow
     row-added j h =
         let t = adds-falling g l e .sums-fit (suc j) in
-        rw
-        (column-more (λ k. rowOf g k .length) j h (t .length), column-more (λ k. rowOf g k .log) j h (t .log), column-more (λ k. rowOf g k .list) j h (t .list), column-more (λ k. rowOf g k .chunk) j h (t .chunk), column-more (λ k. rowOf g k .free) j h (t .free))
-        refl
+        same-totals
+        (column-more (λ k. rowOf g k .length) j h (t .length))
+        (column-more (λ k. rowOf g k .log) j h (t .log))
+        (column-more (λ k. rowOf g k .list) j h (t .list))
+        (column-more (λ k. rowOf g k .chunk) j h (t .chunk))
+        (column-more (λ k. rowOf g k .free) j h (t .free))
 
     next-state : (n : ℕ) → suc n ≤ g .agcount → afterLine (rowsLeft (suc n) (fallen (g .agcount - suc n))) ≡ rowsLeft n (fallen (g .agcount - n))
     next-state n h =
@@ -112,18 +115,21 @@ module _ (g : Geometry) where
         ∙ ap (λ (x : Row). rowsLeft n (withRow (fallen j) x)) r
         ∙ ap (rowsLeft n) (row-added j (omega arith) ∙ ap fallen z)
 
-    none-fallen : noSums ≡ fallen 0
+    none-fallen : fallen 0 ≡ noSums
     none-fallen =
         let ks = falling (g .agcount) in
-        rw
-        (none-added (λ k. rowOf g k .length) ks, none-added (λ k. rowOf g k .log) ks, none-added (λ k. rowOf g k .list) ks, none-added (λ k. rowOf g k .chunk) ks, none-added (λ k. rowOf g k .free) ks)
-        refl
+        same-totals
+        (none-added (λ k. rowOf g k .length) ks)
+        (none-added (λ k. rowOf g k .log) ks)
+        (none-added (λ k. rowOf g k .list) ks)
+        (none-added (λ k. rowOf g k .chunk) ks)
+        (none-added (λ k. rowOf g k .free) ks)
 
     -- ROWS ARE ADDED FALLING: behind the header and j rows the sums are those over the last j groups, the last one first
     pub added-falling : (j : ℕ) → j ≤ g .agcount → afterLines (suc j) (whole g) ≡ rowsLeft (g .agcount - j) (fallen j)
     added-falling zero h =
         let z : g .agcount ≡ g .agcount - 0 = omega arith in
-        line-more 0 (whole g) ∙ none-yet ∙ header-after ∙ ap (rowsLeft (g .agcount)) none-fallen ∙ ap (λ (n : ℕ). rowsLeft n (fallen 0)) z
+        line-more 0 (whole g) ∙ none-yet ∙ header-after ∙ ap (rowsLeft (g .agcount)) (sym none-fallen) ∙ ap (λ (n : ℕ). rowsLeft n (fallen 0)) z
       where
         none-yet : afterLine (afterLines 0 (whole g)) ≡ afterLine (whole g)
         none-yet = ap (λ (t : Table). afterLine t) (no-lines (whole g))
@@ -180,7 +186,7 @@ module _ (g : Geometry) where
     table-rest =
         let z : g .agcount + 2 ≡ suc (suc (g .agcount)) = omega arith in
         let d : g .agcount - g .agcount ≡ 0 = omega arith in
-        let first : afterLine (whole g) ≡ rowsLeft (g .agcount) (fallen (g .agcount - g .agcount)) = header-after ∙ ap (rowsLeft (g .agcount)) (none-fallen ∙ ap fallen (sym d)) in
+        let first : afterLine (whole g) ≡ rowsLeft (g .agcount) (fallen (g .agcount - g .agcount)) = header-after ∙ ap (rowsLeft (g .agcount)) (sym none-fallen ∙ ap fallen (sym d)) in
         let rest = joined (linesOf (suc (g .agcount)) (rowsLeft (g .agcount) (fallen (g .agcount - g .agcount)))) in
         ap (λ (n : ℕ). joined (linesOf n (whole g))) z
         ∙ lines-more (suc (g .agcount)) (whole g)
@@ -199,6 +205,11 @@ module _ (g : Geometry) where
   pub begun-whole : length (g .label) ≡ 12 → plansNumber g ≡ 0 → (whole g ≡ begunTable g) × (restOf (whole g) ≡ tableAnswer g)
   unfolding begunTable tableAnswer
   begun-whole l e = (rw (eq-eqb (plansNumber g) 0 e), table-rest g l e ∙ rw (eq-eqb (plansNumber g) 0 e))
+
+-- a row where the geometry or a plan is refused
+pub row-refused : (g : Geometry) (k : ℕ) {m : ℕ} → m ≡ plansNumber g → (m ≡ 0 → ⊥) → noRow m ≡ rowAnswer g k
+unfolding rowAnswer
+row-refused g k {m} e h = rw (← e, ne-eqb m 0 h) refl
 
 -- ---- what an input answers
 

@@ -3,6 +3,7 @@ ghost use mathlib.Core.Path.{_≡_};
 ghost use Rattle.plan_table.specs.Filling.{noSums, withRow, sumsAfter};
 use crate::Table;
 use crate::rows::row_in;
+use arith::numbers::minus;
 use plan_totals::Row;
 use plan_totals::Total;
 
@@ -49,6 +50,6 @@ pub(crate) fn sums_after(t: Table) -> Total
         return sums;
     }
     let put = groups - (left - 1);
-    let row = row_in(s, groups - 1 - put);
+    let row = row_in(s, minus(minus(groups, 1), put));
     with_row(sums, row)
 }

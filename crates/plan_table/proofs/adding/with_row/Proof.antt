@@ -1,13 +1,14 @@
 -- `plan_table::adding::with_row` meets its contract.
 -- Assumes nothing.
 use Rattle.plan_table.specs.Filling.{withRow}
+use mathlib.Core.Path.{refl}
 use borrow.Author.Needs.{needs}
 use Rattle.plan_table.proofs.adding.with_row.Statement.{statement}
 use Rattle.plan_table.proofs.adding.with_row.Tie as tie
 
 returns : tie.Need-returns
 unfolding withRow
-returns c = rw (c .wrapping-add-u645 .ensures, c .before .before .wrapping-add-u644 .ensures, c .before .before .before .before .wrapping-add-u643 .ensures, c .before .before .before .before .before .before .wrapping-add-u642 .ensures, c .before .before .before .before .before .before .before .before .wrapping-add-u64 .ensures)
+returns c = rw (c .wrapping-add-u645 .ensures, c .before .before .wrapping-add-u644 .ensures, c .before .before .before .before .wrapping-add-u643 .ensures, c .before .before .before .before .before .before .wrapping-add-u642 .ensures, c .before .before .before .before .before .before .before .before .wrapping-add-u64 .ensures) refl
 
 pub with-row-spec : {M : Type 1} → statement M
 with-row-spec =
