@@ -1,9 +1,9 @@
 -- The groups of a geometry with accepted plans, added in any order.
 -- Assumes nothing.
-use mathlib.Core.Path.{_≡_, refl, sym, ap, _∙_}
+use mathlib.Core.Path.{_≡_, ap, _∙_}
 use mathlib.Core.Bool.{true}
 use mathlib.Core.List.{List}
-use Prim.Native.Nat.{ℕ, _+_, _*_, _-_, _^_, _≤_, _<_}
+use Prim.Native.Nat.{ℕ, _-_, _^_, _<_}
 use native.Mathlib.Omega.{arith}
 use lib.ListN.{length, take}
 use Rattle.geometry.specs.declared.Geometry.{Geometry}
@@ -14,7 +14,7 @@ use Rattle.plan_site.specs.Sites.{siteOf}
 use Rattle.plan_site.proofs.Sites.{site-sound}
 use Rattle.plan.specs.Plan.{planned}
 use Rattle.plan_totals.specs.declared.Total.{Total}
-use Rattle.plan_totals.specs.Totals.{sumTo, plansNumber, freeOfPlan, freeCount, rowOf, totalOf, constCount, closedTotal}
+use Rattle.plan_totals.specs.Totals.{plansNumber, freeOfPlan, freeCount, rowOf, totalOf, constCount, closedTotal}
 use Rattle.plan_totals.proofs.Whole.{all-planned, count-const, total-closed}
 use Rattle.plan_summary.proofs.Laws.{few-groups, each-fits}
 use Rattle.plan_orders.specs.Orders.{rising, falling, evenThenOdd, Order, addedBy, freeBy, totalBy, Fits, AddsUp}

@@ -1,21 +1,18 @@
 -- What a table has left as it begins: all that is to be printed. Its rows are put rising and added falling.
 -- Assumes nothing.
 use mathlib.Core.Path.{_≡_, refl, sym, ap, _∙_}
-use mathlib.Core.Bool.{Bool, true, false}
 use mathlib.Core.List.{List, [], _∷_, _++_, append-nil, append-assoc}
 use Prim.Native.Nat.{ℕ, zero, suc, _+_, _-_, _%_, _^_, _≤_, _<_}
 use native.Mathlib.Omega.{arith}
 use borrow.Author.Tests.{le-leb, lt-leb, eq-eqb, ne-eqb}
-use lib.Dec.{leb, eqb}
 use lib.ListN.{length, take}
-use Rattle.seqs.specs.Lists.{choose, turns}
+use Rattle.seqs.specs.Lists.{turns}
 use Rattle.table_lines.specs.Lines.{headerBytes, refusedBytes}
 use Rattle.geometry.specs.declared.Geometry.{Geometry}
 use Rattle.plan_totals.specs.declared.Row.{Row}
 use Rattle.plan_totals.specs.declared.Total.{Total}
 use Rattle.plan_totals.specs.Totals.{plansNumber, noRow, rowOf, totalOf}
-use Rattle.plan_summary.specs.declared.Summary.{Summary}
-use Rattle.plan_summary.specs.Summaries.{summaryOf, noSummary, rowIn}
+use Rattle.plan_summary.specs.Summaries.{summaryOf, rowIn}
 use Rattle.plan_summary.proofs.Rows.{rows-agree}
 use Rattle.plan_orders.specs.Orders.{falling, addedBy, totalBy}
 use Rattle.plan_orders.proofs.Sums.{falling-more, none-added}

@@ -1,9 +1,9 @@
 -- No line of an accepted geometry's table is longer than 147 bytes, so that as many buffers of so many bytes as lines hold the table.
 -- Assumes nothing.
-use mathlib.Core.Path.{_≡_, refl, sym, ap, _∙_}
+use mathlib.Core.Path.{_≡_, refl, _∙_}
 use mathlib.Core.Bool.{Bool, true, false}
-use mathlib.Core.List.{List, [], _∷_, _++_}
-use Prim.Native.Nat.{ℕ, zero, suc, _+_, _-_, _%_, _^_, _≤_, _<_}
+use mathlib.Core.List.{List, [], _∷_}
+use Prim.Native.Nat.{ℕ, zero, suc, _+_, _-_, _^_, _≤_, _<_}
 use native.Mathlib.Omega.{arith}
 use borrow.Author.Tests.{leb-true, leb-false, ne-eqb}
 use lib.Dec.{ltb, leb, eqb, lit<}
@@ -11,7 +11,6 @@ use lib.ListN.{length, length-append}
 use Rattle.seqs.specs.Lists.{choose, turns}
 use Rattle.seqs.proofs.Laws.{choose-elim}
 use Rattle.endian.specs.Bytes.{below}
-use Rattle.table_lines.specs.declared.Sums.{Sums}
 use Rattle.table_lines.specs.Lines.{line, headerBytes, totalBytes, refusedBytes}
 use Rattle.table_lines.proofs.Digits.{length-64}
 use Rattle.table_lines.proofs.Stores.{length-line}
@@ -21,10 +20,10 @@ use Rattle.geometry_answers.specs.Named.{isAnswer}
 use Rattle.plan_site.specs.declared.Site.{Site}
 use Rattle.plan_site.specs.Sites.{siteOf, Sound}
 use Rattle.plan_site.proofs.Sites.{site-sound}
-use Rattle.plan_closed.specs.Closed.{short, listAt, isFirst}
+use Rattle.plan_closed.specs.Closed.{short, isFirst}
 use Rattle.plan_totals.specs.declared.Row.{Row}
 use Rattle.plan_totals.specs.declared.Total.{Total}
-use Rattle.plan_totals.specs.Totals.{plansNumber, noRow, larger, beforeChunk, afterChunk, afterList, rowOf, closedRow}
+use Rattle.plan_totals.specs.Totals.{plansNumber, larger, beforeChunk, afterChunk, afterList, closedRow}
 use Rattle.plan_totals.proofs.Rows.{row-closed}
 use Rattle.plan_totals.proofs.Whole.{all-planned}
 use Rattle.plan_summary.specs.Summaries.{summaryOf, noSummary, rowIn}

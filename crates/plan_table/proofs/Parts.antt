@@ -3,14 +3,14 @@
 use mathlib.Core.Path.{_≡_, refl, sym, ap, _∙_}
 use mathlib.Core.Bool.{Bool, true, false}
 use mathlib.Core.List.{List, [], _∷_, _++_, append-nil, append-assoc}
-use Prim.Native.Nat.{ℕ, zero, suc, _+_, _-_, _≤_, _<_}
+use Prim.Native.Nat.{ℕ, zero, suc, _+_, _-_, _<_}
 use native.Mathlib.Omega.{arith}
 use borrow.Author.Tests.{lt-ltb, eqb-false}
 use lib.Dec.{ltb, leb, eqb}
 use lib.ListN.{length, drop, replicate}
 use Rattle.seqs.specs.Lists.{both, choose, turns}
 use Rattle.plan_table.specs.declared.Table.{Table}
-use Rattle.plan_table.specs.Filling.{lineOf, afterLine, afterLines, linesOf, joined, restOf, fitting, partLines, partOf, nextOf, filled, partsOf, afterParts, Reached, Printing}
+use Rattle.plan_table.specs.Filling.{afterLine, afterLines, linesOf, joined, restOf, fitting, partLines, partOf, nextOf, filled, partsOf, afterParts, Reached, Printing}
 
 -- ---- one part
 

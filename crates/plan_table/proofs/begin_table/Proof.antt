@@ -6,7 +6,6 @@ use Rattle.plan_table.specs.declared.Table.{Table}
 use Rattle.plan_totals.proofs.Whole.{all-planned}
 use Rattle.plan_summary.proofs.Laws.{its-number, its-summary, few-groups}
 use Rattle.plan_summary.specs.declared.Summarised.{Summarised}
-use Rattle.plan_summary.specs.declared.Summary.{Summary}
 use lib.ListN.{length}
 use native.Mathlib.Omega.{arith}
 use mathlib.Core.Path.{_≡_, sym, ap, _∙_}
