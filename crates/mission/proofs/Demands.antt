@@ -19,6 +19,7 @@ use Rattle.geometry_layout.proofs.Bounding.{answered-bounds}
 use Rattle.geometry_layout.proofs.Sizings.{step-old}
 use Rattle.plan_closed.proofs.Planning.{closed-plan, roomy-planned}
 use Rattle.plan_summary.proofs.Narrow.{narrow}
+use Rattle.plan_orders.proofs.Groups.{any-order}
 use Rattle.plan_uses.proofs.OneUse.{one-use, rmap-agrees}
 use Rattle.seqs.proofs.Laws.{choose-elim}
 use Rattle.request.specs.declared.Request.{Request}
@@ -99,6 +100,7 @@ demand2 =
             (λ on b. rmap-agrees g (label-size g a) (is-answer g a) k i q on b),
           );
       narrow = λ g a e k i. narrow g (label-size g a) e k i;
+      any-order = λ g a e ks o. any-order g (label-size g a) e ks o;
       sent-and-read = λ xs o e room buf p q. let s = sends-all xs o e .whole room buf p q in let w = input-whole xs o e in (s, ap readList (s ∙ sym (w .whole)) ∙ w .back);
       ordered-list = run-ordered;
       left-behind = run-left;

@@ -95,6 +95,9 @@ pub record Demand2 : Type 0 where
   -- Where all plans are accepted, every running number of a group is below 2^30: the sums and the longest over its free records, and the
   -- differences of which its row is made. So 32 bits hold them.
   pub narrow : (g : Geometry) → Answered g → plansNumber g ≡ 0 → (k : ℕ) → k < g .agcount → NarrowGroup g k
+  -- Added in any order in which each group is taken once, be it rising, falling, or first the even groups, free and free-list blocks come
+  -- to the disk's free count, and the rows to the table's last line; and no sum on the way passes 64 bits.
+  pub any-order : (g : Geometry) → Answered g → plansNumber g ≡ 0 → (ks : List ℕ) → Order (g .agcount) ks → AddsUp g ks
   -- The bytes that are sent for an accepted input, turn by turn through buffers that hold the longest chunk, are its list of written
   -- records, one after the other; and these bytes, read by themselves, are that list again.
   pub sent-and-read : (xs : List ℕ) → Octets xs → accepted xs .number ≡ 0

@@ -1,32 +1,34 @@
--- What a table has left as it begins: all that is to be printed.
+-- What a table has left as it begins: all that is to be printed. Its rows are put rising and added falling.
 -- Assumes nothing.
 use mathlib.Core.Path.{_≡_, refl, sym, ap, _∙_}
-use mathlib.Core.Bool.{Bool, true, false}
 use mathlib.Core.List.{List, [], _∷_, _++_, append-nil, append-assoc}
-use Prim.Native.Nat.{ℕ, zero, suc, _+_, _-_, _≤_, _<_}
+use Prim.Native.Nat.{ℕ, zero, suc, _+_, _-_, _%_, _^_, _≤_, _<_}
 use native.Mathlib.Omega.{arith}
 use borrow.Author.Tests.{le-leb, lt-leb, eq-eqb, ne-eqb}
-use lib.Dec.{leb, eqb}
-use lib.ListN.{length}
-use Rattle.seqs.specs.Lists.{choose}
+use lib.ListN.{length, take}
+use Rattle.seqs.specs.Lists.{turns}
 use Rattle.table_lines.specs.Lines.{headerBytes, refusedBytes}
 use Rattle.geometry.specs.declared.Geometry.{Geometry}
 use Rattle.plan_totals.specs.declared.Row.{Row}
 use Rattle.plan_totals.specs.declared.Total.{Total}
-use Rattle.plan_totals.specs.Totals.{plansNumber, rowOf, totalOf}
-use Rattle.plan_summary.specs.declared.Summary.{Summary}
-use Rattle.plan_summary.specs.Summaries.{summaryOf, noSummary, rowIn}
-use Rattle.plan_summary.proofs.Rows.{rows-agree, totals-agree}
+use Rattle.plan_totals.specs.Totals.{plansNumber, noRow, rowOf, totalOf}
+use Rattle.plan_summary.specs.Summaries.{summaryOf, rowIn}
+use Rattle.plan_summary.proofs.Rows.{rows-agree}
+use Rattle.plan_orders.specs.Orders.{falling, addedBy, totalBy}
+use Rattle.plan_orders.proofs.Sums.{falling-more, none-added}
+use Rattle.plan_orders.proofs.Orders.{falling-whole}
+use Rattle.plan_orders.proofs.Groups.{same-totals, adds-falling}
 use Rattle.run.specs.Runs.{accepted}
 use Rattle.run.proofs.Accepted.{plans-zero}
 use Rattle.plan_table.specs.declared.Table.{Table}
-use Rattle.plan_table.specs.Printed.{rowLine, totalLine, rowLines, tableBytes, tableOr, tableAnswer, noDiskBytes, planBytes}
-use Rattle.plan_table.specs.Filling.{refusal, begunTable, noDisk, begun, lineAt, linesOf, joined, restOf}
+use Rattle.plan_table.specs.Printed.{rowLine, totalLine, rowLines, tableBytes, tableOr, tableAnswer, noDiskBytes, planBytes, rowAnswer}
+use Rattle.plan_table.specs.Filling.{noSums, refusal, whole, begunTable, noDisk, begun, lineOf, withRow, sumsAfter, afterLine, afterLines, linesOf, joined, restOf}
+use Rattle.plan_table.proofs.Parts.{line-more}
 
 -- ---- a refusal
 
-refusal-line : (n : ℕ) → (n ≡ 0 → ⊥) → lineAt (refusal n) 1 ≡ refusedBytes n
-unfolding lineAt
+refusal-line : (n : ℕ) → (n ≡ 0 → ⊥) → lineOf (refusal n) ≡ refusedBytes n
+unfolding lineOf
 refusal-line n h = rw (ne-eqb n 0 h)
 
 pub refusal-rest : (n : ℕ) → (n ≡ 0 → ⊥) → restOf (refusal n) ≡ refusedBytes n
@@ -35,56 +37,135 @@ refusal-rest n h = rw (refusal-line n h) (append-nil (refusedBytes n))
 
 -- ---- a table
 
+no-lines : (t : Table) → afterLines 0 t ≡ t
+unfolding turns
+no-lines t = refl
+
 module _ (g : Geometry) where
-  abbrev pub whole : Table
-  whole = record { number = 0; left = g .agcount + 2; summary = summaryOf g }
+  -- n rows and the sums are left, of which this is added
+  abbrev pub rowsLeft : ℕ → Total → Table
+  rowsLeft n s = record { number = 0; left = suc n; summary = summaryOf g; sums = s }
 
   count-is : summaryOf g .agcount ≡ g .agcount
   unfolding summaryOf
   count-is = refl
 
-  header-line : lineAt whole (suc (suc (g .agcount))) ≡ headerBytes
-  unfolding lineAt
-  header-line =
-      rw
-      (count-is, lt-leb (suc (suc (g .agcount))) 1 (omega arith), lt-leb (suc (suc (g .agcount)) - 1) (g .agcount) (omega arith))
+  header-line : lineOf (whole g) ≡ headerBytes
+  unfolding lineOf
+  header-line = rw (count-is, lt-leb (g .agcount + 2) 1 (omega arith), lt-leb (g .agcount + 2 - 1) (g .agcount) (omega arith))
 
-  row-line : (n : ℕ) → suc n ≤ g .agcount → lineAt whole (suc (suc n)) ≡ rowLine (rowIn (summaryOf g) (g .agcount - suc n))
-  unfolding lineAt
-  row-line n h =
+  header-after : afterLine (whole g) ≡ rowsLeft (g .agcount) noSums
+  unfolding sumsAfter
+  header-after =
+      let e : g .agcount + 2 - 1 ≡ suc (g .agcount) = omega arith in
+      rw (count-is, lt-leb (g .agcount + 2) 1 (omega arith), lt-leb (g .agcount + 2 - 1) (g .agcount) (omega arith), e)
+
+  row-line : (n : ℕ) (s : Total) → suc n ≤ g .agcount → lineOf (rowsLeft (suc n) s) ≡ rowLine (rowIn (summaryOf g) (g .agcount - suc n))
+  unfolding lineOf
+  row-line n s h =
       let e : suc (suc n) - 1 ≡ suc n = omega arith in
       rw (count-is, lt-leb (suc (suc n)) 1 (omega arith), e, le-leb (suc n) (g .agcount) h)
 
-  last-line : lineAt whole 1 ≡ totalLine (summaryOf g .total)
-  unfolding lineAt
-  last-line = refl
+  row-after : (n : ℕ) (s : Total) → suc n ≤ g .agcount → afterLine (rowsLeft (suc n) s) ≡ rowsLeft n (withRow s (rowIn (summaryOf g) n))
+  unfolding sumsAfter
+  row-after n s h =
+      let e : suc (suc n) - 1 ≡ suc n = omega arith in
+      let k : g .agcount - 1 - (g .agcount - suc n) ≡ n = omega arith in
+      rw (count-is, lt-leb (suc (suc n)) 1 (omega arith), e, le-leb (suc n) (g .agcount) h, k)
 
-  last-rest : joined (linesOf whole 1) ≡ totalLine (summaryOf g .total)
+  last-line : (s : Total) → lineOf (rowsLeft 0 s) ≡ totalLine s
+  unfolding lineOf
+  last-line s = refl
+
+  last-rest : (s : Total) → joined (linesOf 1 (rowsLeft 0 s)) ≡ totalLine s
   unfolding linesOf joined
-  last-rest = ap (λ (x : List ℕ). x ++ []) last-line ∙ append-nil (totalLine (summaryOf g .total))
+  last-rest s = ap (λ (x : List ℕ). x ++ []) (last-line s) ∙ append-nil (totalLine s)
 
   module _ (l : length (g .label) ≡ 12) (e : plansNumber g ≡ 0) where
+    -- the sums over the first j groups, counted from the last
+    abbrev pub fallen : ℕ → Total
+    fallen j = totalBy g (take j (falling (g .agcount)))
+
+    -- one row more of a column, in 64 bits
+    column-more : (f : ℕ → ℕ) (j : ℕ) → j < g .agcount → addedBy f (take (suc j) (falling (g .agcount))) < 2 ^ 64
+        → (addedBy f (take j (falling (g .agcount))) + f (g .agcount - 1 - j)) % 2 ^ 64 ≡ addedBy f (take (suc j) (falling (g .agcount)))
+    column-more f j h m = let w = falling-more f j (g .agcount) h in omega arith
+
+    row-added : (j : ℕ) → j < g .agcount → withRow (fallen j) (rowOf g (g .agcount - 1 - j)) ≡ fallen (suc j)
+    unfolding withRow
+    row-added j h =
+        let t = adds-falling g l e .sums-fit (suc j) in
+        same-totals
+        (column-more (λ k. rowOf g k .length) j h (t .length))
+        (column-more (λ k. rowOf g k .log) j h (t .log))
+        (column-more (λ k. rowOf g k .list) j h (t .list))
+        (column-more (λ k. rowOf g k .chunk) j h (t .chunk))
+        (column-more (λ k. rowOf g k .free) j h (t .free))
+
+    next-state : (n : ℕ) → suc n ≤ g .agcount → afterLine (rowsLeft (suc n) (fallen (g .agcount - suc n))) ≡ rowsLeft n (fallen (g .agcount - n))
+    next-state n h =
+        let j = g .agcount - suc n in
+        let i : n ≡ g .agcount - 1 - j = omega arith in
+        let z : suc j ≡ g .agcount - n = omega arith in
+        let r = rows-agree g l e n ∙ ap (rowOf g) i in
+        row-after n (fallen j) h
+        ∙ ap (λ (x : Row). rowsLeft n (withRow (fallen j) x)) r
+        ∙ ap (rowsLeft n) (row-added j (omega arith) ∙ ap fallen z)
+
+    none-fallen : fallen 0 ≡ noSums
+    none-fallen =
+        let ks = falling (g .agcount) in
+        same-totals
+        (none-added (λ k. rowOf g k .length) ks)
+        (none-added (λ k. rowOf g k .log) ks)
+        (none-added (λ k. rowOf g k .list) ks)
+        (none-added (λ k. rowOf g k .chunk) ks)
+        (none-added (λ k. rowOf g k .free) ks)
+
+    -- ROWS ARE ADDED FALLING: behind the header and j rows the sums are those over the last j groups, the last one first
+    pub added-falling : (j : ℕ) → j ≤ g .agcount → afterLines (suc j) (whole g) ≡ rowsLeft (g .agcount - j) (fallen j)
+    added-falling zero h =
+        let z : g .agcount ≡ g .agcount - 0 = omega arith in
+        line-more 0 (whole g) ∙ none-yet ∙ header-after ∙ ap (rowsLeft (g .agcount)) (sym none-fallen) ∙ ap (λ (n : ℕ). rowsLeft n (fallen 0)) z
+      where
+        none-yet : afterLine (afterLines 0 (whole g)) ≡ afterLine (whole g)
+        none-yet = ap (λ (t : Table). afterLine t) (no-lines (whole g))
+    added-falling (suc j) h =
+        let n = g .agcount - suc j in
+        let a : g .agcount - j ≡ suc n = omega arith in
+        let b : j ≡ g .agcount - suc n = omega arith in
+        let c : g .agcount - n ≡ suc j = omega arith in
+        line-more (suc j) (whole g)
+        ∙ ap (λ (t : Table). afterLine t) (added-falling j (omega arith) ∙ ap (λ (x : ℕ). rowsLeft x (fallen j)) a ∙ ap (λ (x : ℕ). rowsLeft (suc n) (fallen x)) b)
+        ∙ next-state n (omega arith)
+        ∙ ap (λ (x : ℕ). rowsLeft n (fallen x)) c
+
+    all-fallen : fallen (g .agcount) ≡ totalOf g
+    all-fallen = ap (totalBy g) (falling-whole (g .agcount)) ∙ adds-falling g l e .last-line
+
     rows-more : (k : ℕ) → rowLines g k ++ rowLine (rowOf g k) ≡ rowLines g (suc k)
     unfolding rowLines
     rows-more k = refl
 
-    lines-more : (n : ℕ) → joined (linesOf whole (suc n)) ≡ lineAt whole (suc n) ++ joined (linesOf whole n)
+    lines-more : (n : ℕ) (t : Table) → joined (linesOf (suc n) t) ≡ lineOf t ++ joined (linesOf n (afterLine t))
     unfolding linesOf joined
-    lines-more n = refl
+    lines-more n t = refl
 
     -- the rows before the last n, and the last n and the sums
     rows-and-rest : (n : ℕ) → n ≤ g .agcount
-        → rowLines g (g .agcount - n) ++ joined (linesOf whole (suc n)) ≡ rowLines g (g .agcount) ++ totalLine (totalOf g)
+        → rowLines g (g .agcount - n) ++ joined (linesOf (suc n) (rowsLeft n (fallen (g .agcount - n)))) ≡ rowLines g (g .agcount) ++ totalLine (totalOf g)
     rows-and-rest zero h =
         let z : g .agcount - 0 ≡ g .agcount = omega arith in
-        ap (λ (x : ℕ). rowLines g x ++ joined (linesOf whole 1)) z
-        ∙ ap (λ (x : List ℕ). rowLines g (g .agcount) ++ x) (last-rest ∙ ap totalLine (totals-agree g l e))
+        ap (λ (x : ℕ). rowLines g x ++ joined (linesOf 1 (rowsLeft 0 (fallen x)))) z
+        ∙ ap (λ (x : List ℕ). rowLines g (g .agcount) ++ x) (last-rest (fallen (g .agcount)) ∙ ap totalLine all-fallen)
     rows-and-rest (suc n) h =
         let k = g .agcount - suc n in
+        let t = rowsLeft (suc n) (fallen k) in
         let z : suc k ≡ g .agcount - n = omega arith in
-        let r : lineAt whole (suc (suc n)) ≡ rowLine (rowOf g k) = row-line n h ∙ ap rowLine (rows-agree g l e k) in
-        let rest = joined (linesOf whole (suc n)) in
-        ap (λ (x : List ℕ). rowLines g k ++ x) (lines-more (suc n) ∙ ap (λ (x : List ℕ). x ++ rest) r)
+        let r : lineOf t ≡ rowLine (rowOf g k) = row-line n (fallen k) h ∙ ap rowLine (rows-agree g l e k) in
+        let rest = joined (linesOf (suc n) (rowsLeft n (fallen (g .agcount - n)))) in
+        ap (λ (x : List ℕ). rowLines g k ++ x)
+        (lines-more (suc n) t ∙ ap (λ (x : Table). lineOf t ++ joined (linesOf (suc n) x)) (next-state n h) ∙ ap (λ (x : List ℕ). x ++ rest) r)
         ∙ sym (append-assoc (rowLines g k) (rowLine (rowOf g k)) rest)
         ∙ ap (λ (x : List ℕ). x ++ rest) (rows-more k ∙ ap (rowLines g) z)
         ∙ rows-and-rest n (omega arith)
@@ -98,14 +179,17 @@ module _ (g : Geometry) where
     table-is = refl
 
     -- ALL LINES OF A TABLE ARE THE TABLE
-    pub table-rest : restOf whole ≡ tableBytes g
+    pub table-rest : restOf (whole g) ≡ tableBytes g
     table-rest =
         let z : g .agcount + 2 ≡ suc (suc (g .agcount)) = omega arith in
-        let rest = joined (linesOf whole (suc (g .agcount))) in
-        ap (λ (n : ℕ). joined (linesOf whole n)) z
-        ∙ lines-more (suc (g .agcount))
+        let d : g .agcount - g .agcount ≡ 0 = omega arith in
+        let first : afterLine (whole g) ≡ rowsLeft (g .agcount) (fallen (g .agcount - g .agcount)) = header-after ∙ ap (rowsLeft (g .agcount)) (sym none-fallen ∙ ap fallen (sym d)) in
+        let rest = joined (linesOf (suc (g .agcount)) (rowsLeft (g .agcount) (fallen (g .agcount - g .agcount)))) in
+        ap (λ (n : ℕ). joined (linesOf n (whole g))) z
+        ∙ lines-more (suc (g .agcount)) (whole g)
+        ∙ ap (λ (x : Table). lineOf (whole g) ++ joined (linesOf (suc (g .agcount)) x)) first
         ∙ ap (λ (x : List ℕ). x ++ rest) header-line
-        ∙ ap (λ (x : List ℕ). headerBytes ++ x) (ap (λ (x : List ℕ). x ++ rest) (no-rows (omega arith)) ∙ rows-and-rest (g .agcount) (omega arith))
+        ∙ ap (λ (x : List ℕ). headerBytes ++ x) (ap (λ (x : List ℕ). x ++ rest) (no-rows d) ∙ rows-and-rest (g .agcount) (omega arith))
         ∙ table-is
 
 -- ---- what a beginning answers
@@ -119,11 +203,16 @@ module _ (g : Geometry) where
   unfolding begunTable tableAnswer
   begun-whole l e = (rw (eq-eqb (plansNumber g) 0 e), table-rest g l e ∙ rw (eq-eqb (plansNumber g) 0 e))
 
+-- a row where the geometry or a plan is refused
+pub row-refused : (g : Geometry) (k : ℕ) {m : ℕ} → m ≡ plansNumber g → (m ≡ 0 → ⊥) → noRow m ≡ rowAnswer g k
+unfolding rowAnswer
+row-refused g k {m} e h = rw (← e, ne-eqb m 0 h) refl
+
 -- ---- what an input answers
 
 pub no-disk-rest : restOf noDisk ≡ noDiskBytes
-unfolding lineAt linesOf joined noDiskBytes
-no-disk-rest = ap (λ (x : List ℕ). headerBytes ++ x) (append-nil (totalLine (noSummary .total)))
+unfolding lineOf sumsAfter linesOf joined noDiskBytes
+no-disk-rest = ap (λ (x : List ℕ). headerBytes ++ x) (append-nil (totalLine noSums))
 
 pub input-empty : (xs : List ℕ) → length xs ≡ 0 → (noDisk ≡ begun xs) × (noDiskBytes ≡ planBytes xs)
 unfolding begun planBytes

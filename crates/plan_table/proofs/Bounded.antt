@@ -1,41 +1,39 @@
 -- No line of an accepted geometry's table is longer than 147 bytes, so that as many buffers of so many bytes as lines hold the table.
 -- Assumes nothing.
-use mathlib.Core.Path.{_≡_, refl, sym, ap, _∙_}
+use mathlib.Core.Path.{_≡_, refl, _∙_}
 use mathlib.Core.Bool.{Bool, true, false}
-use mathlib.Core.List.{List, [], _∷_, _++_}
-use Prim.Native.Nat.{ℕ, _+_, _*_, _-_, _^_, _≤_, _<_}
+use mathlib.Core.List.{List, [], _∷_}
+use Prim.Native.Nat.{ℕ, zero, suc, _+_, _-_, _^_, _≤_, _<_}
 use native.Mathlib.Omega.{arith}
 use borrow.Author.Tests.{leb-true, leb-false, ne-eqb}
-use lib.Dec.{ltb, leb, lit<}
+use lib.Dec.{ltb, leb, eqb, lit<}
 use lib.ListN.{length, length-append}
-use Rattle.seqs.specs.Lists.{choose}
+use Rattle.seqs.specs.Lists.{choose, turns}
 use Rattle.seqs.proofs.Laws.{choose-elim}
 use Rattle.endian.specs.Bytes.{below}
-use Rattle.table_lines.specs.declared.Sums.{Sums}
 use Rattle.table_lines.specs.Lines.{line, headerBytes, totalBytes, refusedBytes}
 use Rattle.table_lines.proofs.Digits.{length-64}
 use Rattle.table_lines.proofs.Stores.{length-line}
 use Rattle.table_lines.proofs.Longest.{row-most}
 use Rattle.geometry.specs.declared.Geometry.{Geometry}
 use Rattle.geometry_answers.specs.Named.{isAnswer}
-use Rattle.geometry_layout.proofs.Bounding.{answer-bounds}
-use Rattle.geometry_layout.proofs.Inside.{few-blocks}
 use Rattle.plan_site.specs.declared.Site.{Site}
 use Rattle.plan_site.specs.Sites.{siteOf, Sound}
 use Rattle.plan_site.proofs.Sites.{site-sound}
-use Rattle.plan_closed.specs.Closed.{short, listAt, isFirst}
+use Rattle.plan_closed.specs.Closed.{short, isFirst}
 use Rattle.plan_totals.specs.declared.Row.{Row}
 use Rattle.plan_totals.specs.declared.Total.{Total}
-use Rattle.plan_totals.specs.Totals.{plansNumber, noRow, larger, beforeChunk, afterChunk, afterList, rowOf, closedRow, constCount, closedTotal}
+use Rattle.plan_totals.specs.Totals.{plansNumber, larger, beforeChunk, afterChunk, afterList, closedRow}
 use Rattle.plan_totals.proofs.Rows.{row-closed}
 use Rattle.plan_totals.proofs.Whole.{all-planned}
-use Rattle.plan_summary.specs.Summaries.{summaryOf, rowIn}
-use Rattle.plan_summary.proofs.Laws.{few-groups, each-fits}
+use Rattle.plan_summary.specs.Summaries.{summaryOf, noSummary, rowIn}
+use Rattle.plan_summary.proofs.Laws.{few-groups}
 use Rattle.plan_summary.proofs.Rows.{rows-agree}
+use Rattle.plan_orders.specs.Orders.{Fits}
 use Rattle.plan_table.specs.declared.Table.{Table}
 use Rattle.plan_table.specs.Printed.{rowLine, totalLine, tableBytes}
-use Rattle.plan_table.specs.Filling.{refusal, Short, LongEnough, lineAt, partsOf}
-use Rattle.plan_table.proofs.Begun.{refusal-rest, whole, table-rest}
+use Rattle.plan_table.specs.Filling.{noSums, refusal, whole, withRow, sumsAfter, afterLines, Short, LongEnough, lineOf, partsOf}
+use Rattle.plan_table.proofs.Begun.{refusal-rest, table-rest}
 use Rattle.plan_table.proofs.Short.{parts-whole}
 
 choose-lt : (t : Bool) (a b m : ℕ) → a < m → b < m → choose t a b < m
@@ -52,13 +50,13 @@ no-numbers : length (line []) ≡ 0
 unfolding line
 no-numbers = refl
 
-total-short : (t : Total) → t .length < 2 ^ 64 → t .log < 2 ^ 64 → t .list < 2 ^ 64 → t .chunk < 2 ^ 64 → t .free < 2 ^ 64 → length (totalLine t) ≤ 147
+total-short : (t : Total) → Fits t → length (totalLine t) ≤ 147
 unfolding totalBytes
-total-short t a b c d e =
+total-short t h =
     let ns = t .length ∷ t .log ∷ t .list ∷ t .chunk ∷ t .free ∷ [] in
     let w = length-append (116 ∷ 111 ∷ 116 ∷ 97 ∷ 108 ∷ 32 ∷ []) (line ns) in
     omega
-    (arith, w, no-numbers, length-line (t .length) (t .log ∷ t .list ∷ t .chunk ∷ t .free ∷ []), length-line (t .log) (t .list ∷ t .chunk ∷ t .free ∷ []), length-line (t .list) (t .chunk ∷ t .free ∷ []), length-line (t .chunk) (t .free ∷ []), length-line (t .free) [], length-64 (t .length) a, length-64 (t .log) b, length-64 (t .list) c, length-64 (t .chunk) d, length-64 (t .free) e)
+    (arith, w, no-numbers, length-line (t .length) (t .log ∷ t .list ∷ t .chunk ∷ t .free ∷ []), length-line (t .log) (t .list ∷ t .chunk ∷ t .free ∷ []), length-line (t .list) (t .chunk ∷ t .free ∷ []), length-line (t .chunk) (t .free ∷ []), length-line (t .free) [], length-64 (t .length) (h .length), length-64 (t .log) (h .log), length-64 (t .list) (h .list), length-64 (t .chunk) (h .chunk), length-64 (t .free) (h .free))
 
 -- ---- a refusal
 
@@ -68,9 +66,16 @@ refused-short n b =
     let w = length-append (114 ∷ 101 ∷ 102 ∷ 117 ∷ 115 ∷ 101 ∷ 100 ∷ 32 ∷ []) (line (n ∷ [])) in
     omega (arith, w, no-numbers, length-line n [], length-64 n b)
 
+-- every line of a state with this number
+refusals-short : (n : ℕ) → (n ≡ 0 → ⊥) → n < 2 ^ 64 → (k left : ℕ) (t : Total)
+    → length (lineOf (afterLines k (record { number = n; left = left; summary = noSummary; sums = t }))) ≤ 147
+unfolding lineOf turns
+refusals-short n h b zero left t = rw (ne-eqb n 0 h) (refused-short n b)
+refusals-short n h b (suc k) left t =
+    refusals-short n h b k (left - 1) (sumsAfter (record { number = n; left = left; summary = noSummary; sums = t }))
+
 refusal-short : (n : ℕ) → (n ≡ 0 → ⊥) → n < 2 ^ 64 → Short (refusal n)
-unfolding lineAt
-refusal-short n h b k = rw (ne-eqb n 0 h) (refused-short n b)
+refusal-short n h b k = refusals-short n h b k 1 noSums
 
 -- A REFUSAL IS ONE PART: its line, in a buffer of 147 bytes or more
 pub refused-whole : (n : ℕ) → (n ≡ 0 → ⊥) → n < 2 ^ 64 → (m : ℕ) → 147 ≤ m → partsOf (refusal n) (m ∷ []) ≡ refusedBytes n
@@ -128,6 +133,23 @@ module _ (s : Site) (ok : Sound s) (few : s .agno < 2 ^ 64) where
         ),
       )
 
+-- ---- sums in 64 bits
+
+row-fits : (t : Total) (r : Row) → Fits (withRow t r)
+unfolding withRow
+row-fits t r = record { length = omega arith; log = omega arith; list = omega arith; chunk = omega arith; free = omega arith }
+
+still-fits : (s : Table) → Fits (s .sums) → Fits (sumsAfter s)
+unfolding sumsAfter
+still-fits s h =
+    choose-elim Fits (eqb (s .number) 0) _ _
+    (λ a. choose-elim Fits (leb (s .left) 1) _ _ (λ b. h)
+    (λ b. choose-elim Fits (leb (s .left - 1) (s .summary .agcount)) _ _ (λ c. row-fits (s .sums) _) (λ c. h)))
+    (λ a. h)
+
+none-fits : Fits noSums
+none-fits = record { length = lit< tt; log = lit< tt; list = lit< tt; chunk = lit< tt; free = lit< tt }
+
 -- ---- a table
 
 module _ (g : Geometry) (l : length (g .label) ≡ 12) (e : plansNumber g ≡ 0) where
@@ -148,28 +170,25 @@ module _ (g : Geometry) (l : length (g .label) ≡ 12) (e : plansNumber g ≡ 0)
       (record { group = closedRow (siteOf g k) .group; length = closedRow (siteOf g k) .length; log = closedRow (siteOf g k) .log; list = closedRow (siteOf g k) .list; chunk = closedRow (siteOf g k) .chunk; free = closedRow (siteOf g k) .free; longest = closedRow (siteOf g k) .longest })
       (closed-at (siteOf g k) (site-sound g k l here) (omega arith) (short (siteOf g k)) refl))
 
-  blocks-fit : g .dblocks < 2 ^ 64
-  blocks-fit = let w = few-blocks g (answer-bounds g l here) in omega arith
+  abbrev state : ℕ → Total → Table
+  state left t = record { number = 0; left = left; summary = summaryOf g; sums = t }
 
-  sums-short : length (totalLine (summaryOf g .total)) ≤ 147
-  unfolding summaryOf closedTotal constCount siteOf
-  sums-short =
-      let s = site-sound g 0 l here in
-      let d = blocks-fit in
-      let a = s .log-most in
-      let b = s .chunk-ends in
-      let n = s .need-most in
-      let c = each-fits (g .agcount) (siteOf g 0 .need) (few-groups g l here) (omega arith) in
-      total-short (summaryOf g .total) d (omega arith) c (omega arith) (omega arith)
-
-  short-whole : Short (whole g)
-  unfolding lineAt summaryOf
-  short-whole n =
-      choose-elim (λ (x : List ℕ). length x ≤ 147) (leb n 1) (totalLine (summaryOf g .total)) _ (λ a. sums-short)
+  line-short : (n : ℕ) (t : Total) → Fits t → length (lineOf (state n t)) ≤ 147
+  unfolding lineOf summaryOf
+  line-short n t h =
+      choose-elim (λ (x : List ℕ). length x ≤ 147) (leb n 1) (totalLine t) _ (λ a. total-short t h)
       (λ a.
       choose-elim (λ (x : List ℕ). length x ≤ 147) (leb (n - 1) (g .agcount)) (rowLine (rowIn (summaryOf g) (g .agcount - (n - 1)))) headerBytes
       (λ b. row-short (g .agcount - (n - 1)) (let u = leb-false n 1 a in let v = leb-true (n - 1) (g .agcount) b in omega arith))
       (λ b. header-short))
+
+  lines-short : (k n : ℕ) (t : Total) → Fits t → length (lineOf (afterLines k (state n t))) ≤ 147
+  unfolding turns
+  lines-short zero n t h = line-short n t h
+  lines-short (suc k) n t h = lines-short k (n - 1) (sumsAfter (state n t)) (still-fits (state n t) h)
+
+  short-whole : Short (whole g)
+  short-whole k = lines-short k (g .agcount + 2) noSums none-fits
 
   -- THE PARTS OF A TABLE ARE THE TABLE: in buffers of 147 bytes and more, as many as it has lines or more
   pub table-whole : (ns : List ℕ) → LongEnough ns → g .agcount + 2 ≤ length ns → partsOf (whole g) ns ≡ tableBytes g

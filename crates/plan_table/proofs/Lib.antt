@@ -1,4 +1,5 @@
 pub mod Steps
+pub mod Summed
 pub mod Begun
 pub mod Parts
 pub mod Short

@@ -3,14 +3,14 @@
 use mathlib.Core.Path.{_≡_, refl, sym, ap, _∙_}
 use mathlib.Core.Bool.{Bool, true, false}
 use mathlib.Core.List.{List, [], _∷_, _++_, append-nil, append-assoc}
-use Prim.Native.Nat.{ℕ, zero, suc, _+_, _-_, _≤_, _<_}
+use Prim.Native.Nat.{ℕ, zero, suc, _+_, _-_, _<_}
 use native.Mathlib.Omega.{arith}
 use borrow.Author.Tests.{lt-ltb, eqb-false}
 use lib.Dec.{ltb, leb, eqb}
 use lib.ListN.{length, drop, replicate}
-use Rattle.seqs.specs.Lists.{both, choose}
+use Rattle.seqs.specs.Lists.{both, choose, turns}
 use Rattle.plan_table.specs.declared.Table.{Table}
-use Rattle.plan_table.specs.Filling.{lineAt, linesOf, joined, restOf, fitting, partLines, partOf, nextOf, filled, partsOf, afterParts, Reached, Printing}
+use Rattle.plan_table.specs.Filling.{afterLine, afterLines, linesOf, joined, restOf, fitting, partLines, partOf, nextOf, filled, partsOf, afterParts, Reached, Printing}
 
 -- ---- one part
 
@@ -28,26 +28,33 @@ unfolding fitting joined
 fitting-first n at [] = refl
 fitting-first n at (l ∷ ls) = first-at l ls (fitting n (at + length l) ls) (leb (at + length l) n) (fitting-first n (at + length l) ls)
 
--- the last lines without the first k of them
-drop-lines : (t : Table) (k n : ℕ) → drop k (linesOf t n) ≡ linesOf t (n - k)
-unfolding linesOf
-drop-lines t zero n = let e : n - 0 ≡ n = omega arith in rw e
-drop-lines t (suc k) zero = let e : 0 - suc k ≡ 0 = omega arith in rw e
-drop-lines t (suc k) (suc n) = let e : suc n - suc k ≡ n - k = omega arith in rw e (drop-lines t k n)
+-- what is left behind k lines
+pub left-after : (k : ℕ) (t : Table) → afterLines k t .left ≡ t .left - k
+unfolding turns
+left-after zero t = omega arith
+left-after (suc k) t = let i = left-after k (afterLine t) in omega arith
 
--- lines are the same in a state that differs only in how many are left
-same-lines : (t : Table) (m n : ℕ) → linesOf (record { number = t .number; left = m; summary = t .summary }) n ≡ linesOf t n
-unfolding linesOf lineAt
-same-lines t m zero = refl
-same-lines t m (suc n) = ap (λ (x : List (List ℕ)). lineAt t (suc n) ∷ x) (same-lines t m n)
+-- one line more
+pub line-more : (k : ℕ) (t : Table) → afterLines (suc k) t ≡ afterLine (afterLines k t)
+unfolding turns
+line-more zero t = refl
+line-more (suc k) t = line-more k (afterLine t)
+
+-- the next lines without the first k of them are those of the state behind these
+drop-lines : (k n : ℕ) (t : Table) → drop k (linesOf n t) ≡ linesOf (n - k) (afterLines k t)
+unfolding linesOf turns
+drop-lines zero n t = let e : n - 0 ≡ n = omega arith in rw e
+drop-lines (suc k) zero t = let e : 0 - suc k ≡ 0 = omega arith in rw e
+drop-lines (suc k) (suc n) t = let e : suc n - suc k ≡ n - k = omega arith in rw e (drop-lines k n (afterLine t))
 
 -- A PART AND WHAT IS LEFT BEHIND IT ARE WHAT WAS LEFT, whatever the buffer's length
 pub part-rest : (t : Table) (n : ℕ) → partOf t n ++ restOf (nextOf t n) ≡ restOf t
 unfolding partLines
 part-rest t n =
-    let ls = linesOf t (t .left) in
+    let ls = linesOf (t .left) t in
     let k = length (fitting n 0 ls) in
-    ap (λ (x : List (List ℕ)). joined (fitting n 0 ls) ++ joined x) (same-lines t (t .left - k) (t .left - k) ∙ sym (drop-lines t k (t .left)))
+    ap (λ (m : ℕ). joined (fitting n 0 ls) ++ joined (linesOf m (afterLines k t))) (left-after k t)
+    ∙ ap (λ (x : List (List ℕ)). joined (fitting n 0 ls) ++ joined x) (sym (drop-lines k (t .left) t))
     ∙ fitting-first n 0 ls
 
 -- ---- all parts
@@ -99,5 +106,8 @@ some-put left k h = rw (lt-ltb 0 left h) (by (eqb k 0) refl)
 pub part-falls : (t : Table) (n : ℕ) (written : Bool) → 0 < t .left → (written ≡ true → filled t n .number ≡ 0)
     → nextOf t n .left + choose written 1 0 < t .left + 1
 unfolding filled
-part-falls t n true h e = let k = some-put (t .left) (length (partLines t n)) h (e refl) in omega arith
-part-falls t n false h e = omega arith
+part-falls t n true h e =
+    let k = some-put (t .left) (length (partLines t n)) h (e refl) in
+    let l = left-after (length (partLines t n)) t in
+    omega arith
+part-falls t n false h e = let l = left-after (length (partLines t n)) t in omega arith

@@ -1,16 +1,19 @@
--- A table part by part: a state that knows how many lines are left, and what the next part puts into a lent buffer.
+-- A table part by part: a state that knows how many lines are left and what is added up so far, and what the next part puts into a lent
+-- buffer.
 -- Assumes nothing.
 use mathlib.Core.Path.{_≡_}
 use mathlib.Core.Bool.{Bool, true, not}
 use mathlib.Core.List.{List, [], _∷_, _++_}
-use Prim.Native.Nat.{ℕ, zero, suc, _+_, _-_, _≤_}
+use Prim.Native.Nat.{ℕ, zero, suc, _+_, _-_, _%_, _^_, _≤_}
 use lib.Dec.{ltb, leb, eqb}
 use lib.ListN.{length, replicate}
 use Rattle.refusals.specs.Numbers.{wrongLength}
-use Rattle.seqs.specs.Lists.{both, choose}
+use Rattle.seqs.specs.Lists.{both, choose, turns}
 use Rattle.endian.specs.Bytes.{patch}
 use Rattle.table_lines.specs.Lines.{headerBytes, refusedBytes}
 use Rattle.geometry.specs.declared.Geometry.{Geometry}
+use Rattle.plan_totals.specs.declared.Row.{Row}
+use Rattle.plan_totals.specs.declared.Total.{Total}
 use Rattle.plan_totals.specs.Totals.{plansNumber}
 use Rattle.plan_summary.specs.Summaries.{summaryOf, noSummary, rowIn}
 use Rattle.run.specs.Runs.{accepted}
@@ -20,18 +23,25 @@ use Rattle.plan_table.specs.Printed.{rowLine, totalLine}
 
 -- ---- the states
 
+-- no row is added yet
+abbrev pub noSums : Total
+noSums = record { length = 0; log = 0; list = 0; chunk = 0; free = 0 }
+
 -- one line is left: the refusal's
 abbrev pub refusal : ℕ → Table
-refusal n = record { number = n; left = 1; summary = noSummary }
+refusal n = record { number = n; left = 1; summary = noSummary; sums = noSums }
+
+-- all lines of a geometry's table are left
+abbrev pub whole : Geometry → Table
+whole g = record { number = 0; left = g .agcount + 2; summary = summaryOf g; sums = noSums }
 
 -- `begin_table`: all lines of a geometry's table, or the line of 31 or 25
 unfoldable pub begunTable : Geometry → Table
-begunTable g =
-    choose (eqb (plansNumber g) 0) (record { number = 0; left = g .agcount + 2; summary = summaryOf g }) (refusal (plansNumber g))
+begunTable g = choose (eqb (plansNumber g) 0) (whole g) (refusal (plansNumber g))
 
 -- no disk: the header and the sums
 abbrev pub noDisk : Table
-noDisk = record { number = 0; left = 2; summary = noSummary }
+noDisk = record { number = 0; left = 2; summary = noSummary; sums = noSums }
 
 -- `begin`: no disk for an empty input; else all lines of the table of the run that the records ask for, or the line of its refusal
 unfoldable pub begun : List ℕ → Table
@@ -41,18 +51,49 @@ begun (x ∷ xs) =
 
 -- ---- the lines of a state
 
--- the line with which n are left: the sums are the last; before them come the rows, by rising group, and before these the header
-unfoldable pub lineAt : Table → ℕ → List ℕ
-lineAt t n =
-    choose (eqb (t .number) 0)
-    (choose (leb n 1) (totalLine (t .summary .total))
-    (choose (leb (n - 1) (t .summary .agcount)) (rowLine (rowIn (t .summary) (t .summary .agcount - (n - 1)))) headerBytes))
-    (refusedBytes (t .number))
+-- by what the next line is: a refusal's; the sums, which are the last; before them a row; before the rows the header
+abbrev pub byLine : {A : Type 0} → Table → A → A → A → A → A
+byLine t refused sums row header =
+    choose (eqb (t .number) 0) (choose (leb (t .left) 1) sums (choose (leb (t .left - 1) (t .summary .agcount)) row header)) refused
 
--- the last n lines
-unfoldable pub linesOf : Table → ℕ → List (List ℕ)
-linesOf t zero = []
-linesOf t (suc n) = lineAt t (suc n) ∷ linesOf t n
+-- the group whose row is put: rising
+abbrev pub groupPut : Table → ℕ
+groupPut t = t .summary .agcount - (t .left - 1)
+
+-- the group whose row is added with it, as far from the last as the other is from the first: falling
+abbrev pub groupAdded : Table → ℕ
+groupAdded t = t .summary .agcount - 1 - groupPut t
+
+-- the next line
+unfoldable pub lineOf : Table → List ℕ
+lineOf t = byLine t (refusedBytes (t .number)) (totalLine (t .sums)) (rowLine (rowIn (t .summary) (groupPut t))) headerBytes
+
+-- sums and a row, in 64 bits
+unfoldable pub withRow : Total → Row → Total
+withRow t r =
+    record {
+      length = (t .length + r .length) % 2 ^ 64;
+      log = (t .log + r .log) % 2 ^ 64;
+      list = (t .list + r .list) % 2 ^ 64;
+      chunk = (t .chunk + r .chunk) % 2 ^ 64;
+      free = (t .free + r .free) % 2 ^ 64;
+    }
+
+-- the sums behind the next line: another row is added where that is a row
+unfoldable pub sumsAfter : Table → Total
+sumsAfter t = byLine t (t .sums) (t .sums) (withRow (t .sums) (rowIn (t .summary) (groupAdded t))) (t .sums)
+
+-- the state behind the next line, and behind n lines
+abbrev pub afterLine : Table → Table
+afterLine t = record { number = t .number; left = t .left - 1; summary = t .summary; sums = sumsAfter t }
+
+abbrev pub afterLines : ℕ → Table → Table
+afterLines n t = turns (λ (s : Table). afterLine s) n t
+
+-- the next n lines
+unfoldable pub linesOf : ℕ → Table → List (List ℕ)
+linesOf zero t = []
+linesOf (suc n) t = lineOf t ∷ linesOf n (afterLine t)
 
 -- lines, one after the other
 unfoldable pub joined : List (List ℕ) → List ℕ
@@ -61,7 +102,7 @@ joined (l ∷ ls) = l ++ joined ls
 
 -- the bytes that are left
 abbrev pub restOf : Table → List ℕ
-restOf t = joined (linesOf t (t .left))
+restOf t = joined (linesOf (t .left) t)
 
 -- ---- the next part
 
@@ -72,7 +113,7 @@ fitting n at (l ∷ ls) = choose (leb (at + length l) n) (l ∷ fitting n (at + 
 
 -- the lines of the next part in a buffer of n bytes
 unfoldable pub partLines : Table → ℕ → List (List ℕ)
-partLines t n = fitting n 0 (linesOf t (t .left))
+partLines t n = fitting n 0 (linesOf (t .left) t)
 
 -- the bytes of the next part in a buffer of n bytes
 abbrev pub partOf : Table → ℕ → List ℕ
@@ -80,7 +121,7 @@ partOf t n = joined (partLines t n)
 
 -- the state behind it
 abbrev pub nextOf : Table → ℕ → Table
-nextOf t n = record { number = t .number; left = t .left - length (partLines t n); summary = t .summary }
+nextOf t n = afterLines (length (partLines t n)) t
 
 -- `fill`: where the next part ends, and the state behind it; 27 where a line is left and not even one fits
 unfoldable pub filled : Table → ℕ → Filled
@@ -93,12 +134,12 @@ filled t n =
 
 -- ---- the code's step
 
--- One line over `old`, where it fits at `at`: how many lines are left, where the next begins, whether it had no room, and what it leaves.
-pub record Stepped (t : Table) (left at : ℕ) (old : List ℕ) (left' at' : ℕ) (full : Bool) (new : List ℕ) : Type 0 where
-  pub left-is : left' ≡ choose (leb (at + length (lineAt t left)) (length old)) (left - 1) left
-  pub at-is : at' ≡ choose (leb (at + length (lineAt t left)) (length old)) (at + length (lineAt t left)) at
-  pub full-is : full ≡ not (leb (at + length (lineAt t left)) (length old))
-  pub bytes-are : new ≡ choose (leb (at + length (lineAt t left)) (length old)) (patch at (lineAt t left) old) old
+-- One line over `old`, where it fits at `at`: the state behind it, where the next begins, whether it had no room, and what it leaves.
+pub record Stepped (t : Table) (at : ℕ) (old : List ℕ) (t' : Table) (at' : ℕ) (full : Bool) (new : List ℕ) : Type 0 where
+  pub table-is : t' ≡ choose (leb (at + length (lineOf t)) (length old)) (afterLine t) t
+  pub at-is : at' ≡ choose (leb (at + length (lineOf t)) (length old)) (at + length (lineOf t)) at
+  pub full-is : full ≡ not (leb (at + length (lineOf t)) (length old))
+  pub bytes-are : new ≡ choose (leb (at + length (lineOf t)) (length old)) (patch at (lineOf t) old) old
 
 -- ---- all parts
 
@@ -114,7 +155,7 @@ afterParts t (n ∷ ns) = afterParts (nextOf t n) ns
 
 -- no line is longer than 147 bytes: seven numbers of 64 bits, each with a byte behind it
 abbrev pub Short : Table → Type 0
-Short t = (n : ℕ) → length (lineAt t n) ≤ 147
+Short t = (k : ℕ) → length (lineOf (afterLines k t)) ≤ 147
 
 -- each of these buffers holds such a line
 abbrev pub LongEnough : List ℕ → Type 0

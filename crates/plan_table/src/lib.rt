@@ -8,25 +8,32 @@ ghost use Rattle.refusals.specs.Numbers.{wrongLength};
 ghost use Rattle.seqs.specs.Lists.{both, choose};
 ghost use Rattle.endian.specs.Bytes.{patch};
 ghost use Rattle.plan_table.specs.Printed.{rowAnswer, tableAnswer, noDiskBytes, planBytes};
-ghost use Rattle.plan_table.specs.Filling.{refusal, begunTable, noDisk, begun, restOf, partOf, filled, Stepped};
+ghost use Rattle.plan_table.specs.Filling.{refusal, begunTable, noDisk, begun, afterLine, restOf, partOf, filled, Stepped};
 
 pub mod rows; // rows.rt: a group's row from the summary of all groups
+pub mod adding; // adding.rt: the sums of the rows, added from the last group to the first
 pub mod lines; // lines.rt: each line of a table
 
+use adding::no_sums;
+use adding::sums_after;
+use arith::numbers::minus;
 use geometry::Geometry;
 use lines::put_line;
 use plan_summary::Summary;
 use plan_summary::no_summary;
 use plan_summary::summary_of;
 use plan_totals::Row;
+use plan_totals::Total;
 use rows::no_row;
 use rows::row_in;
 
-// A table, of which the last `left` lines aren't printed yet. The number is 0, or that of a refusal, which has one line.
+// A table, of which the last `left` lines aren't printed yet, and what is added up of its rows. The number is 0, or that of a refusal,
+// which has one line.
 pub struct Table {
     pub number: u32,
     pub left: u64,
     pub summary: Summary,
+    pub sums: Total,
 }
 
 // Where the next lines end in the buffer, and the table behind them; 27 where not even one of the lines that are left fits.
@@ -40,10 +47,12 @@ fn refused(n: u32) -> Table
     ensures { λ r. ⌜ r ≡ refusal n ⌝ }
 {
     let summary = no_summary();
+    let sums = no_sums();
     Table {
         number: n,
         left: 1,
         summary,
+        sums,
     }
 }
 
@@ -57,10 +66,12 @@ pub fn begin_table(g: Geometry) -> Table
         return refused(number);
     }
     let summary = made.summary;
+    let sums = no_sums();
     Table {
         number: 0,
         left: g.agcount + 2,
         summary,
+        sums,
     }
 }
 
@@ -69,10 +80,12 @@ fn no_disk() -> Table
     ensures { λ r. ⌜ (r ≡ noDisk) × (restOf r ≡ noDiskBytes) ⌝ }
 {
     let summary = no_summary();
+    let sums = no_sums();
     Table {
         number: 0,
         left: 2,
         summary,
+        sums,
     }
 }
 
@@ -92,28 +105,43 @@ pub fn begin(input: &[u8]) -> Table
     begin_table(g)
 }
 
-// How many lines are left, where the next one begins, and whether it had no room.
+// The table behind its next line.
+fn after_line(t: Table) -> Table
+    ensures { λ r. ⌜ r ≡ afterLine t ⌝ }
+{
+    let sums = sums_after(t);
+    let summary = t.summary;
+    Table {
+        number: t.number,
+        left: minus(t.left, 1),
+        summary,
+        sums,
+    }
+}
+
+// The table behind the lines that are put, where the next line begins, and whether it had no room.
 struct Place {
-    left: u64,
+    table: Table,
     end: usize,
     full: bool,
 }
 
 // The next line, where it fits.
-fn step(t: Table, at: Place, buf: &mut [u8]) -> Place
-    requires { ⌜ 0 < at .left ⌝ }
-    ensures { λ r. ⌜ Stepped t (at .left) (at .end) (now (buf .entry)) (r .left) (r .end) (r .full) (now (buf .exit)) ⌝ }
+fn step(at: Place, buf: &mut [u8]) -> Place
+    ensures { λ r. ⌜ Stepped (at .table) (at .end) (now (buf .entry)) (r .table) (r .end) (r .full) (now (buf .exit)) ⌝ }
 {
-    let w = put_line(t, at.left, buf, at.end);
+    let t = at.table;
+    let w = put_line(t, buf, at.end);
     if w.number != 0 {
         return Place {
-            left: at.left,
+            table: t,
             end: at.end,
             full: true,
         };
     }
+    let table = after_line(t);
     Place {
-        left: at.left - 1,
+        table,
         end: w.end,
         full: false,
     }
@@ -138,20 +166,15 @@ pub fn fill(t: Table, buf: &mut [u8]) -> Filled
     ensures { λ r. ⌜ now (buf .exit) ≡ patch 0 (partOf t (length (now (buf .entry)))) (now (buf .entry)) ⌝ }
 {
     let mut at = Place {
-        left: t.left,
+        table: t,
         end: 0,
         full: false,
     };
-    while 0 < at.left && !at.full {
-        at = step(t, at, buf);
+    while 0 < at.table.left && !at.full {
+        at = step(at, buf);
     }
-    let number = number_of(t.left, at.left);
-    let summary = t.summary;
-    let table = Table {
-        number: t.number,
-        left: at.left,
-        summary,
-    };
+    let table = at.table;
+    let number = number_of(t.left, table.left);
     Filled {
         number,
         end: at.end,

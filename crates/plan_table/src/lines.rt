@@ -3,7 +3,7 @@ ghost use mathlib.Core.Path.{_≡_};
 ghost use Rattle.table_lines.specs.Lines.{PutLine};
 ghost use Rattle.plan_summary.specs.Summaries.{rowIn};
 ghost use Rattle.plan_table.specs.Printed.{rowLine, totalLine};
-ghost use Rattle.plan_table.specs.Filling.{lineAt};
+ghost use Rattle.plan_table.specs.Filling.{lineOf};
 use crate::Table;
 use crate::rows::row_in;
 use plan_summary::Summary;
@@ -47,19 +47,20 @@ fn put_sums(t: Total, buf: &mut [u8], at: usize) -> Written
     put_total(sums, buf, at)
 }
 
-// The line with which `left` lines are left.
-pub(crate) fn put_line(t: Table, left: u64, buf: &mut [u8], at: usize) -> Written
-    ensures { λ r. ⌜ PutLine at (lineAt t left) (now (buf .entry)) (r .number) (r .end) (now (buf .exit)) ⌝ }
+// The next line of a table.
+pub(crate) fn put_line(t: Table, buf: &mut [u8], at: usize) -> Written
+    ensures { λ r. ⌜ PutLine at (lineOf t) (now (buf .entry)) (r .number) (r .end) (now (buf .exit)) ⌝ }
 {
     let number = t.number;
     if number != 0 {
         return put_refused(number as u64, buf, at);
     }
-    let s = t.summary;
+    let left = t.left;
     if left <= 1 {
-        let total = s.total;
-        return put_sums(total, buf, at);
+        let sums = t.sums;
+        return put_sums(sums, buf, at);
     }
+    let s = t.summary;
     let groups = s.agcount;
     if left - 1 <= groups {
         return put_group(s, groups - (left - 1), buf, at);

@@ -29,6 +29,7 @@ pub use Rattle.plan.specs.Plan.{planned}
 pub use Rattle.plan_closed.specs.Closed.{freeBlocks, closedPlan}
 pub use Rattle.plan_totals.specs.Totals.{plansNumber}
 pub use Rattle.plan_summary.specs.Narrow.{NarrowGroup}
+pub use Rattle.plan_orders.specs.Orders.{Order, AddsUp}
 pub use Rattle.plan_uses.specs.Uses.{usesOf, usedOf, mappedOf}
 pub use Rattle.request.specs.declared.Request.{Request}
 pub use Rattle.request.specs.Parse.{request, parseDef}

@@ -1,6 +1,7 @@
 -- `plan_table::row_at` meets its contract.
 -- Assumes nothing.
 use Rattle.plan_table.specs.Printed.{rowAnswer}
+use Rattle.plan_table.proofs.Begun.{row-refused}
 use Rattle.plan_summary.proofs.Rows.{rows-agree}
 use Rattle.plan_summary.proofs.Laws.{its-number, its-summary}
 use Rattle.plan_summary.specs.Summaries.{rowIn}
@@ -8,15 +9,14 @@ use Rattle.plan_summary.specs.declared.Summarised.{Summarised}
 use Rattle.plan_summary.specs.declared.Summary.{Summary}
 use Rattle.plan_totals.specs.Totals.{plansNumber}
 use lib.ListN.{length}
-use borrow.Author.Tests.{eq-eqb, ne-eqb}
+use borrow.Author.Tests.{eq-eqb}
 use mathlib.Core.Path.{_≡_, sym, ap, _∙_}
 use borrow.Author.Needs.{needs}
 use Rattle.plan_table.proofs.row_at.Statement.{statement}
 use Rattle.plan_table.proofs.row_at.Tie as tie
 
 returns : tie.Need-returns
-unfolding rowAnswer
-returns c = let g = c .before .before .before .args .g in let e = ap (λ (x : Summarised). x .number) (c .before .before .summary-of .ensures) ∙ its-number g in c .no-row .ensures ∙ rw (← e, ne-eqb _ 0 (c .before .if1 .taken))
+returns c = let g = c .before .before .before .args .g in let e = ap (λ (x : Summarised). x .number) (c .before .before .summary-of .ensures) ∙ its-number g in c .no-row .ensures ∙ row-refused g (c .before .before .before .args .k) e (c .before .if1 .taken)
 
 returns-2 : tie.Need-returns-2
 unfolding rowAnswer
