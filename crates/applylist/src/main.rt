@@ -3,6 +3,7 @@
 // two, nothing was changed.
 // `list_apply` says what is to be read next and what is to be done with it; here bytes are only moved.
 mod clock; // a line of progress
+mod device; // a device's sector
 mod input; // reading
 mod output; // writing
 
@@ -32,6 +33,8 @@ use list_apply::wants;
 use list_read::BYTES;
 use list_read::FLUSH;
 use list_read::ZEROS;
+use list_sector::ENOUGH;
+use list_sector::below_logical;
 
 // What became of a piece: it is done, or the call that failed.
 pub(crate) const DONE: u8 = 0;
@@ -44,12 +47,14 @@ pub(crate) const NOTHING_TAKEN: u8 = 3; // a write that took no byte, and named 
 
 pub(crate) const FLUSH_FAILED: u8 = 4;
 
-// The list so far, which call failed, the record in hand or at which it failed, and whether the list goes on.
+// The list so far, which call failed, the record in hand or at which it failed, whether the list goes on, and how many of the bytes that were
+// read ahead are used.
 struct Progress {
     applying: Applying,
     failed: u8,
     record: u64,
     goes_on: bool,
+    used: usize,
 }
 
 // Zeros, and then a flush.
@@ -95,11 +100,20 @@ fn halted(a: Applying, failed: u8, record: u64) -> Progress
         failed,
         record,
         goes_on: false,
+        used: 0,
     }
 }
 
 // Feeds the first n bytes of the buffer, and does what they ask for.
-fn feed_first(fd: i32, extends: bool, a: Applying, n: usize, zeros: &[u8], buf: &[u8]) -> Progress
+fn feed_first(
+    fd: i32,
+    extends: bool,
+    a: Applying,
+    n: usize,
+    used: usize,
+    zeros: &[u8],
+    buf: &[u8],
+) -> Progress
     requires { ⌜ n ≤ length (now buf) ⌝ }
     ensures { λ r. ⌜ Fed (length (now (buf .entry))) a (r .applying) ⌝ }
 {
@@ -114,22 +128,31 @@ fn feed_first(fd: i32, extends: bool, a: Applying, n: usize, zeros: &[u8], buf: 
         failed: DONE,
         record: record_of(next),
         goes_on: stop_of(next) == GOES_ON,
+        used,
     }
 }
 
 // Reads what is wanted, behind what is kept of it, and feeds it.
-fn take_turn(fd: i32, extends: bool, a: Applying, zeros: &[u8], buf: &mut [u8]) -> Progress
+fn take_turn(
+    fd: i32,
+    extends: bool,
+    a: Applying,
+    ahead: &[u8],
+    used: usize,
+    zeros: &[u8],
+    buf: &mut [u8],
+) -> Progress
     ensures { λ r. ⌜ Fed (length (now (buf .entry))) a (r .applying) ⌝ }
 {
-    let i = input::fill_wanted(kept_of(a), wants(a, buf.len()), buf);
+    let i = input::fill_wanted(ahead, used, kept_of(a), wants(a, buf.len()), buf);
     if i.failed {
         return halted(a, READ_FAILED, record_of(a));
     }
-    feed_first(fd, extends, a, i.n, zeros, buf)
+    feed_first(fd, extends, a, i.n, i.used, zeros, buf)
 }
 
 // All records, as far as the limit. A proved loop has to end, so it counts its turns down from a number that no list uses up.
-fn apply(fd: i32, extends: bool, limit: u64, zeros: &[u8], buf: &mut [u8]) -> Progress
+fn apply(fd: i32, extends: bool, limit: u64, ahead: &[u8], zeros: &[u8], buf: &mut [u8]) -> Progress
     ensures { λ r. ⌜ Fed (length (now (buf .entry))) (begun limit) (r .applying) ⌝ }
 {
     let mut p = Progress {
@@ -137,11 +160,12 @@ fn apply(fd: i32, extends: bool, limit: u64, zeros: &[u8], buf: &mut [u8]) -> Pr
         failed: DONE,
         record: 1,
         goes_on: true,
+        used: 0,
     };
     let mut clock = clock::start();
     let mut turns = u64::MAX;
     while 0 < turns && p.goes_on {
-        p = take_turn(fd, extends, p.applying, zeros, buf);
+        p = take_turn(fd, extends, p.applying, ahead, p.used, zeros, buf);
         clock = clock.show(p.record);
         turns -= 1;
     }
@@ -274,17 +298,53 @@ fn half_mebibyte() -> [u8; 524288]
     [0; 524288]
 }
 
+// Applies the list, of which some bytes were read ahead, to an open file or device.
+fn apply_from(fd: i32, extends: bool, limit: u64, ahead: &[u8]) {
+    let zeros = half_mebibyte();
+    let mut buf = half_mebibyte();
+    let p = apply(fd, extends, limit, ahead, &zeros, &mut buf);
+    finish(p);
+}
+
+// The list's first bytes are held back until they say that its sectors aren't smaller than the device's.
+fn apply_to_device(fd: i32, extends: bool, limit: u64, path: &[u8]) {
+    let logical = device::logical_sector(path);
+    if logical == 0 {
+        io::write_all(STDERR_FILENO, path);
+        io::write_all(STDERR_FILENO, b": its logical sector can't be read\n");
+        return;
+    }
+    let none = [0u8; 1];
+    let mut ahead = io::large_buffer();
+    let i = input::fill_wanted(&none, 1, 0, ENOUGH, &mut ahead);
+    if i.failed {
+        os::fail(b"standard input");
+        return;
+    }
+    let n = i.n;
+    if below_logical(&ahead[..n], logical) {
+        io::write_all(
+            STDERR_FILENO,
+            b"the list isn't for sectors as large as the device's, and isn't applied\n",
+        );
+        return;
+    }
+    apply_from(fd, extends, limit, &ahead[..n]);
+}
+
 // Applies the list to an open file or device.
-fn apply_open(fd: i32, extends: bool) {
+fn apply_open(fd: i32, extends: bool, path: &[u8]) {
     let end = limit_of(fd, extends);
     if end < 0 {
         os::fail(b"size");
         return;
     }
-    let zeros = half_mebibyte();
-    let mut buf = half_mebibyte();
-    let p = apply(fd, extends, bytes_to(end), &zeros, &mut buf);
-    finish(p);
+    if device::is_device(fd) {
+        apply_to_device(fd, extends, bytes_to(end), path);
+        return;
+    }
+    let none = [0u8; 1];
+    apply_from(fd, extends, bytes_to(end), &none[..0]);
 }
 
 // Applies the list to what argument i names, the last of `count` words.
@@ -295,7 +355,9 @@ fn apply_to(i: usize, count: usize, extends: bool) {
     }
     let fd = open(i);
     if 0 <= fd {
-        apply_open(fd, extends);
+        let mut path = io::buffer();
+        let n = os::arg(i, &mut path);
+        apply_open(fd, extends, &path[..n]);
     }
 }
 

@@ -10,10 +10,10 @@ use Rattle.applylist.proofs.apply.Statement.{statement}
 use Rattle.applylist.proofs.apply.Tie as tie
 
 abbrev Inv-loop : tie.InvT-loop
-Inv-loop fd extends limit zeros buf₀ p₀ clock₀ turns₀ buf p clock turns = (length buf ≡ length buf₀) × Fed (length buf₀) (p₀ .applying) (p .applying)
+Inv-loop fd extends limit ahead zeros buf₀ p₀ clock₀ turns₀ buf p clock turns = (length buf ≡ length buf₀) × Fed (length buf₀) (p₀ .applying) (p .applying)
 
 abbrev μ-loop : tie.MeasureT-loop
-μ-loop fd extends limit zeros buf₀ p₀ clock₀ turns₀ buf p clock turns = turns
+μ-loop fd extends limit ahead zeros buf₀ p₀ clock₀ turns₀ buf p clock turns = turns
 
 begin-requires : tie.Need-begin-requires Inv-loop μ-loop
 begin-requires c κs = search needs

@@ -11,7 +11,7 @@ returns : tie.Need-returns
 returns c = none-fed _ _ _ (c .halted .ensures)
 
 returns-2 : tie.Need-returns-2
-returns-2 c = same-fed _ _ _ _ _ (c .before .before .before .before .before .fill-wanted .kept .1 .1 .0) refl (c .feed-first .ensures)
+returns-2 c = same-fed _ _ _ _ _ (c .before .before .before .before .before .fill-wanted .kept .1 .1 .1 .1 .0) refl (c .feed-first .ensures)
 
 pub take-turn-spec : {M : Type 1} → statement M
 take-turn-spec =

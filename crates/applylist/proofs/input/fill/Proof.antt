@@ -8,10 +8,10 @@ use Rattle.applylist.proofs.input.fill.Statement.{statement}
 use Rattle.applylist.proofs.input.fill.Tie as tie
 
 abbrev Inv-loop : tie.InvT-loop
-Inv-loop n want buf₀ i₀ turns₀ buf i turns = (i .n ≤ want) × (length buf ≡ length buf₀)
+Inv-loop ahead used n want buf₀ i₀ turns₀ buf i turns = (i .n ≤ want) × (length buf ≡ length buf₀)
 
 abbrev μ-loop : tie.MeasureT-loop
-μ-loop n want buf₀ i₀ turns₀ buf i turns = turns
+μ-loop ahead used n want buf₀ i₀ turns₀ buf i turns = turns
 
 pub fill-spec : {M : Type 1} → statement M
 fill-spec =
