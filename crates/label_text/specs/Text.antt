@@ -1,5 +1,4 @@
--- A label as text that a terminal can show: bytes outside printable ASCII are escaped, and so are the quote and the backslash, so that two
--- labels never look the same.
+-- A label as text that a terminal can show: bytes outside printable ASCII are escaped, and so are the quote and the backslash.
 -- Assumes nothing.
 use mathlib.Core.Bool.{Bool, true, not, _&&_}
 use mathlib.Core.List.{List, [], _∷_, _++_}
