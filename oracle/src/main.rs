@@ -23,6 +23,7 @@ mod crowded;
 mod disk;
 mod frames;
 mod holds;
+mod lengths;
 mod model;
 mod modes;
 mod numbers;
@@ -32,6 +33,7 @@ mod request;
 mod runs;
 mod spoilt;
 mod wishes;
+mod words;
 
 /// The words of the command line after the mode's name.
 struct Words {

@@ -25,7 +25,7 @@ fn sizes(r: &mut Random) -> Request {
 }
 
 /// About as many groups as there may be, sometimes more.
-fn most_groups(r: &mut Random) -> Request {
+pub fn most_groups(r: &mut Random) -> Request {
     let mut q = wishes::request(r, 0);
     let b = wishes::block(&q);
     q.device = u64::MAX - r.wide() / 2;

@@ -1,32 +1,20 @@
-//! Program `inquire holds`: runs held back and given back. A case is the length (2 bytes) of the words after `holds`, the
-//! words with a space between two, and the input records; an answer is the standard output, by the model (`../holds.rs`).
+//! Program `inquire holds`: runs held back and given back. A case is the words after `holds` and the input records (`../words.rs`); an answer is
+//! the standard output, by the model (`../holds.rs`).
 
 use std::io;
 
 use super::geometry::step;
 use super::{Mode, Out, Told};
-use crate::frames::Fields;
 use crate::holds::{Group, State};
 use crate::random::Random;
 use crate::request::{op, Request, MALFORMED};
 use crate::runs::{self, Call};
+use crate::words::{self, number, parts};
 
 pub struct Holds;
 
 /// Most calls of a case.
 const CALLS: u64 = 48;
-
-/// The words and the input records of a case.
-fn parts(case: &[u8]) -> (String, &[u8]) {
-    let mut f = Fields(case);
-    let n = usize::from(f.u16());
-    (String::from_utf8_lossy(f.bytes(n)).into_owned(), f.rest())
-}
-
-/// A decimal number of 64 bits.
-fn number(word: &str) -> Option<u64> {
-    word.parse().ok().filter(|_| word.bytes().all(|b| b.is_ascii_digit()))
-}
 
 fn call(word: &str) -> Option<Call> {
     let [name, start, blocks] = word.split(':').collect::<Vec<_>>().try_into().ok()?;
@@ -134,8 +122,7 @@ impl Mode for Holds {
             let at = r.below(words.len() as u64) as usize;
             words[at] = r.pick(&NO_CALLS).into();
         }
-        let words = words.join(" ");
-        [&(words.len() as u16).to_be_bytes()[..], words.as_bytes(), &records].concat()
+        words::case(&words, &records)
     }
 
     fn answer(&self, case: &[u8], out: Out) -> io::Result<Told> {
@@ -157,7 +144,7 @@ impl Mode for Holds {
 
     fn run<'a>(&self, case: &'a [u8]) -> (Vec<String>, &'a [u8]) {
         let (words, records) = parts(case);
-        (["holds"].into_iter().chain(words.split_whitespace()).map(String::from).collect(), records)
+        (words::asked("holds", &words), records)
     }
 
     fn calls(&self, case: &[u8]) -> Vec<Told> {

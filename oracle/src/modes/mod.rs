@@ -12,6 +12,7 @@ pub mod geometry;
 pub mod hold_states;
 pub mod holds;
 pub mod inodes;
+pub mod lengths;
 pub mod lists;
 pub mod log;
 pub mod made;
@@ -148,6 +149,7 @@ pub fn named(name: &str) -> Option<Box<dyn Mode + Sync>> {
         "corner_lists" => Box::new(corners::Corners::lists()),
         "holds" => Box::new(holds::Holds),
         "hold_states" => Box::new(hold_states::HoldStates),
+        "length" => Box::new(lengths::Lengths),
         "sizings" => Box::new(sizings::Sizings),
         _ => return None,
     })

@@ -38,11 +38,13 @@ pub fn time_fits(t: Timestamp, bigtime: bool) -> bool {
     }
 }
 
-/// The geometry of an accepted run, or the number that refuses it. 25 is the log group's alone.
+/// The geometry of an accepted run, or the number that refuses it.
 pub fn accepted(case: &[u8]) -> (Told, Option<(Request, Geometry)>) {
-    let Some(q) = Request::parse(case) else {
-        return (Told::apart("", MALFORMED), None);
-    };
+    Request::parse(case).map_or((Told::apart("", MALFORMED), None), judged)
+}
+
+/// The same of a request. 25 is the log group's alone.
+pub fn judged(q: Request) -> (Told, Option<(Request, Geometry)>) {
     let (told, answer) = step(&q);
     let Some(g) = answer else {
         return (told, None);
