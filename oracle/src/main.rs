@@ -18,6 +18,7 @@ use std::process::ExitCode;
 use modes::Mode;
 use random::Random;
 
+mod cabinets;
 mod compare;
 mod crowded;
 mod disk;

@@ -4,6 +4,7 @@ use std::io::{self, Write};
 
 use crate::random::Random;
 
+pub mod cabinets;
 pub mod chunk;
 pub mod corners;
 pub mod crc;
@@ -150,6 +151,7 @@ pub fn named(name: &str) -> Option<Box<dyn Mode + Sync>> {
         "holds" => Box::new(holds::Holds),
         "hold_states" => Box::new(hold_states::HoldStates),
         "length" => Box::new(lengths::Lengths),
+        "cabinet" => Box::new(cabinets::Cabinets::new()),
         "sizings" => Box::new(sizings::Sizings),
         _ => return None,
     })
