@@ -29,6 +29,7 @@ mod model;
 mod modes;
 mod numbers;
 mod random;
+mod ranges;
 mod recorded;
 mod request;
 mod runs;

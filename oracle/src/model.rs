@@ -75,6 +75,11 @@ fn sizes(q: &Request) -> Result<Sizes, u32> {
     Ok(Sizes { block, sector, inode })
 }
 
+/// The block size, where none of 1 to 8 refuses the request; they don't look at the device's size.
+pub fn block_size(q: &Request) -> Result<u64, u32> {
+    Ok(sizes(q)?.block)
+}
+
 /// Blocks of the file system, and of a group, and how many groups.
 struct Groups {
     blocks: u64,

@@ -36,7 +36,7 @@ pub fn most_groups(r: &mut Random) -> Request {
 }
 
 /// A request of any kind; many have few free blocks in the log group.
-fn request(r: &mut Random) -> Request {
+pub fn request(r: &mut Random) -> Request {
     let mut q = match r.below(8) {
         _ if r.one_in(64) => most_groups(r),
         0 | 1 => crowded::request(r, 1000),

@@ -20,6 +20,7 @@ pub mod made;
 pub mod models;
 pub mod places;
 pub mod plans;
+pub mod ranges;
 pub mod reader;
 pub mod readings;
 pub mod records;
@@ -152,6 +153,7 @@ pub fn named(name: &str) -> Option<Box<dyn Mode + Sync>> {
         "hold_states" => Box::new(hold_states::HoldStates),
         "length" => Box::new(lengths::Lengths),
         "cabinet" => Box::new(cabinets::Cabinets::new()),
+        "sizes" => Box::new(ranges::Sizes),
         "sizings" => Box::new(sizings::Sizings),
         _ => return None,
     })
