@@ -33,6 +33,7 @@ mod ranges;
 mod recorded;
 mod request;
 mod runs;
+mod smallest;
 mod spoilt;
 mod wishes;
 mod words;

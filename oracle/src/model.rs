@@ -246,6 +246,11 @@ fn superblock(g: &Geometry, uuid: [u8; 16], k: u64) -> SbState {
     }
 }
 
+/// The free count in the finished superblock.
+pub fn free_count(g: &Geometry) -> u64 {
+    superblock(g, [0; 16], 0).fdblocks
+}
+
 fn head_with(g: &Geometry, uuid: [u8; 16], k: u64, inprogress: bool) -> io::Result<Vec<u8>> {
     let p = plan(g, k).map_err(|n| io::Error::other(format!("group {k} is refused by {n}")))?;
     Ok(ag_head(g, &p, &uuid, &SbState { inprogress, ..superblock(g, uuid, k) }))

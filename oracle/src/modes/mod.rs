@@ -28,6 +28,7 @@ pub mod replayed;
 pub mod requests;
 pub mod roomy;
 pub mod sizings;
+pub mod smallest;
 pub mod structs;
 pub mod writes;
 
@@ -154,6 +155,7 @@ pub fn named(name: &str) -> Option<Box<dyn Mode + Sync>> {
         "length" => Box::new(lengths::Lengths),
         "cabinet" => Box::new(cabinets::Cabinets::new()),
         "sizes" => Box::new(ranges::Sizes),
+        "smallest" => Box::new(smallest::Smallest),
         "sizings" => Box::new(sizings::Sizings),
         _ => return None,
     })

@@ -47,7 +47,7 @@ pub fn request(r: &mut Random) -> Request {
 }
 
 /// A size at which the request's answer may change.
-fn border(r: &mut Random, q: &mut Request) -> u64 {
+pub fn border(r: &mut Random, q: &mut Request) -> u64 {
     let block = wishes::block(q);
     let group = q.options[op::AGSIZE].unwrap_or(TIB).max(block);
     match r.below(8) {
@@ -106,7 +106,7 @@ fn falling(r: &mut Random) -> (Request, u64) {
 }
 
 /// Some steps from a border.
-fn steps(r: &mut Random, most: u64) -> u64 {
+pub fn steps(r: &mut Random, most: u64) -> u64 {
     match r.below(16) {
         0 => r.below(most),
         1..=3 => r.below(most.min(4000)),
@@ -128,7 +128,7 @@ fn records(r: &mut Random, q: &mut Request) -> Vec<u8> {
 }
 
 /// The question's words, sometimes spoilt, with the records.
-fn asked(r: &mut Random, mut given: Vec<String>, mut q: Request) -> Vec<u8> {
+pub fn asked(r: &mut Random, mut given: Vec<String>, mut q: Request) -> Vec<u8> {
     let records = records(r, &mut q);
     if r.one_in(64) {
         words::spoil(r, &mut given);
@@ -137,19 +137,19 @@ fn asked(r: &mut Random, mut given: Vec<String>, mut q: Request) -> Vec<u8> {
 }
 
 /// Whether the Rust is asked too.
-fn by_both(case: &[u8], q: &Request) -> bool {
+pub fn by_both(case: &[u8], q: &Request) -> bool {
     q.sizing() == Sizing::Plain && case.iter().map(|&b| u32::from(b)).sum::<u32>() % 4 == 0
 }
 
 /// The model's answer, which must be the Rust's where that is asked.
-fn agreed<T: PartialEq + std::fmt::Debug>(model: T, rust: Option<T>) -> io::Result<T> {
+pub fn agreed<T: PartialEq + std::fmt::Debug>(model: T, rust: Option<T>) -> io::Result<T> {
     match rust {
         Some(rust) if rust != model => Err(io::Error::other(format!("the model has {model:?}, the Rust {rust:?}"))),
         _ => Ok(model),
     }
 }
 
-fn unasked() -> io::Result<Told> {
+pub fn unasked() -> io::Result<Told> {
     Ok(Told::apart("no such words, nothing printed,", 0))
 }
 
@@ -240,7 +240,7 @@ impl Mode for Sizes {
     }
 }
 
-fn show(case: &[u8]) -> String {
+pub fn show(case: &[u8]) -> String {
     let (given, records) = parts(case);
     format!("{given} {} {:?}", super::hex(records), Request::parse(records))
 }
