@@ -6,10 +6,10 @@ use std::io;
 use mkfs_xfs::geometry::Geometry;
 
 use crate::modes::geometry::feature_bits;
-use crate::modes::plans::judged;
+use crate::modes::plans::run_of;
 use crate::modes::Told;
 use crate::recorded::{formatted, Sink};
-use crate::request::{Request, MALFORMED};
+use crate::request::Request;
 
 /// The most groups of a list that is counted.
 const COUNTED: u64 = 40;
@@ -69,10 +69,7 @@ pub fn worked_out(g: &Geometry) -> Length {
 
 /// The length of what a run sends, or the number that refuses it: `writelist`'s.
 pub fn length(q: Option<Request>) -> io::Result<(Told, Option<Length>)> {
-    let Some(q) = q else {
-        return Ok((Told::apart("", MALFORMED), None));
-    };
-    let (told, run) = judged(q);
+    let (told, run) = run_of(q);
     let Some((q, g)) = run else {
         return Ok((told, None));
     };

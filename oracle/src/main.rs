@@ -28,6 +28,7 @@ mod lengths;
 mod model;
 mod modes;
 mod numbers;
+mod profile;
 mod random;
 mod ranges;
 mod recorded;

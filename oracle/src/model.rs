@@ -15,6 +15,7 @@ use mkfs_xfs::structs::{log, NULL64};
 
 use crate::disk::{head_bytes, name};
 use crate::modes::plans::{plan, time_fits, BAD_TIME};
+use crate::profile::{profile, OUTSIDE};
 use crate::recorded::Sink;
 use crate::request::{op, Request};
 
@@ -217,6 +218,7 @@ pub fn planned(q: &Request, sizing: Sizing) -> Result<Geometry, u32> {
 pub fn run(q: &Request, sizing: Sizing) -> Result<Geometry, u32> {
     let g = planned(q, sizing)?;
     refuse(BAD_TIME, !time_fits(q.time(), g.features.bigtime))?;
+    refuse(OUTSIDE, !profile(q, &g))?;
     Ok(g)
 }
 

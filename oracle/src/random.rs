@@ -1,10 +1,17 @@
 //! Numbers from a seed (splitmix64), so that a run can be repeated.
 
-pub struct Random(u64);
+/// The state, and how often a turn was asked for.
+pub struct Random(u64, u64);
 
 impl Random {
     pub fn new(seed: u64) -> Self {
-        Random(seed)
+        Random(seed, 0)
+    }
+
+    /// 0 at the first call, then one more at each, for what is gone through one after the other.
+    pub fn turn(&mut self) -> u64 {
+        self.1 += 1;
+        self.1 - 1
     }
 
     pub fn next(&mut self) -> u64 {

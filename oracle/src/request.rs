@@ -21,6 +21,8 @@ pub mod op {
     pub const SECONDS: usize = 10;
     pub const NANOSECONDS: usize = 11;
     pub const SIZING: usize = 12;
+    pub const PROFILE: usize = 13;
+    /// The last code that the port's programs read today; PROFILE once they know the profile.
     pub const LAST: usize = SIZING;
 }
 
@@ -30,18 +32,18 @@ pub struct Request {
     pub device: u64,
     pub logical: u32,
     pub physical: u32,
-    pub options: [Option<u64>; op::LAST + 1],
+    pub options: [Option<u64>; op::PROFILE + 1],
     pub label: Option<Vec<u8>>,
     pub id: Option<[u8; 16]>,
 }
 
-/// The largest value that an option's type in the Rust holds; that of the sizing is the scope's.
+/// The largest value that an option's type in the Rust holds; those of the sizing and the profile are the scope's.
 fn largest(code: usize) -> u64 {
     match code {
         op::BLOCK | op::SECTOR | op::INODE | op::NANOSECONDS => u64::from(u32::MAX),
         op::IMAXPCT => u64::from(u8::MAX),
         op::FEATURES => 127,
-        op::SIZING => 1,
+        op::SIZING | op::PROFILE => 1,
         _ => u64::MAX,
     }
 }
@@ -60,6 +62,16 @@ fn whole<'a>(from: &mut Fields<'a>, n: usize) -> Option<Fields<'a>> {
 impl Request {
     /// Reads the records; `None` where they are malformed.
     pub fn parse(bytes: &[u8]) -> Option<Request> {
+        Request::parse_to(bytes, op::LAST)
+    }
+
+    /// Reads the records of a run that may be under the profile.
+    pub fn parse_profiled(bytes: &[u8]) -> Option<Request> {
+        Request::parse_to(bytes, op::PROFILE)
+    }
+
+    /// Reads records with codes up to `last`.
+    fn parse_to(bytes: &[u8], last: usize) -> Option<Request> {
         let mut from = Fields(bytes);
         let mut r = Request::default();
         if whole(&mut from, 2)?.rest() != b"DV" {
@@ -68,18 +80,18 @@ impl Request {
         let mut dv = whole(&mut from, 16)?;
         (r.device, r.logical, r.physical) = (dv.u64(), dv.u32(), dv.u32());
         while !from.0.is_empty() {
-            r.record(&mut from)?;
+            r.record(&mut from, last)?;
         }
         Some(r)
     }
 
     /// Reads one record after the first.
-    fn record(&mut self, from: &mut Fields) -> Option<()> {
+    fn record(&mut self, from: &mut Fields, last: usize) -> Option<()> {
         match whole(from, 2)?.rest() {
             b"OP" => {
                 let mut body = whole(from, 9)?;
                 let (code, value) = (usize::from(body.u8()), body.u64());
-                if !(1..=op::LAST).contains(&code) || value > largest(code) {
+                if !(1..=last).contains(&code) || value > largest(code) {
                     return None;
                 }
                 once(&mut self.options[code], value)

@@ -290,6 +290,13 @@ pub fn with_run(r: &mut Random, q: &mut Request) {
     }
 }
 
+/// Sometimes puts the request under the profile, once the port reads its code.
+pub fn with_profile(r: &mut Random, q: &mut Request) {
+    if op::LAST >= op::PROFILE && r.one_in(4) {
+        q.options[op::PROFILE] = Some(r.below(2));
+    }
+}
+
 /// The request's records, sometimes with a label before the options, and sometimes malformed.
 pub fn records(r: &mut Random, q: &Request) -> Vec<u8> {
     let mut bytes = q.encode();

@@ -22,6 +22,7 @@ const MANY_GROUPS: u64 = 1 << 23;
 /// UUID, seed and mostly a time in range.
 fn run(r: &mut Random, mut q: Request) -> Request {
     wishes::with_run(r, &mut q);
+    wishes::with_profile(r, &mut q);
     if !r.one_in(8) {
         q.options[op::SECONDS] = Some(r.below(1 << 31));
         q.options[op::NANOSECONDS] = Some(r.below(1_000_000_000));

@@ -20,6 +20,7 @@ pub mod made;
 pub mod models;
 pub mod places;
 pub mod plans;
+pub mod profiles;
 pub mod ranges;
 pub mod reader;
 pub mod readings;
@@ -156,6 +157,10 @@ pub fn named(name: &str) -> Option<Box<dyn Mode + Sync>> {
         "cabinet" => Box::new(cabinets::Cabinets::new()),
         "sizes" => Box::new(ranges::Sizes),
         "smallest" => Box::new(smallest::Smallest),
+        "profile" => Box::new(profiles::Profiles::tables()),
+        "profile_list" => Box::new(profiles::Profiles::lists()),
+        "profile_length" => Box::new(profiles::Profiles::lengths()),
+        "profile_disks" => Box::new(profiles::Disks),
         "sizings" => Box::new(sizings::Sizings),
         _ => return None,
     })

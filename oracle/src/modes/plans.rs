@@ -10,6 +10,7 @@ use super::geometry::step;
 use super::{Mode, Out, Told};
 use crate::frames::Fields;
 use crate::numbers::{number_of, UNNUMBERED};
+use crate::profile::{profile, OUTSIDE};
 use crate::random::Random;
 use crate::request::{Request, MALFORMED};
 use crate::wishes;
@@ -40,11 +41,14 @@ pub fn time_fits(t: Timestamp, bigtime: bool) -> bool {
 
 /// The geometry of an accepted run, or the number that refuses it.
 pub fn accepted(case: &[u8]) -> (Told, Option<(Request, Geometry)>) {
-    Request::parse(case).map_or((Told::apart("", MALFORMED), None), judged)
+    run_of(Request::parse(case))
 }
 
-/// The same of a request. 25 is the log group's alone.
-pub fn judged(q: Request) -> (Told, Option<(Request, Geometry)>) {
+/// The same of a request, which is none where the records are malformed. 25 is the log group's alone.
+pub fn run_of(q: Option<Request>) -> (Told, Option<(Request, Geometry)>) {
+    let Some(q) = q else {
+        return (Told::apart("", MALFORMED), None);
+    };
     let (told, answer) = step(&q);
     let Some(g) = answer else {
         return (told, None);
@@ -54,6 +58,9 @@ pub fn judged(q: Request) -> (Told, Option<(Request, Geometry)>) {
     }
     if !time_fits(q.time(), g.features.bigtime) {
         return (Told { number: BAD_TIME, asked: false, ..told }, None);
+    }
+    if !profile(&q, &g) {
+        return (Told { number: OUTSIDE, asked: false, ..told }, None);
     }
     (told, Some((q, g)))
 }
@@ -197,6 +204,16 @@ fn list(out: Out, g: &Geometry) -> io::Result<()> {
     total(out, sums)
 }
 
+/// What the program prints of a request, which is none where its records are malformed.
+pub fn table(out: Out, q: Option<Request>) -> io::Result<Told> {
+    let (told, run) = run_of(q);
+    match run {
+        Some((_, g)) => list(out, &g)?,
+        None => writeln!(out, "refused {}", told.number)?,
+    }
+    Ok(told)
+}
+
 impl Mode for Planlist {
     fn case(&self, r: &mut Random) -> Vec<u8> {
         let q = few(r, GROUPS);
@@ -210,12 +227,7 @@ impl Mode for Planlist {
             total(out, [0; 5])?;
             return Ok(Told::apart("empty", 0));
         }
-        let (told, run) = accepted(case);
-        match run {
-            Some((_, g)) => list(out, &g)?,
-            None => writeln!(out, "refused {}", told.number)?,
-        }
-        Ok(told)
+        table(out, Request::parse(case))
     }
 
     fn show_case(&self, case: &[u8]) -> String {

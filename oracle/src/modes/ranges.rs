@@ -37,6 +37,7 @@ const BORDERS: [u64; 14] = [
 pub fn request(r: &mut Random) -> Request {
     loop {
         let mut q = runs::request(r);
+        wishes::with_profile(r, &mut q);
         if r.one_in(8) {
             q.label = Some(r.bytes(13));
         }

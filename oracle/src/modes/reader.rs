@@ -3,6 +3,8 @@
 
 use std::io;
 
+use mkfs_xfs::geometry::Geometry;
+
 use super::geometry::feature_bits;
 use super::plans::{accepted, few, plan, Planlist};
 use super::{Mode, Out, Told};
@@ -103,6 +105,15 @@ impl Mode for Reader {
     }
 }
 
+/// The line with the sizing that is reported of a run's disk.
+pub fn sizing(out: Out, q: &Request, g: &Geometry) -> io::Result<()> {
+    let sizing = match reported(q, g) {
+        Sizing::Plain => "plain",
+        Sizing::Roomy => "roomy",
+    };
+    writeln!(out, "log sizing: {sizing}")
+}
+
 /// Program readdisk on disks of the same runs: the answer is planlist's, and a line with the sizing that readdisk reports.
 pub struct Tables;
 
@@ -120,11 +131,7 @@ impl Mode for Tables {
     fn answer(&self, case: &[u8], out: Out) -> io::Result<Told> {
         let told = Planlist.answer(case, out)?;
         if let Some((q, g)) = accepted(case).1 {
-            let sizing = match reported(&q, &g) {
-                Sizing::Plain => "plain",
-                Sizing::Roomy => "roomy",
-            };
-            writeln!(out, "log sizing: {sizing}")?;
+            sizing(out, &q, &g)?;
         }
         Ok(told)
     }

@@ -5,7 +5,7 @@ use std::io;
 use mkfs_xfs::crc::crc32c;
 
 use super::geometry::feature_bits;
-use super::plans::{accepted, few, plan};
+use super::plans::{accepted, few, plan, run_of};
 use super::{Mode, Out, Told};
 use crate::frames::Fields;
 use crate::random::Random;
@@ -91,6 +91,17 @@ fn time_of(q: &Request) -> &'static str {
     }
 }
 
+/// What the program writes for a request, which is none where its records are malformed.
+pub fn list(out: Out, q: Option<Request>) -> io::Result<Told> {
+    let (told, run) = run_of(q);
+    let Some((q, g)) = run else {
+        writeln!(out, "refused {}", told.number)?;
+        return Ok(told);
+    };
+    formatted(&q, &g, Records(out))?;
+    Ok(Told { kind: by_block(g.blocksize), ..told })
+}
+
 impl Mode for Writelist {
     fn case(&self, r: &mut Random) -> Vec<u8> {
         loop {
@@ -110,13 +121,7 @@ impl Mode for Writelist {
     }
 
     fn answer(&self, case: &[u8], out: Out) -> io::Result<Told> {
-        let (told, run) = accepted(case);
-        let Some((q, g)) = run else {
-            writeln!(out, "refused {}", told.number)?;
-            return Ok(told);
-        };
-        formatted(&q, &g, Records(out))?;
-        Ok(Told { kind: by_block(g.blocksize), ..told })
+        list(out, Request::parse(case))
     }
 
     fn replayed(&self, case: &[u8]) -> Option<Vec<u8>> {
