@@ -144,6 +144,30 @@ tooManyRecords = 34
 abbrev pub sunitTooLarge : ℕ
 sunitTooLarge = 35
 
+-- the smallest device size is above the largest, or they lie more than 65,536 blocks apart
+abbrev pub badRange : ℕ
+badRange = 36
+
+-- a rule of the scan station profile fails
+abbrev pub notInProfile : ℕ
+notInProfile = 37
+
+-- no size that is formatted has so many free blocks
+abbrev pub noneReaches : ℕ
+noneReaches = 38
+
+-- the number of sizes to try is 0 or above 65,536, or the last doesn't fit 64 bits
+abbrev pub badSizes : ℕ
+badSizes = 39
+
+-- a disk's list doesn't fit what is left of the staging area
+abbrev pub areaTooSmall : ℕ
+areaTooSmall = 40
+
+-- more than 16 disks for a cabinet
+abbrev pub tooManyDisks : ℕ
+tooManyDisks = 41
+
 -- a run to hold is empty or not wholly free
 abbrev pub notHoldable : ℕ
 notHoldable = 42

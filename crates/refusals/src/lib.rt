@@ -107,6 +107,24 @@ pub const TOO_MANY_RECORDS: u32 = 34;
 // A log stripe unit is above 16,384 bytes.
 pub const SUNIT_TOO_LARGE: u32 = 35;
 
+// The smallest device size is above the largest, or they lie more than 65,536 blocks apart.
+pub const BAD_RANGE: u32 = 36;
+
+// A rule of the scan station profile fails.
+pub const NOT_IN_PROFILE: u32 = 37;
+
+// No size that is formatted has so many free blocks.
+pub const NONE_REACHES: u32 = 38;
+
+// The number of sizes to try is 0 or above 65,536, or the last doesn't fit 64 bits.
+pub const BAD_SIZES: u32 = 39;
+
+// A disk's list doesn't fit what is left of the staging area.
+pub const AREA_TOO_SMALL: u32 = 40;
+
+// More than 16 disks for a cabinet.
+pub const TOO_MANY_DISKS: u32 = 41;
+
 // A run to hold is empty or not wholly free.
 pub const NOT_HOLDABLE: u32 = 42;
 
