@@ -77,21 +77,21 @@ fn say_key(key: usize) {
 }
 
 // What a word is expected to be.
-fn say_expected(number: u8) {
-    if number == request_words::words::UNKNOWN {
+fn say_expected(number: u32) {
+    if number == request_words::words::UNKNOWN as u32 {
         say(
             b": unknown; expected size= logical= physical= use= block= sector= inode= agcount= agsize= imaxpct= label= uuid= seed= time= nanoseconds= features= sizing=\n",
         );
     }
-    if number == request_words::words::TWICE {
+    if number == request_words::words::TWICE as u32 {
         say(b": its name stands again behind it; expected once\n");
     }
-    if number == request_words::texts::MALFORMED {
+    if number == request_words::texts::MALFORMED as u32 {
         say(
             b": malformed; expected a number with K, M, G, T, P, E or nothing behind it, uuid=none or 36 characters, features=all, none or +rmapbt,-reflink,.., sizing=plain or roomy\n",
         );
     }
-    if number == request_words::texts::TOO_LARGE {
+    if number == request_words::texts::TOO_LARGE as u32 {
         say(
             b": too large; expected at most 12 bytes of a label, 255 of imaxpct, 4294967295 of block, sector, inode, logical, physical and nanoseconds, 18446744073709551615 else\n",
         );
@@ -101,7 +101,7 @@ fn say_expected(number: u8) {
 // Which word is refused, and why.
 fn explain(made: Made) {
     say(b"mkrequest: ");
-    if made.number == request_words::words::MISSING {
+    if made.number == request_words::words::MISSING as u32 {
         say_key(made.index);
         say(b" is missing\n");
         return;

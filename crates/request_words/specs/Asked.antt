@@ -6,6 +6,7 @@ use mathlib.Core.Path.{_≡_}
 use Prim.Native.Nat.{ℕ, zero, suc, _+_, _-_, _*_, _%_, _≤_, min}
 use lib.Dec.{ltb, leb, eqb}
 use lib.ListN.{length, getD}
+use Rattle.refusals.specs.Numbers.{wrongLength}
 use Rattle.arith.specs.Choice.{when}
 use Rattle.seqs.specs.Lists.{choose}
 use Rattle.endian.specs.Bytes.{patch}
@@ -74,19 +75,15 @@ longest = 183
 
 -- ---- the answer
 
--- the buffer hasn't `longest` bytes
-abbrev pub noRoom : ℕ
-noRoom = 27
-
 abbrev pub made : ℕ → ℕ → ℕ → Made
 made number index length = record { number = number; index = index; length = length }
 
--- number 0 and the records' length; or what is wrong, and then no byte of the buffer has changed
+-- number 0 and the records' length; or 27 for a buffer of fewer than `longest` bytes, or what is wrong, and then no byte of the buffer has changed
 abbrev pub answerOf : Verdict → List ℕ → List ℕ → Made
 answerOf v xs old =
     choose (leb longest (length old))
     (choose (eqb (v .number) 0) (made 0 0 (length (wordsRequest xs))) (made (v .number) (v .index) 0))
-    (made noRoom 0 0)
+    (made wrongLength 0 0)
 
 abbrev pub leftOf : Verdict → List ℕ → List ℕ → List ℕ
 leftOf v xs old = choose (leb longest (length old)) (choose (eqb (v .number) 0) (patch 0 (wordsRequest xs) old) old) old

@@ -38,7 +38,7 @@ pub struct Verdict {
 
 // The records that words ask for: `number` is 0 beside their length; or says what is wrong, with which word, or, of a missing one, its key.
 pub struct Made {
-    pub number: u8,
+    pub number: u32,
     pub index: usize,
     pub length: usize,
 }

@@ -200,7 +200,7 @@ pub fn make_records(words: &[u8], buf: &mut [u8]) -> Made
 {
     if buf.len() < LONGEST {
         return Made {
-            number: 27,
+            number: refusals::WRONG_LENGTH,
             index: 0,
             length: 0,
         };
@@ -208,7 +208,7 @@ pub fn make_records(words: &[u8], buf: &mut [u8]) -> Made
     let v = verdict(words);
     if v.number != 0 {
         return Made {
-            number: v.number,
+            number: v.number as u32,
             index: v.index,
             length: 0,
         };

@@ -13,7 +13,7 @@ verdict-requires : tie.Need-verdict-requires
 verdict-requires c κs = search needs
 
 returns-2 : tie.Need-returns-2
-returns-2 c = makes-wrong _ _ (omega arith) _ (c .before .before .verdict .ensures) (c .if2 .taken)
+returns-2 c = makes-wrong _ _ (omega arith) _ (c .before .before .before .verdict .ensures) (c .before .if2 .taken)
 
 put-records-requires : tie.Need-put-records-requires
 put-records-requires c κs = search needs
@@ -27,4 +27,4 @@ returns-3 c = makes-records _ _ (omega arith) _ (c .before .before .before .befo
 pub make-records-spec : {M : Type 1} → statement M
 make-records-spec =
     tie.close
-    (tie.spec returns verdict-requires returns-2 put-records-requires same-length returns-3)
+    (tie.spec returns verdict-requires (λ c. search needs) returns-2 put-records-requires same-length returns-3)
