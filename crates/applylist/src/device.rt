@@ -2,8 +2,8 @@
 ghost use Prim.Native.Nat.{_≤_};
 ghost use lib.ListN.{length};
 use libc::SEEK_SET;
-use request_words::texts::decimal;
-use request_words::texts::leading;
+use request_texts::decimal;
+use request_texts::leading;
 
 // What lseek is asked for the next hole, and what it answers for a device.
 const SEEK_HOLE: i32 = 4;

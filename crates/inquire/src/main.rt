@@ -8,7 +8,7 @@ use libc::STDERR_FILENO;
 use libc::STDIN_FILENO;
 use libc::STDOUT_FILENO;
 use plan_holds::Holds;
-use request_words::Value;
+use request_texts::Value;
 use table_lines::Written;
 
 // The index of GROUP among the words, and that of the first call.
@@ -41,7 +41,7 @@ fn take_word(i: usize, word: &mut [u8]) -> usize
 fn asks_holds() -> bool {
     let mut word = io::buffer();
     let n = take_word(1, &mut word);
-    request_words::texts::pack(&word[..n]) == HOLDS
+    request_texts::pack(&word[..n]) == HOLDS
 }
 
 fn group() -> Value {

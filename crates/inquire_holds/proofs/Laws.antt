@@ -10,7 +10,7 @@ use lib.ListN.{length, take, drop, length-drop}
 use lib.Seq.{take-all}
 use native.Mathlib.Nat.{le-of-eq}
 use Rattle.seqs.specs.Lists.{fold}
-use Rattle.request_words.specs.Texts.{letter, named, packed, leading, within, malformed}
+use Rattle.request_texts.specs.Texts.{letter, named, packed, leading, within, malformed}
 use Rattle.inquire_holds.specs.Words.{holdName, releaseName, numberAlone}
 
 pub hold-name : holdName ≡ 426207

@@ -7,8 +7,8 @@ use lib.Dec.{ltb, eqb}
 use lib.ListN.{length, take, drop, getD}
 use Rattle.seqs.specs.Lists.{choose}
 use Rattle.table_lines.specs.Decimal.{valueAfter}
-use Rattle.request_words.specs.declared.Value.{Value}
-use Rattle.request_words.specs.Texts.{packed, leading, within, malformed}
+use Rattle.request_texts.specs.declared.Value.{Value}
+use Rattle.request_texts.specs.Texts.{packed, leading, within, malformed}
 use Rattle.inquire_holds.specs.declared.Call.{Call}
 
 -- digits, one at least, and nothing else; a number of more than 64 bits is too large

@@ -6,11 +6,11 @@ ghost use lib.ListN.{length};
 ghost use Rattle.inquire_holds.specs.Words.{numberAlone, noCall, calledWith, runIn, wordIs, callIn};
 use crate::Call;
 use arith::choice::both;
-use request_words::Value;
-use request_words::texts::MALFORMED;
-use request_words::texts::decimal;
-use request_words::texts::leading;
-use request_words::texts::pack;
+use request_texts::MALFORMED;
+use request_texts::Value;
+use request_texts::decimal;
+use request_texts::leading;
+use request_texts::pack;
 
 // The names `hold` and `release` as numbers.
 const HOLD: u64 = 426207;

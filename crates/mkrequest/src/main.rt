@@ -86,12 +86,12 @@ fn say_expected(number: u32) {
     if number == request_words::words::TWICE as u32 {
         say(b": its name stands again behind it; expected once\n");
     }
-    if number == request_words::texts::MALFORMED as u32 {
+    if number == request_texts::MALFORMED as u32 {
         say(
             b": malformed; expected a number with K, M, G, T, P, E or nothing behind it, uuid=none or 36 characters, features=all, none or +rmapbt,-reflink,.., sizing=plain or roomy\n",
         );
     }
-    if number == request_words::texts::TOO_LARGE as u32 {
+    if number == request_texts::TOO_LARGE as u32 {
         say(
             b": too large; expected at most 12 bytes of a label, 255 of imaxpct, 4294967295 of block, sector, inode, logical, physical and nanoseconds, 18446744073709551615 else\n",
         );

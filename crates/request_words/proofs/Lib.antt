@@ -1,4 +1,3 @@
-pub mod Saying
 pub mod Valuing
 pub mod Wording
 pub mod Writing

@@ -11,11 +11,11 @@ use lib.ListN.{length, getD, drop, List·getD-eq-default}
 use borrow.Author.Tests.{lt-ltb, le-ltb, le-leb, lt-leb, eq-eqb, ne-eqb}
 use Rattle.arith.specs.Choice.{when}
 use Rattle.seqs.specs.Lists.{choose}
-use Rattle.request_words.specs.declared.Value.{Value}
+use Rattle.request_texts.specs.declared.Value.{Value}
 use Rattle.request_words.specs.declared.Names.{Names}
-use Rattle.request_words.specs.Texts.{good, malformed, tooLarge, named, packed, numberIn}
+use Rattle.request_texts.specs.Texts.{good, malformed, tooLarge, named, packed, numberIn}
 use Rattle.request_words.specs.Values.{indexIn, names, largest, featureNames, weights, noFeatures, turned, read, finished, nextByte, listed, none, all, featuresIn, sizings, sizingIn, hex, isDash, fitsAt, shaped, uuidIn, valueIn, limited}
-use Rattle.request_words.proofs.Saying.{rest-cons, rest-nil}
+use Rattle.request_texts.proofs.Saying.{rest-cons, rest-nil}
 
 -- ---- tables
 pub no-weight : (bit : ℕ) → 7 ≤ bit → 0 ≡ getD weights bit 0

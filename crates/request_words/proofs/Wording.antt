@@ -11,10 +11,10 @@ use Rattle.endian.specs.Fields.{part}
 use borrow.Author.Tests.{lt-ltb, le-ltb, eq-eqb, ne-eqb, ltb-true}
 use Rattle.seqs.specs.Lists.{choose, firstIndex}
 use Rattle.seqs.proofs.Laws.{choose-elim}
-use Rattle.request_words.specs.declared.Value.{Value}
+use Rattle.request_texts.specs.declared.Value.{Value}
 use Rattle.request_words.specs.declared.Word.{Word}
 use Rattle.request_words.specs.declared.Verdict.{Verdict}
-use Rattle.request_words.specs.Texts.{packed}
+use Rattle.request_texts.specs.Texts.{packed}
 use Rattle.request_words.specs.Values.{indexIn, names, valueIn, limited}
 use Rattle.request_words.specs.Words.{unknown, twice, missing, noKey, placeOf, word, noWord, withValue, meant, wordBy, wordAt, more, split, wordsFrom, lookup, given, verdict, judged, complete, verdictOf}
 

@@ -18,11 +18,11 @@ use Rattle.endian.specs.Fields.{part, run, write, table}
 use Rattle.endian.proofs.Laws.{patch-append, length-be, length-patch}
 use Rattle.endian.proofs.Order.{trade}
 use Rattle.request.specs.Cases.{dv, op, lb, id}
-use Rattle.request_words.specs.declared.Value.{Value}
+use Rattle.request_texts.specs.declared.Value.{Value}
 use Rattle.request_words.specs.declared.Word.{Word}
 use Rattle.request_words.specs.declared.Verdict.{Verdict}
 use Rattle.request_words.specs.declared.Made.{Made}
-use Rattle.request_words.specs.Texts.{packed}
+use Rattle.request_texts.specs.Texts.{packed}
 use Rattle.request_words.specs.Values.{indexIn, names, largest, valueIn, limited}
 use Rattle.request_words.specs.Words.{noWord, placeOf, meant, wordBy, wordAt, more, split, wordsFrom, lookup, given, verdictOf}
 use Rattle.request_words.specs.Asked.{digitsAt, pairAt, pairs, deviceRecord, optionRecord, optionRecords, labelText, labelRecord, uuidRecord, recordsOf, wordsRequest, made, Puts, Makes}

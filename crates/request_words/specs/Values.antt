@@ -7,8 +7,8 @@ use lib.Dec.{leb, ltb, eqb}
 use lib.ListN.{length, getD}
 use Rattle.arith.specs.Choice.{when}
 use Rattle.seqs.specs.Lists.{choose, firstIndex, fold}
-use Rattle.request_words.specs.Texts.{good, malformed, tooLarge, named, packed, numberIn}
-use Rattle.request_words.specs.declared.Value.{Value}
+use Rattle.request_texts.specs.Texts.{good, malformed, tooLarge, named, packed, numberIn}
+use Rattle.request_texts.specs.declared.Value.{Value}
 use Rattle.request_words.specs.declared.Names.{Names}
 
 -- where a name stands in a table of names; the table's length where it doesn't

@@ -7,9 +7,9 @@ use lib.Dec.{ltb, eqb}
 use lib.ListN.{length, drop}
 use Rattle.endian.specs.Fields.{part}
 use Rattle.seqs.specs.Lists.{choose, firstIndex}
-use Rattle.request_words.specs.Texts.{packed}
+use Rattle.request_texts.specs.Texts.{packed}
 use Rattle.request_words.specs.Values.{indexIn, names, valueIn, limited}
-use Rattle.request_words.specs.declared.Value.{Value}
+use Rattle.request_texts.specs.declared.Value.{Value}
 use Rattle.request_words.specs.declared.Word.{Word}
 use Rattle.request_words.specs.declared.Verdict.{Verdict}
 

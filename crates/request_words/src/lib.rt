@@ -1,16 +1,9 @@
 // Words such as `size=2T` to input records: what each word says, which words are refused, and the records that they ask for.
-pub mod texts; // a name, a number
 pub mod values; // what the text behind `=` gives
 pub mod words; // the words one by one
 pub mod records; // the records that they ask for
 
 pub use records::make_records;
-
-// What a text gives; `number` is 0, or says what is wrong beside the value 0.
-pub struct Value {
-    pub number: u8,
-    pub value: u64,
-}
 
 // What was read of a list of features: those so far, and the sign and name of the one that is being read.
 pub struct Names {

@@ -2,16 +2,17 @@
 ghost use mathlib.Core.Path.{_≡_};
 ghost use Prim.Native.Nat.{_≤_, _<_};
 ghost use lib.ListN.{length, getD};
-ghost use Rattle.request_words.specs.Texts.{good as goodDef, packed};
+ghost use Rattle.request_texts.specs.Texts.{good as goodDef, packed};
 ghost use Rattle.request_words.specs.Values.{indexIn, names, largest as largestDef, featureNames, weights, turned as turnedDef, finished as finishedDef, nextByte, listed as listedDef, featuresIn, sizings, sizingIn, hex as hexDef, isDash, fitsAt, shaped as shapedDef, uuidIn, valueIn, limited as limitedDef};
 use crate::Names;
-use crate::Value;
-use crate::texts::malformed;
-use crate::texts::number;
-use crate::texts::pack;
-use crate::texts::push;
-use crate::texts::too_large;
 use arith::choice::pick_u64;
+use request_texts::MALFORMED;
+use request_texts::TOO_LARGE;
+use request_texts::Value;
+use request_texts::number;
+use request_texts::pack;
+use request_texts::push;
+use request_texts::refused;
 
 // The keys that are no option's code, and the options whose text is no number.
 pub const LABEL: usize = 0;
@@ -217,7 +218,7 @@ fn features(text: &[u8]) -> Value
     if mask < NO_FEATURES {
         return good(mask);
     }
-    malformed()
+    refused(MALFORMED)
 }
 
 // The log's sizing, by its name.
@@ -228,7 +229,7 @@ fn sizing(text: &[u8]) -> Value
     if i < 2 {
         return good(i as u64);
     }
-    malformed()
+    refused(MALFORMED)
 }
 
 // The value of a hexadecimal digit; 16 of any other byte.
@@ -305,9 +306,9 @@ fn uuid(text: &[u8]) -> Value
         if shaped(text) {
             return good(1);
         }
-        return malformed();
+        return refused(MALFORMED);
     }
-    malformed()
+    refused(MALFORMED)
 }
 
 // The text's value, before its size is asked for; of a label it is the length.
@@ -347,5 +348,5 @@ pub(crate) fn value_of(key: usize, text: &[u8]) -> Value
     if v.value <= largest(key) {
         return v;
     }
-    too_large()
+    refused(TOO_LARGE)
 }

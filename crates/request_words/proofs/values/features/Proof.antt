@@ -1,7 +1,7 @@
 -- `request_words::values::features` meets its contract.
 -- Assumes nothing.
 use Rattle.seqs.specs.Lists.{fold}
-use Rattle.request_words.specs.Texts.{letter, named, packed}
+use Rattle.request_texts.specs.Texts.{letter, named, packed}
 use Rattle.request_words.proofs.Valuing.{features-none, features-all, features-listed, features-bad}
 use native.Mathlib.Omega.{arith}
 use mathlib.Core.Path.{_∙_}
@@ -36,12 +36,12 @@ returns-3 : tie.Need-returns-3
 unfolding packed named letter fold
 returns-3 c = c .good4 .ensures ∙ features-listed _ _ (c .before .before .before .before .before .pack .ensures) (c .before .before .before .before .if1 .left) (c .before .before .before .if2 .left) _ (c .before .before .listed .ensures) (c .before .if3 .taken)
 
-malformed-requires : tie.Need-malformed-requires
-malformed-requires c κs = search needs
+refused-requires : tie.Need-refused-requires
+refused-requires c κs = search needs
 
 returns-4 : tie.Need-returns-4
 unfolding packed named letter fold
-returns-4 c = c .malformed .ensures ∙ features-bad _ _ (c .before .before .before .before .before .pack .ensures) (c .before .before .before .before .if1 .left) (c .before .before .before .if2 .left) _ (c .before .before .listed .ensures) (omega arith)
+returns-4 c = c .refused .ensures ∙ features-bad _ _ (c .before .before .before .before .before .pack .ensures) (c .before .before .before .before .if1 .left) (c .before .before .before .if2 .left) _ (c .before .before .listed .ensures) (omega arith)
 
 pub features-spec : {M : Type 1} → statement M
 features-spec =
@@ -55,5 +55,5 @@ features-spec =
     listed-requires
     good-requires-3
     returns-3
-    malformed-requires
+    refused-requires
     returns-4)

@@ -1,7 +1,7 @@
 -- `request_words::values::finished` meets its contract.
 -- Assumes nothing.
 use Rattle.seqs.specs.Lists.{fold}
-use Rattle.request_words.specs.Texts.{letter, named, packed}
+use Rattle.request_texts.specs.Texts.{letter, named, packed}
 use Rattle.request_words.specs.Values.{featureNames, finished}
 use mathlib.Core.Path.{refl, _∙_}
 use borrow.Author.Needs.{needs}

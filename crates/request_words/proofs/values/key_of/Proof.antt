@@ -1,7 +1,7 @@
 -- `request_words::values::key_of` meets its contract.
 -- Assumes nothing.
 use Rattle.seqs.specs.Lists.{fold}
-use Rattle.request_words.specs.Texts.{letter, named, packed}
+use Rattle.request_texts.specs.Texts.{letter, named, packed}
 use Rattle.request_words.specs.Values.{names, indexIn}
 use Prim.Native.Nat.{ℕ}
 use mathlib.Core.Path.{ap, _∙_}

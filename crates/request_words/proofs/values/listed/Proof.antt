@@ -1,6 +1,6 @@
 -- `request_words::values::listed` meets its contract. Invariant: the bytes from i on make what is left of the list.
 -- Assumes nothing.
-use Rattle.request_words.proofs.Saying.{fold-turn, fold-done}
+use Rattle.request_texts.proofs.Saying.{fold-turn, fold-done}
 use Rattle.request_words.specs.Values.{nextByte, read, listed, finished}
 use Rattle.seqs.specs.Lists.{fold}
 use lib.ListN.{length, drop}

@@ -16,12 +16,12 @@ largest-requires c κs = search needs
 returns : tie.Need-returns
 returns c = limited-is _ _ _ (c .before .before .before .value-in .ensures) _ (c .before .before .largest .ensures) (c .if1 .taken)
 
-too-large-requires : tie.Need-too-large-requires
-too-large-requires c κs = search needs
+refused-requires : tie.Need-refused-requires
+refused-requires c κs = search needs
 
 returns-2 : tie.Need-returns-2
-returns-2 c = c .too-large .ensures ∙ limited-not _ (c .before .before .before .before .value-in .result) _ (c .before .before .before .before .value-in .ensures) _ (c .before .before .before .largest .ensures) (omega arith)
+returns-2 c = c .refused .ensures ∙ limited-not _ (c .before .before .before .before .value-in .result) _ (c .before .before .before .before .value-in .ensures) _ (c .before .before .before .largest .ensures) (omega arith)
 
 pub value-of-spec : {M : Type 1} → statement M
 value-of-spec =
-    tie.close (tie.spec value-in-requires largest-requires returns too-large-requires returns-2)
+    tie.close (tie.spec value-in-requires largest-requires returns refused-requires returns-2)

@@ -1,6 +1,6 @@
 -- `request_words::words::place_of` meets its contract. Invariant: the byte stands at i or later.
 -- Assumes nothing.
-use Rattle.request_words.proofs.Saying.{index-here, index-later, index-past}
+use Rattle.request_texts.proofs.Saying.{index-here, index-later, index-past}
 use Rattle.request_words.specs.Words.{placeOf}
 use Rattle.seqs.specs.Lists.{firstIndex}
 use lib.ListN.{length, drop}

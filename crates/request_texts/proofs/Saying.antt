@@ -13,8 +13,8 @@ use lib.Seq.{drop-cons}
 use borrow.Author.Tests.{lt-ltb, le-ltb, le-leb, lt-leb, eq-eqb, ne-eqb, ltb-true, ltb-false}
 use Rattle.seqs.specs.Lists.{choose, firstIndex, fold}
 use Rattle.table_lines.specs.Decimal.{valueAfter}
-use Rattle.request_words.specs.declared.Value.{Value}
-use Rattle.request_words.specs.Texts.{said, good, malformed, tooLarge, within, letter, notName, named, packed, isDigit, leading, suffix, factor, numberIn}
+use Rattle.request_texts.specs.declared.Value.{Value}
+use Rattle.request_texts.specs.Texts.{said, good, malformed, tooLarge, within, letter, notName, named, packed, isDigit, leading, suffix, factor, numberIn}
 
 -- ---- the rest of a list, from index i on
 module _ {A : Type 0} (xs : List A) (z : A) (i : ℕ) where

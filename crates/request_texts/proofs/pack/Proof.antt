@@ -1,14 +1,14 @@
--- `request_words::texts::pack` meets its contract. Invariant: the bytes from i on make what is left of the number.
+-- `request_texts::pack` meets its contract. Invariant: the bytes from i on make what is left of the number.
 -- Assumes nothing.
-use Rattle.request_words.proofs.Saying.{fold-turn, fold-done}
-use Rattle.request_words.specs.Texts.{named, packed}
+use Rattle.request_texts.proofs.Saying.{fold-turn, fold-done}
+use Rattle.request_texts.specs.Texts.{named, packed}
 use Rattle.seqs.specs.Lists.{fold}
 use lib.ListN.{length, drop}
 use native.Mathlib.Omega.{arith}
 use Prim.Native.Nat.{_-_, _≤_}
 use mathlib.Core.Path.{_≡_, refl, sym, _∙_}
-use Rattle.request_words.proofs.texts.pack.Statement.{statement}
-use Rattle.request_words.proofs.texts.pack.Tie as tie
+use Rattle.request_texts.proofs.pack.Statement.{statement}
+use Rattle.request_texts.proofs.pack.Tie as tie
 
 abbrev Inv-loop : tie.InvT-loop
 Inv-loop name v₀ i₀ v i = (packed name ≡ fold named v (drop i name)) × (i ≤ length name)

@@ -1,10 +1,10 @@
--- `request_words::texts::push` meets its contract.
+-- `request_texts::push` meets its contract.
 -- Assumes nothing.
-use Rattle.request_words.proofs.Saying.{named-more, named-other, named-long}
+use Rattle.request_texts.proofs.Saying.{named-more, named-other, named-long}
 use native.Mathlib.Omega.{arith}
 use borrow.Author.Needs.{needs}
-use Rattle.request_words.proofs.texts.push.Statement.{statement}
-use Rattle.request_words.proofs.texts.push.Tie as tie
+use Rattle.request_texts.proofs.push.Statement.{statement}
+use Rattle.request_texts.proofs.push.Tie as tie
 
 letter-requires : tie.Need-letter-requires
 letter-requires c κs = search needs

@@ -1,10 +1,10 @@
--- `request_words::texts::letter` meets its contract.
+-- `request_texts::letter` meets its contract.
 -- Assumes nothing.
-use Rattle.request_words.proofs.Saying.{letter-above, letter-small, letter-between, letter-digit, letter-below}
+use Rattle.request_texts.proofs.Saying.{letter-above, letter-small, letter-between, letter-digit, letter-below}
 use native.Mathlib.Omega.{arith}
 use borrow.Author.Needs.{needs}
-use Rattle.request_words.proofs.texts.letter.Statement.{statement}
-use Rattle.request_words.proofs.texts.letter.Tie as tie
+use Rattle.request_texts.proofs.letter.Statement.{statement}
+use Rattle.request_texts.proofs.letter.Tie as tie
 
 wide-requires : tie.Need-wide-requires
 wide-requires c κs = search needs

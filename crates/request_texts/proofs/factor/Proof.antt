@@ -1,11 +1,11 @@
--- `request_words::texts::factor` meets its contract.
+-- `request_texts::factor` meets its contract.
 -- Assumes nothing.
-use Rattle.request_words.proofs.Saying.{factor-none, factor-one, factor-more}
+use Rattle.request_texts.proofs.Saying.{factor-none, factor-one, factor-more}
 use native.Mathlib.Omega.{arith}
 use mathlib.Core.Path.{_∙_}
 use borrow.Author.Needs.{needs}
-use Rattle.request_words.proofs.texts.factor.Statement.{statement}
-use Rattle.request_words.proofs.texts.factor.Tie as tie
+use Rattle.request_texts.proofs.factor.Statement.{statement}
+use Rattle.request_texts.proofs.factor.Tie as tie
 
 sub-left : tie.Need-sub-left
 sub-left c = search needs

@@ -1,13 +1,13 @@
--- `request_words::texts::decimal` meets its contract. Invariant: the digits from i on make what is left of the number, which fits so far.
+-- `request_texts::decimal` meets its contract. Invariant: the digits from i on make what is left of the number, which fits so far.
 -- Assumes nothing.
-use Rattle.request_words.proofs.Saying.{value-turn, value-done, value-over, within-over, within-is}
+use Rattle.request_texts.proofs.Saying.{value-turn, value-done, value-over, within-over, within-is}
 use Rattle.table_lines.specs.Decimal.{valueAfter}
 use lib.ListN.{length, drop}
 use native.Mathlib.Omega.{arith}
 use Prim.Native.Nat.{_-_, _≤_, _<_}
 use mathlib.Core.Path.{_≡_, refl, sym, _∙_}
-use Rattle.request_words.proofs.texts.decimal.Statement.{statement}
-use Rattle.request_words.proofs.texts.decimal.Tie as tie
+use Rattle.request_texts.proofs.decimal.Statement.{statement}
+use Rattle.request_texts.proofs.decimal.Tie as tie
 
 abbrev Inv-loop : tie.InvT-loop
 Inv-loop digits v₀ i₀ v i = (valueAfter 0 digits ≡ valueAfter v (drop i digits)) × (i ≤ length digits) × (v < 18446744073709551616)
@@ -30,11 +30,11 @@ minus-requires c κs = tt
 sub-if1 : tie.Need-sub-if1 Inv-loop μ-loop
 sub-if1 c = omega (arith, c .before .before .shared-slice-known2 .given (c .before .before .before .before .loop .i))
 
-too-large-requires : tie.Need-too-large-requires Inv-loop μ-loop
-too-large-requires c κs = tt
+refused-requires : tie.Need-refused-requires Inv-loop μ-loop
+refused-requires c κs = tt
 
 returns : tie.Need-returns Inv-loop μ-loop
-returns c = c .too-large .ensures ∙ within-over (valueAfter 0 (c .before .before .before .before .before .before .before .before .args .digits .now)) (let h = value-over (c .before .before .before .before .before .before .loop .v) (c .before .before .before .before .before .before .before .before .args .digits .now) (c .before .before .before .before .before .before .loop .i) (omega arith) (omega arith) in omega arith)
+returns c = c .refused .ensures ∙ within-over (valueAfter 0 (c .before .before .before .before .before .before .before .before .args .digits .now)) (let h = value-over (c .before .before .before .before .before .before .loop .v) (c .before .before .before .before .before .before .before .before .args .digits .now) (c .before .before .before .before .before .before .loop .i) (omega arith) (omega arith) in omega arith)
 
 mul-v : tie.Need-mul-v Inv-loop μ-loop
 mul-v c = omega arith
@@ -65,7 +65,7 @@ decimal-spec =
     wide-requires
     minus-requires
     sub-if1
-    too-large-requires
+    refused-requires
     returns
     mul-v
     add-v

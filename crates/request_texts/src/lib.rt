@@ -3,8 +3,13 @@ ghost use mathlib.Core.Path.{_≡_};
 ghost use Prim.Native.Nat.{_+_, _-_, _≤_, _<_, _^_};
 ghost use lib.ListN.{length, drop};
 ghost use Rattle.table_lines.specs.Decimal.{valueAfter};
-ghost use Rattle.request_words.specs.Texts.{malformed as malformedDef, tooLarge, within, letter as letterDef, named, packed, leading as leadingDef, suffix as suffixDef, factor as factorDef, numberIn};
-use crate::Value;
+ghost use Rattle.request_texts.specs.Texts.{said, within, letter as letterDef, named, packed, leading as leadingDef, suffix as suffixDef, factor as factorDef, numberIn};
+
+// What a text gives; `number` is 0, or says what is wrong beside the value 0.
+pub struct Value {
+    pub number: u8,
+    pub value: u64,
+}
 
 // A text that isn't what its word asks for.
 pub const MALFORMED: u8 = 3;
@@ -18,22 +23,11 @@ const LONG: u64 = 0x400_0000_0000_0000;
 // The number of what is no name.
 const NOT_A_NAME: u64 = 0x8000_0000_0000_0000;
 
-pub(crate) fn malformed() -> Value
-    ensures { λ r. ⌜ r ≡ malformedDef ⌝ }
+// What is wrong with a text, beside the value 0.
+pub fn refused(number: u8) -> Value
+    ensures { λ r. ⌜ r ≡ said number 0 ⌝ }
 {
-    Value {
-        number: MALFORMED,
-        value: 0,
-    }
-}
-
-pub(crate) fn too_large() -> Value
-    ensures { λ r. ⌜ r ≡ tooLarge ⌝ }
-{
-    Value {
-        number: TOO_LARGE,
-        value: 0,
-    }
+    Value { number, value: 0 }
 }
 
 // A small letter or a digit as a digit of base 37, from 1 on; 0 for any other byte.
@@ -57,7 +51,7 @@ fn letter(b: u8) -> u64
 }
 
 // A name with one byte more.
-pub(crate) fn push(v: u64, b: u8) -> u64
+pub fn push(v: u64, b: u8) -> u64
     ensures { λ r. ⌜ r ≡ named v b ⌝ }
 {
     let d = letter(b);
@@ -110,7 +104,7 @@ pub fn decimal(digits: &[u8]) -> Value
     while i < digits.len() {
         let d = arith::numbers::minus(endian::numbers::wide(digits[i]), 48);
         if (0xffff_ffff_ffff_ffff - d) / 10 < v {
-            return too_large();
+            return refused(TOO_LARGE);
         }
         v = v * 10 + d;
         i += 1;
@@ -149,20 +143,20 @@ fn factor(text: &[u8], n: usize) -> u64
 }
 
 // A number with a suffix or none.
-pub(crate) fn number(text: &[u8]) -> Value
+pub fn number(text: &[u8]) -> Value
     ensures { λ r. ⌜ r ≡ numberIn (now (text .entry)) ⌝ }
 {
     let n = leading(text);
     if n == 0 {
-        return malformed();
+        return refused(MALFORMED);
     }
     let m = factor(text, n);
     if m == 0 {
-        return malformed();
+        return refused(MALFORMED);
     }
     let v = decimal(&text[..n]);
     if v.number != 0 {
-        return too_large();
+        return refused(TOO_LARGE);
     }
     if arith::numbers::product_fits(v.value, m) {
         return Value {
@@ -170,5 +164,5 @@ pub(crate) fn number(text: &[u8]) -> Value
             value: v.value * m,
         };
     }
-    too_large()
+    refused(TOO_LARGE)
 }

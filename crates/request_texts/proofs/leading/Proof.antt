@@ -1,15 +1,15 @@
--- `request_words::texts::leading` meets its contract. Invariant: what comes before i is digits.
+-- `request_texts::leading` meets its contract. Invariant: what comes before i is digits.
 -- Assumes nothing.
-use Rattle.request_words.proofs.Saying.{index-here, index-later, index-past, digit-low, digit-high, digit-is}
-use Rattle.request_words.specs.Texts.{isDigit, leading}
+use Rattle.request_texts.proofs.Saying.{index-here, index-later, index-past, digit-low, digit-high, digit-is}
+use Rattle.request_texts.specs.Texts.{isDigit, leading}
 use Rattle.seqs.specs.Lists.{firstIndex}
 use mathlib.Core.Bool.{not}
 use lib.ListN.{length, drop, getD}
 use native.Mathlib.Omega.{arith}
 use Prim.Native.Nat.{_+_, _-_, _≤_}
 use mathlib.Core.Path.{_≡_, sym, _∙_}
-use Rattle.request_words.proofs.texts.leading.Statement.{statement}
-use Rattle.request_words.proofs.texts.leading.Tie as tie
+use Rattle.request_texts.proofs.leading.Statement.{statement}
+use Rattle.request_texts.proofs.leading.Tie as tie
 
 abbrev Inv-loop : tie.InvT-loop
 Inv-loop text i₀ i = (leading text ≡ i + firstIndex (λ b. not (isDigit b)) (drop i text)) × (i ≤ length text)

@@ -8,7 +8,7 @@ use lib.ListN.{take, drop}
 use Rattle.arith.specs.Choice.{when}
 use Rattle.seqs.specs.Lists.{choose, firstIndex, fold}
 use Rattle.table_lines.specs.Decimal.{valueAfter}
-use Rattle.request_words.specs.declared.Value.{Value}
+use Rattle.request_texts.specs.declared.Value.{Value}
 
 -- ---- what a text gives: a value, or the number of what is wrong with it
 

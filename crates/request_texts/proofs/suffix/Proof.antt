@@ -1,10 +1,10 @@
--- `request_words::texts::suffix` meets its contract.
+-- `request_texts::suffix` meets its contract.
 -- Assumes nothing.
-use Rattle.request_words.specs.Texts.{suffix}
+use Rattle.request_texts.specs.Texts.{suffix}
 use mathlib.Core.Path.{refl}
 use borrow.Author.Needs.{needs}
-use Rattle.request_words.proofs.texts.suffix.Statement.{statement}
-use Rattle.request_words.proofs.texts.suffix.Tie as tie
+use Rattle.request_texts.proofs.suffix.Statement.{statement}
+use Rattle.request_texts.proofs.suffix.Tie as tie
 
 pick-u64-requires : tie.Need-pick-u64-requires
 pick-u64-requires c κs = search needs
