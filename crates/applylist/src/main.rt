@@ -11,7 +11,7 @@ ghost use mathlib.Core.Path.{_≡_};
 ghost use Prim.Native.Nat.{_≤_};
 ghost use lib.ListN.{length};
 ghost use Rattle.list_apply.specs.Applying.{begun};
-ghost use Rattle.list_apply.specs.Turns.{Fed};
+ghost use Rattle.list_apply_laws.specs.Turns.{Fed};
 use libc::SEEK_END;
 use libc::STDERR_FILENO;
 use libc::STDOUT_FILENO;

@@ -10,9 +10,9 @@ use Rattle.list_records.specs.Records.{Record, WZ, WB, FL, All}
 use Rattle.list_records.specs.Device.{Fits}
 use Rattle.list_read.specs.Records.{largest}
 use Rattle.list_read.proofs.Heads.{ends-within}
-use Rattle.list_apply.specs.Lists.{Within, Applies}
+use Rattle.list_apply_laws.specs.Lists.{Within, Applies}
 use Rattle.list_apply.proofs.Steps.{limit-kept}
-use Rattle.list_apply.proofs.Applied.{list-applied}
+use Rattle.list_apply_laws.proofs.Applied.{list-applied}
 use Rattle.request.specs.declared.Request.{Request}
 use Rattle.run.specs.Runs.{runOf}
 use Rattle.list_spec.specs.Listing.{listOf}

@@ -4,8 +4,8 @@ use mathlib.Core.Path.{_≡_, refl}
 use native.Mathlib.Omega.{arith}
 use lib.ListN.{length}
 use borrow.Author.Needs.{needs}
-use Rattle.list_apply.proofs.Turns.{none-fed, more-fed, same-fed}
-use Rattle.list_apply.specs.Turns.{Fed}
+use Rattle.list_apply_laws.proofs.Turns.{none-fed, more-fed, same-fed}
+use Rattle.list_apply_laws.specs.Turns.{Fed}
 use Rattle.applylist.proofs.apply.Statement.{statement}
 use Rattle.applylist.proofs.apply.Tie as tie
 

@@ -4,7 +4,7 @@ use mathlib.Core.Path.{sym, ap}
 use lib.Seq.{length-take-le}
 use borrow.Author.Needs.{needs}
 use Rattle.list_apply.specs.declared.Step.{Step}
-use Rattle.list_apply.proofs.Turns.{none-fed, one-fed}
+use Rattle.list_apply_laws.proofs.Turns.{none-fed, one-fed}
 use Rattle.applylist.proofs.feed_first.Statement.{statement}
 use Rattle.applylist.proofs.feed_first.Tie as tie
 

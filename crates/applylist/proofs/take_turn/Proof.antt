@@ -3,7 +3,7 @@
 use mathlib.Core.Path.{refl}
 use native.Mathlib.Omega.{arith}
 use borrow.Author.Needs.{needs}
-use Rattle.list_apply.proofs.Turns.{none-fed, same-fed}
+use Rattle.list_apply_laws.proofs.Turns.{none-fed, same-fed}
 use Rattle.applylist.proofs.take_turn.Statement.{statement}
 use Rattle.applylist.proofs.take_turn.Tie as tie
 

@@ -15,9 +15,9 @@ use Rattle.list_records.specs.Records.{Record, WZ, WB, FL}
 use Rattle.list_records.specs.Device.{Device, at, len, byte, step, applied}
 use Rattle.list_records.proofs.Applying.{step-hit, step-miss}
 use Rattle.list_read.specs.Records.{zeros, bytes}
 use Rattle.list_apply.specs.declared.Applying.{Applying as State}
 use Rattle.list_apply.specs.Applying.{goesOn, past, state, followingOf, headNext, wantedOf, putPiece, fedBytes, fed}
-use Rattle.list_apply.specs.Lists.{Point, point, asked, turnOn, Reach}
+use Rattle.list_apply_laws.specs.Lists.{Point, point, asked, turnOn, Reach}
 
 -- ---- two records that lie one behind the other, and one that does the same
 module _ (r p q : Record) (d : Device) (first : at p ≡ at r) (second : at q ≡ at r + len p) (both : len p + len q ≡ len r)

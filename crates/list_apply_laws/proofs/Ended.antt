@@ -12,10 +12,10 @@ use Rattle.seqs.specs.Lists.{choose, fold}
 use Rattle.list_read.specs.Records.{zeros, decodeDef}
 use Rattle.list_read.specs.Flushes.{nextDef, endedDef}
 use Rattle.list_read.proofs.Ending.{cut-end}
 use Rattle.list_apply.specs.declared.Applying.{Applying as State}
 use Rattle.list_apply.specs.declared.Step.{Step}
 use Rattle.list_apply.specs.Applying.{goesOn, ended, cut, held, begun, headNext, headSize, pieceOf, stoppedBy, endedBy, takenUp, waitsDef, heldBack, released, acceptedBy, putPiece, inLimit, fedRecord, fedDecoded, fedHead, fedBytes, fed}
-use Rattle.list_apply.specs.Turns.{fedAll, Fed, Whole}
+use Rattle.list_apply_laws.specs.Turns.{fedAll, Fed, Whole}
 
 -- by a test
 by-test : (b : Bool) (x y : Step) → (b ≡ true → Whole (x .applying)) → (b ≡ false → Whole (y .applying)) → Whole (choose b x y .applying)

@@ -22,12 +22,12 @@ use Rattle.list_read.specs.Whole.{allFit}
 use Rattle.list_read.proofs.Heads.{within-end}
 use Rattle.list_read.proofs.Encoded.{head-back, behind-head, bytes-cut-head}
 use Rattle.list_read.proofs.Ending.{one-more, as-many, went-on, whole-list}
 use Rattle.list_apply.specs.declared.Applying.{Applying as State}
 use Rattle.list_apply.specs.Applying.{goesOn, ended, tooFar, ahead, held, past, begun, state, followingOf, headNext, wantedOf, endedBy, takenUp, waitsDef, heldBack, released, acceptedBy, inLimit, fedRecord, fedDecoded, fedHead, fed}
-use Rattle.list_apply.specs.Lists.{Point, point, asked, turnOn, Reach, Within, Applies, Untouched}
+use Rattle.list_apply_laws.specs.Lists.{Point, point, asked, turnOn, Reach, Within, Applies, Untouched}
 use Rattle.list_apply.proofs.Steps.{waits-none}
-use Rattle.list_apply.proofs.Ended.{two-past}
-use Rattle.list_apply.proofs.Pieces.{reach-none, reach-step, Body, no-piece, no-piece-yet, more-pieces, zeros-body, bytes-body}
+use Rattle.list_apply_laws.proofs.Ended.{two-past}
+use Rattle.list_apply_laws.proofs.Pieces.{reach-none, reach-step, Body, no-piece, no-piece-yet, more-pieces, zeros-body, bytes-body}
 
 -- ---- marks
 flush-decoded : decodeDef false (0x46 ∷ 0x4c ∷ []) ≡ head flush 0 0 2

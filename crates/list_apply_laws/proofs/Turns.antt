@@ -4,9 +4,9 @@ use mathlib.Core.Path.{_≡_, refl, sym, ap, ap₂, _∙_}
 use mathlib.Core.List.{List, [], _∷_, _++_}
 use Prim.Native.Nat.{ℕ}
 use Rattle.seqs.specs.Lists.{fold}
 use Rattle.list_apply.specs.declared.Applying.{Applying as State}
 use Rattle.list_apply.specs.Applying.{fed}
-use Rattle.list_apply.specs.Turns.{fedAll, Fed}
+use Rattle.list_apply_laws.specs.Turns.{fedAll, Fed}
 
 -- no piece, and one
 pub none-fed : (size : ℕ) (a b : State) → b ≡ a → Fed size a b

@@ -1,0 +1,4 @@
+pub mod Turns
+pub mod Ended
+pub mod Pieces
+pub mod Applied
