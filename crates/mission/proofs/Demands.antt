@@ -3,12 +3,13 @@
 use mathlib.Core.Path.{_≡_, refl, sym, ap, _∙_}
 use mathlib.Core.Bool.{Bool, true, false}
 use mathlib.Core.List.{List}
-use mathlib.Core.Logic.{_⊎_, inl, inr}
-use Prim.Native.Nat.{ℕ}
+use Prim.Native.Nat.{ℕ, _+_}
 use lib.Dec.{eqb, lit<}
+use lib.ListN.{length}
 use borrow.Author.Tests.{eqb-true}
-use Rattle.endian.specs.Answer.{room, answer, chosen, Put}
-use Rattle.structs.specs.Written.{Written}
+use Rattle.endian.specs.Answer.{room, answer, chosen}
+use Rattle.endian.specs.Bytes.{patch}
+use Rattle.endian.specs.Fields.{write, table, tableFits}
 use Rattle.crc.proofs.Laws.{length-stamped, stamped-verifies}
 use Rattle.crc.proofs.Vectors.{vectors}
 use Rattle.geometry.specs.Compute.{chosenOf, refusals, refusalOf, geometryOf, computeDef}
@@ -41,6 +42,7 @@ use Rattle.reader_vouch.proofs.Leaving.{first-head, other-head, log-block}
 use Rattle.reader_pass.proofs.Left.{accepted-left, left-accepted, left-unfinished}
 use Rattle.reader_pass.proofs.Fed.{fed-left}
 use Rattle.mission.specs.Mission.{Demand1, Demand2, Demand3}
+use Rattle.mission.specs.Mission.Words.{OneForm}
 use Rattle.mission.proofs.Checks.{heads-checked}
 use Rattle.mission.proofs.Geometries.{own-sectors, is-answer, label-size, refused-plans}
 use Rattle.mission.proofs.Stopped.{read-back, its-refused, its-accepted}
@@ -49,17 +51,27 @@ use Rattle.mission.proofs.Totals.{used-once, all-totals}
 
 -- ---- a refused call changes nothing
 
-kept-put : (t : Bool) (r : ℕ) (new old left : List ℕ) → r ≡ answer t → left ≡ chosen t new old → (r ≡ 0 → ⊥) → left ≡ old
-kept-put true r new old left n b q = absurd (q n)
-kept-put false r new old left n b q = b
+kept : (t : Bool) (n r : ℕ) (new old left : List ℕ) → eqb n 0 ≡ t → r ≡ n → left ≡ chosen t new old → (r ≡ 0 → ⊥) → left ≡ old
+kept true n r new old left e a b q = absurd (q (a ∙ eqb-true n 0 e))
+kept false n r new old left e a b q = b
 
-kept-written : (t : Bool) (n r : ℕ) (new old left : List ℕ) → eqb n 0 ≡ t → r ≡ n → left ≡ chosen t new old → (r ≡ 0 → ⊥) → left ≡ old
-kept-written true n r new old left e a b q = absurd (q (a ∙ eqb-true n 0 e))
-kept-written false n r new old left e a b q = b
+-- a test of the length and its number choose alike
+same-choice : (t : Bool) (new old : List ℕ) → chosen t new old ≡ chosen (eqb (answer t) 0) new old
+same-choice true new old = refl
+same-choice false new old = refl
 
-kept : (n r : ℕ) (new old left : List ℕ) → Put n new old r left ⊎ Written n new old r left → (r ≡ 0 → ⊥) → left ≡ old
-kept n r new old left (inl w) q = kept-put (room n old) r new old left (w .number) (w .bytes) q
-kept n r new old left (inr w) q = kept-written (eqb n 0) n r new old left refl (w .number) (w .bytes) q
+one-form : OneForm
+one-form =
+    record {
+      by-length = λ m r new old left p. record { number = p .number; bytes = p .bytes ∙ same-choice (room m old) new old };
+      by-table =
+          λ at vs old left r p.
+          record { number = p .number; bytes = p .bytes ∙ same-choice (tableFits (length old) at (length vs)) (write (table at vs) old) old };
+      of-a-line =
+          λ at r end bytes old left p.
+          record { number = p .number-is; bytes = p .bytes-are ∙ same-choice (room (at + length bytes) old) (patch at bytes old) old };
+      of-a-chunk = λ n next r state new old left p. p .written;
+    }
 
 number-is : (r : Request) → runOf r .number ≡ runNumber r
 unfolding runOf
@@ -83,7 +95,8 @@ demand1 =
       roomy-plans = λ g a. roomy-planned g (label-size g a) (is-answer g a);
       plain-accepts = step-old;
       reader-numbers = λ g u k xs. (first-numbers xs, group-numbers g u k xs, log-numbers g u xs);
-      untouched = kept;
+      untouched = λ n r new old left w q. kept (eqb n 0) n r new old left refl (w .number) (w .bytes) q;
+      one-form = one-form;
     }
 
 pub demand2 : Demand2

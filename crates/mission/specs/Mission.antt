@@ -20,7 +20,7 @@ pub mod Words
 use mathlib.Core.Path.{_≡_}
 use mathlib.Core.Bool.{true, false}
 use mathlib.Core.List.{List, [], _∷_}
-use mathlib.Core.Logic.{_↔_, _⊎_}
+use mathlib.Core.Logic.{_↔_}
 use Prim.Native.Nat.{ℕ, _+_, _*_, _-_, _<_, _≤_}
 use lib.Dec.{T, eqb, ltb}
 use lib.ListN.{length}
@@ -67,10 +67,11 @@ pub record Demand1 : Type 0 where
       → T (oneOf (0 ∷ wrongLength ∷ notLeft ∷ []) (readGroup0 xs .number))
       × T (oneOf (0 ∷ wrongLength ∷ noPlace ∷ notLeft ∷ noAnswer ∷ []) (readGroup g u k xs .number))
       × T (oneOf (0 ∷ wrongLength ∷ notLeft ∷ noAnswer ∷ []) (readLog g u xs))
-  -- A function that fills a lent buffer promises `Put` or `Written` of its answer r and of the bytes before and after the call (`PutAll`,
-  -- `PutLine`
-  -- and `ChunkMade` are built alike). Where r isn't 0, no byte has changed.
-  pub untouched : (n r : ℕ) (new old left : List ℕ) → Put n new old r left ⊎ Written n new old r left → (r ≡ 0 → ⊥) → left ≡ old
+  -- A function that fills a lent buffer promises `Written` of its answer r and of the bytes before and after the call: where r isn't 0, no
+  -- byte has changed.
+  pub untouched : (n r : ℕ) (new old left : List ℕ) → Written n new old r left → (r ≡ 0 → ⊥) → left ≡ old
+  -- So do those whose promise has a name of its own (`Put`, `PutAll`, `PutLine`, `ChunkMade`): each is `Written`.
+  pub one-form : OneForm
 
 -- ==== DEMAND 2: checksums by the RFC, the source's plans, and what is written for a run (that the Rust answers the same is tested, not
 -- proved)

@@ -7,9 +7,13 @@ use mathlib.Core.List.{List, [], _∷_}
 use mathlib.Core.Logic.{_⊎_}
 use Prim.Native.Nat.{ℕ, _+_, _*_, _<_}
 use lib.Dec.{eqb}
-use lib.ListN.{take}
+use lib.ListN.{length, take}
 pub use Rattle.arith.specs.Choice.{when}
-pub use Rattle.endian.specs.Answer.{Put}
+use Rattle.endian.specs.Answer.{room, answer, Put}
+use Rattle.endian.specs.Bytes.{patch}
+use Rattle.endian.specs.Fields.{write, table, tableFits, PutAll}
+use Rattle.table_lines.specs.Lines.{PutLine}
+use Rattle.chunk.specs.Chunk.{ChunkMade}
 pub use Rattle.seqs.specs.Lists.{both}
 pub use Rattle.refusals.specs.Numbers.{freeListShort, wrongLength, noPlace, notLeft, noAnswer}
 pub use Rattle.refusals.specs.Table.{Refusal, _if_, first}
@@ -57,6 +61,16 @@ pub use Rattle.reader_pass.specs.Device.{Bytes, passed, fedBy, groupsFed, turns
 pub use Rattle.reader_decoded.specs.Decoded.{logIn, countIn}
 pub use Rattle.reader_decoded.specs.Checks.{Checked}
 pub use Rattle.reader_uses.specs.ByUse.{usesIn, Once, freeTotal, listTotal, chunkTotal}
+
+-- Each promise on a lent buffer is `Written`, of its own test's number and its own bytes: of a write that asks for `m` bytes, of one by a table
+-- of fields, of a line at an offset, and of a root chunk.
+pub record OneForm : Type 0 where
+  pub by-length : (m r : ℕ) (new old left : List ℕ) → Put m new old r left → Written (answer (room m old)) new old r left
+  pub by-table : (at vs old left : List ℕ) (r : ℕ) → PutAll at vs old r left
+      → Written (answer (tableFits (length old) at (length vs))) (write (table at vs) old) old r left
+  pub of-a-line : (at r end : ℕ) (bytes old left : List ℕ) → PutLine at bytes old r end left
+      → Written (answer (room (at + length bytes) old)) (patch at bytes old) old r left
+  pub of-a-chunk : (n next r state : ℕ) (new old left : List ℕ) → ChunkMade n next new old r state left → Written n new old r left
 
 -- The reader gets everything of the run back from a device: its geometry as it is reported, its UUID, the plan of every group; and it
 -- accepts the log block.
