@@ -103,15 +103,13 @@ pub fn with_library(mode: &dyn Mode, cases: u64, seed: u64) -> io::Result<bool> 
     compared(mode, cases, seed, |case| mode.ours(case).ok_or_else(missing))
 }
 
-/// A program with words may say on standard error how they should be; it isn't shown.
-fn started(path: &str, words: &[String]) -> io::Result<Child> {
-    let said = if words.is_empty() { Stdio::inherit() } else { Stdio::null() };
+fn started(path: &str, words: &[String], said: Stdio) -> io::Result<Child> {
     Command::new(path).args(words).stdin(Stdio::piped()).stdout(Stdio::piped()).stderr(said).spawn()
 }
 
 /// The port's program reads a stream of cases and writes a stream of answers.
 pub fn with_program(mode: &(dyn Mode + Sync), cases: u64, seed: u64, path: &str) -> io::Result<bool> {
-    let mut child = started(path, &[])?;
+    let mut child = started(path, &[], Stdio::inherit())?;
     let mut to = BufWriter::new(child.stdin.take().unwrap());
     let mut from = BufReader::new(child.stdout.take().unwrap());
     let same = std::thread::scope(|s| {
@@ -135,11 +133,11 @@ pub fn with_program(mode: &(dyn Mode + Sync), cases: u64, seed: u64, path: &str)
     same
 }
 
-/// The port's program reads one case and writes one answer.
+/// The port's program reads one case and writes one answer. What it says on standard error, such as a refusal's sentence, isn't shown.
 pub fn with_each(mode: &dyn Mode, cases: u64, seed: u64, path: &str) -> io::Result<bool> {
     compared(mode, cases, seed, |case| {
         let (words, input) = mode.run(case);
-        let mut child = started(path, &words)?;
+        let mut child = started(path, &words, Stdio::null())?;
         let mut to = child.stdin.take().unwrap();
         let mut from = child.stdout.take().unwrap();
         // A case is shorter than a pipe holds. A program that stops reading early still answers.

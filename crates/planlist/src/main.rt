@@ -1,4 +1,4 @@
-// Reads input records from standard input and prints the plan of every group in a table, or `refused N`.
+// Reads input records from standard input and prints the plan of every group in a table, or `refused N`, and then its sentence on standard error.
 // What is printed is `planBytes` of the input (`plan_table`); here bytes are only read and written.
 ghost use lib.ListN.{length};
 ghost use Rattle.plan_table.specs.Filling.{begun, Printing};
@@ -42,7 +42,9 @@ fn plan() {
     let p = answer(&input[..n], &mut buf);
     if !p.written {
         os::fail(b"standard output");
+        return;
     }
+    refusal_print::say_refusal(p.table.number);
 }
 
 fn main() {

@@ -91,9 +91,11 @@ fn write_most(s: Sending) -> bool {
     t.written
 }
 
+// The number's line, and its sentence on standard error.
 fn print_refused(number: u32) -> bool {
     let mut line = [0u8; 32];
     let w = table_lines::put_refused(number as u64, &mut line, 0);
+    refusal_print::say_refusal(number);
     flush(&line, w.end)
 }
 
