@@ -1,4 +1,5 @@
 // Prints the CRC32C of standard input in hexadecimal.
+use libc::STDERR_FILENO;
 use libc::STDIN_FILENO;
 use libc::STDOUT_FILENO;
 
@@ -49,13 +50,40 @@ fn whole(buf: &mut [u8]) -> Progress {
     t
 }
 
-fn main() {
+// Reads all of the input and prints its checksum.
+fn sum() {
     let mut buf = io::large_buffer();
     let t = whole(&mut buf);
     if t.failed {
         os::fail(b"standard input");
         return;
     }
-    io::print_hex(STDOUT_FILENO, (!t.register) as u64, 8);
-    io::write_all(STDOUT_FILENO, b"\n");
+    let written = io::print_hex(STDOUT_FILENO, (!t.register) as u64, 8);
+    if !written || !io::write_all(STDOUT_FILENO, b"\n") {
+        os::fail(b"standard output");
+    }
+}
+
+fn usage(fd: i32) {
+    io::write_all(fd, b"usage: crcsum < FILE\n");
+    io::write_all(fd, b"Prints the CRC32C of its input in hexadecimal.\n");
+}
+
+// Whether the first argument is this word.
+fn is_word(word: &[u8]) -> bool {
+    let mut argument = io::buffer();
+    let n = os::arg(1, &mut argument);
+    check::same(&argument[..n], word)
+}
+
+fn main() {
+    if is_word(b"--help") {
+        usage(STDOUT_FILENO);
+        return;
+    }
+    if os::arg_count() != 1 {
+        usage(STDERR_FILENO);
+        return;
+    }
+    sum();
 }
