@@ -291,17 +291,17 @@ pub(crate) fn bytes_to(end: i64) -> u64 {
     end as u64
 }
 
-// As many bytes as one write has at most; the check of a longer array's length takes more memory than the prover has.
-fn half_mebibyte() -> [u8; 524288]
-    ensures { λ r. ⌜ 524288 ≡ length r ⌝ }
+// As many bytes as one write has at most.
+fn mebibyte() -> [u8; 1048576]
+    ensures { λ r. ⌜ 1048576 ≡ length r ⌝ }
 {
-    [0; 524288]
+    [0; 1048576]
 }
 
 // Applies the list, of which some bytes were read ahead, to an open file or device.
 fn apply_from(fd: i32, extends: bool, limit: u64, ahead: &[u8]) {
-    let zeros = half_mebibyte();
-    let mut buf = half_mebibyte();
+    let zeros = mebibyte();
+    let mut buf = mebibyte();
     let p = apply(fd, extends, limit, ahead, &zeros, &mut buf);
     finish(p);
 }
