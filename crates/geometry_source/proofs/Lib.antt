@@ -1,0 +1,2 @@
+pub mod Unreachable
+pub mod Cut
