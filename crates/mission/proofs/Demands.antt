@@ -37,7 +37,7 @@ use Rattle.list_laws.proofs.Sending.{sends-all}
 use Rattle.reader_exact.specs.Disk.{formatted}
 use Rattle.reader_exact.proofs.Sizings.{reported-plain, reported-old}
 use Rattle.reader_exact.proofs.Numbers.{first-numbers, group-numbers, log-numbers}
-use Rattle.reader_exact.proofs.Disk.{exact-records}
+use Rattle.reader_exact.proofs.Whole.{exact-whole}
 use Rattle.reader_vouch.proofs.Leaving.{first-head, other-head, log-block}
 use Rattle.reader_pass.proofs.Left.{accepted-left, left-accepted, left-unfinished}
 use Rattle.reader_pass.proofs.Fed.{fed-left}
@@ -129,7 +129,7 @@ demand3 =
       first-head = first-head;
       other-head = λ g u k xs h. other-head g u xs k h;
       log-block = log-block;
-      whole-disk = exact-records;
+      whole-disk = exact-whole;
       pass-accepts = λ d b n h. (accepted-left d b n, left-accepted d b n h);
       pass-unfinished = left-unfinished;
       pass-vouches = fed-left;

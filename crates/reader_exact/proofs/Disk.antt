@@ -23,10 +23,8 @@ use Rattle.list_accepted.proofs.Sizes.{block-least}
 use Rattle.list_accepted.proofs.Sound.{sound}
 use Rattle.list_accepted.proofs.Heads.{run-left}
 use Rattle.reader_exact.specs.Read.{readGroup0}
-use Rattle.reader_exact.specs.Left.{Octets, OneRun, ReadWhole}
-use Rattle.reader_exact.specs.Disk.{headOn, logOn, formatted, ByRecords}
+use Rattle.reader_exact.specs.Disk.{headOn, logOn, formatted}
 use Rattle.reader_exact.proofs.Heads.{sector-most, head-block, head-least}
-use Rattle.reader_exact.proofs.Whole.{whole-complete, exact-whole}
 use Rattle.reader_exact.proofs.Zeros.{zeros-named}
 use Rattle.reader_exact.proofs.Refused.{unnamed-refused, begun-refused}
 
@@ -38,12 +36,6 @@ module _ (r : Request) (a : AcceptedRun r) (old : Device) where
   pub log-formatted : logOn (runOf r .geometry) (formatted r old) ≡ logBlock (runOf r .geometry) (runOf r .uuid)
   unfolding logOn formatted
   log-formatted = run-left r a old .log
-
-  -- what a run's records leave is accepted whole
-  pub formatted-read : ReadWhole (headOn (runOf r .geometry) (formatted r old)) (logOn (runOf r .geometry) (formatted r old))
-  formatted-read =
-      whole-complete (headOn (runOf r .geometry) (formatted r old)) (logOn (runOf r .geometry) (formatted r old))
-      (record { request = r; accepted = a; head = head-formatted; log-block = log-formatted })
 
   -- ---- until the finished superblock
 
@@ -78,27 +70,3 @@ module _ (r : Request) (a : AcceptedRun r) (old : Device) where
   pub cut-refused : (cut rest : List Record) → cut ++ rest ≡ unfinished (runOf r) (r .device) ++ (FL ∷ []) → 0 < length cut
       → readGroup0 (headOn (runOf r .geometry) (applied cut old) 0) .number ≡ 30
   cut-refused cut rest e h = early-refused (applied cut old) (early (runOf r) (r .device) (sound r a) cut rest e h old)
-
-module _ (heads : ℕ → List ℕ) (log : List ℕ) where
-  by-records : OneRun heads log → ByRecords heads log
-  by-records w =
-      record {
-        request = w .request;
-        accepted = w .accepted;
-        head = λ old k h. w .head k h ∙ sym (head-formatted (w .request) (w .accepted) old k h);
-        log-block = λ old. w .log-block ∙ sym (log-formatted (w .request) (w .accepted) old);
-      }
-
-  of-records : ByRecords heads log → OneRun heads log
-  of-records w =
-      let old : Device = λ x. 0 in
-      record {
-        request = w .request;
-        accepted = w .accepted;
-        head = λ k h. w .head old k h ∙ head-formatted (w .request) (w .accepted) old k h;
-        log-block = w .log-block old ∙ log-formatted (w .request) (w .accepted) old;
-      }
-
-  -- heads by their groups and a log block are accepted whole exactly where the written records of one accepted run leave them all
-  pub exact-records : Octets (heads 0) → (ReadWhole heads log → ByRecords heads log) × (ByRecords heads log → ReadWhole heads log)
-  exact-records o = ((λ w. by-records (exact-whole heads log o .0 w)), (λ w. exact-whole heads log o .1 (of-records w)))

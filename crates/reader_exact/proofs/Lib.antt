@@ -5,11 +5,11 @@ pub mod Sizings
 pub mod First
 pub mod Others
 pub mod Recovery
-pub mod Whole
 pub mod Numbers
 pub mod Refused
 pub mod Group0
 pub mod Zeros
 pub mod Disk
+pub mod Whole
 pub mod Example
 pub mod Roomy

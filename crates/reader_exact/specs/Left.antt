@@ -1,4 +1,4 @@
--- What accepted runs leave, in each place and on the whole disk; and disks that are read whole.
+-- What accepted runs leave in each place; and disks that are read whole.
 -- Assumes nothing.
 use mathlib.Core.Path.{_≡_}
 use mathlib.Core.List.{List}
@@ -8,10 +8,8 @@ use Rattle.geometry.specs.declared.Geometry.{Geometry}
 use Rattle.seqs.specs.Lists.{choose}
 use Rattle.geometry_answers.specs.Named.{isAnswer}
 use Rattle.geometry_answers.specs.Answers.{TypedGeometry}
-use Rattle.request.specs.declared.Request.{Request}
-use Rattle.run.specs.Runs.{runOf}
 use Rattle.list_spec.specs.Listing.{logBlock, headLeft}
-use Rattle.list_accepted.specs.Accepted.{AcceptedRun, Source}
+use Rattle.list_accepted.specs.Accepted.{Source}
 use Rattle.reader_names.specs.Sizings.{plain}
 use Rattle.reader_exact.specs.Read.{readGroup0, readGroup, readLog}
 
@@ -45,13 +43,6 @@ pub record LeftFirst (xs : List ℕ) : Type 0 where
 -- the geometry as the reader reports it: with plain sizing where this gives the same log
 unfoldable pub reported : Geometry → Geometry
 reported g = choose (isAnswer (plain g)) (plain g) g
-
--- one accepted run leaves all these heads, by their groups, and this log block
-pub record OneRun (heads : ℕ → List ℕ) (log : List ℕ) : Type 0 where
-  pub request : Request
-  pub accepted : AcceptedRun request
-  pub head : (k : ℕ) → k < runOf request .geometry .agcount → heads k ≡ headLeft (runOf request .geometry) (runOf request .uuid) k
-  pub log-block : log ≡ logBlock (runOf request .geometry) (runOf request .uuid)
 
 -- the reader accepts group 0's head, and the other heads and the log block with what it gave
 pub record ReadWhole (heads : ℕ → List ℕ) (log : List ℕ) : Type 0 where

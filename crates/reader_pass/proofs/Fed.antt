@@ -16,7 +16,7 @@ use Rattle.reader_exact.specs.Read.{readGroup0, groupNumber, readLog}
 use Rattle.reader_exact.specs.Left.{Octets, ReadWhole}
 use Rattle.reader_exact.specs.Disk.{ByRecords}
 use Rattle.reader_exact.proofs.Others.{number-read}
-use Rattle.reader_exact.proofs.Disk.{exact-records}
+use Rattle.reader_exact.proofs.Whole.{exact-whole}
 use Rattle.reader_pass.specs.declared.Stage.{Stage}
 use Rattle.reader_pass.specs.declared.Stage.the-variants.{Naming, First, Heads, Log, Ended}
 use Rattle.reader_pass.specs.declared.Pass.{Pass}
@@ -173,4 +173,4 @@ module _ (parts : ℕ → List ℕ) where
       let p = fedBy parts n in
       let e = ended-zero p z in
       let a : All n = subst (λ (s : Stage). Known n s p) (e .0) (known n) (e .1) in
-      (exact-records (λ k. parts (k + 1)) (parts (groupsFed parts + 1)) o .0 (a .whole), a .count)
+      (exact-whole (λ k. parts (k + 1)) (parts (groupsFed parts + 1)) o .0 (a .whole), a .count)

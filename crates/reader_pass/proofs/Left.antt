@@ -16,12 +16,12 @@ use Rattle.list_spec.specs.Listing.{headLeft}
 use Rattle.list_accepted.proofs.Runs.{source-of}
 use Rattle.reader_exact.specs.declared.Found.{Found}
 use Rattle.reader_exact.specs.Read.{readGroup0}
-use Rattle.reader_exact.specs.Left.{Octets, OneRun, ReadWhole, reported}
-use Rattle.reader_exact.specs.Disk.{headOn, logOn}
+use Rattle.reader_exact.specs.Left.{Octets, ReadWhole, reported}
+use Rattle.reader_exact.specs.Disk.{headOn, logOn, ByRecords}
 use Rattle.reader_exact.proofs.Sizings.{reported-plain}
 use Rattle.reader_exact.proofs.Heads.{head-least, source-bounds, some-group, left-named}
 use Rattle.reader_exact.proofs.Whole.{exact-whole, whole-complete, whole-found}
-use Rattle.reader_exact.proofs.Disk.{head-formatted, log-formatted}
+use Rattle.reader_exact.proofs.Disk.{head-formatted}
 use Rattle.reader_pass.specs.Passing.{verdictOf}
 use Rattle.reader_pass.specs.Device.{Bytes, passed, sectorNamed, turnsNeeded, Missing, Whole, LeftByRun}
 use Rattle.reader_pass.proofs.Accepted.{same-head, same-log, head-named, near-named, whole-near, pass-sound, pass-complete, pass-unfinished}
@@ -50,8 +50,8 @@ module _ (d : Device) where
       record {
         request = r;
         accepted = o .accepted;
-        head = λ old k h. same-head d (runOf r .geometry) g near k ∙ o .head k h ∙ sym (head-formatted r (o .accepted) old k h);
-        log-block = λ old. same-log d (runOf r .geometry) g near ∙ o .log-block ∙ sym (log-formatted r (o .accepted) old);
+        head = λ old k h. same-head d (runOf r .geometry) g near k ∙ o .head old k h;
+        log-block = λ old. same-log d (runOf r .geometry) g near ∙ o .log-block old;
       }
 
   to-whole : LeftByRun d → Whole d
@@ -60,9 +60,9 @@ module _ (d : Device) where
       let g = runOf r .geometry in
       let u = runOf r .uuid in
       let s = source-of r (w .accepted) in
-      let h : (k : ℕ) → k < g .agcount → headOn g d k ≡ headLeft g u k = λ k i. w .head d k i ∙ head-formatted r (w .accepted) d k i in
-      let o : OneRun (headOn g d) (logOn g d) = record { request = r; accepted = w .accepted; head = h; log-block = w .log-block d ∙ log-formatted r (w .accepted) d } in
-      let near = near-named d (g .roomy) g (sym (head-named d (g .roomy) g (head-least g (source-bounds g u s))) ∙ ap (namedBy (g .roomy)) (h 0 (some-group g u s)) ∙ left-named g u s) in
+      let first : headOn g d 0 ≡ headLeft g u 0 = w .head d 0 (some-group g u s) ∙ head-formatted r (w .accepted) d 0 (some-group g u s) in
+      let o : ByRecords (headOn g d) (logOn g d) = record { request = r; accepted = w .accepted; head = w .head; log-block = w .log-block } in
+      let near = near-named d (g .roomy) g (sym (head-named d (g .roomy) g (head-least g (source-bounds g u s))) ∙ ap (namedBy (g .roomy)) first ∙ left-named g u s) in
       let heads : headOn g d ≡ headOn (sectorNamed d) d = λ i k. same-head d g (sectorNamed d) near k i in
       subst (λ (x : ℕ → List ℕ). ReadWhole x (logOn (sectorNamed d) d)) heads
       (subst (ReadWhole (headOn g d)) (same-log d g (sectorNamed d) near) (whole-complete (headOn g d) (logOn g d) o))
