@@ -15,7 +15,6 @@ use Rattle.crc.proofs.Vectors.{vectors}
 use Rattle.geometry.specs.Compute.{chosenOf, refusals, refusalOf, geometryOf, computeDef}
 use Rattle.geometry.proofs.Answer.{number-of}
 use Rattle.geometry_answers.proofs.Again.{again}
-use Rattle.geometry_answers.proofs.Exact.{exact}
 use Rattle.geometry_layout.proofs.Bounding.{answered-bounds}
 use Rattle.geometry_layout.proofs.Sizings.{step-old}
 use Rattle.plan_closed.proofs.Planning.{closed-plan, roomy-planned}
@@ -37,6 +36,7 @@ use Rattle.list_laws.proofs.Sending.{sends-all}
 use Rattle.reader_exact.specs.Disk.{formatted}
 use Rattle.reader_exact.proofs.Sizings.{reported-plain, reported-old}
 use Rattle.reader_exact.proofs.Numbers.{first-numbers, group-numbers, log-numbers}
+use Rattle.reader_exact.proofs.Sources.{exact-asked}
 use Rattle.reader_exact.proofs.Whole.{exact-whole}
 use Rattle.reader_vouch.proofs.Leaving.{first-head, other-head, log-block}
 use Rattle.reader_pass.proofs.Left.{accepted-left, left-accepted, left-unfinished}
@@ -90,7 +90,7 @@ demand1 =
           rw e (first-least (refusals p d (chosenOf p d l f)) 1 m (lit< tt) (steps-rise p d (chosenOf p d l f)) a);
       own-sectors = own-sectors;
       no-empty-group = λ g a. let b = answered-bounds g a .groups in (b .group-least, b .last-least);
-      no-stranger = λ g t. (exact g t .0, λ a. exact g t .1 (a .answered));
+      no-stranger = exact-asked;
       refused-plans = refused-plans;
       roomy-plans = λ g a. roomy-planned g (label-size g a) (is-answer g a);
       plain-accepts = step-old;

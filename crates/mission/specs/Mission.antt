@@ -50,9 +50,9 @@ pub record Demand1 : Type 0 where
   -- In an accepted geometry every group before the last has 16 MiB or more, and so has what is left for the last: none is without blocks.
   pub no-empty-group : (g : Geometry) → Answered g
       → (16 * mib ≤ g .agsize * g .blocksize) × (16 * mib ≤ (g .dblocks - (g .agcount - 1) * g .agsize) * g .blocksize)
-  -- A geometry that a caller hands in passes exactly where some options of their types, on some device, have it as their answer; else it
-  -- gets 31.
-  pub no-stranger : (g : Geometry) → TypedGeometry g → (isAnswer g ≡ true) ↔ TypedAnswer g
+  -- A geometry that a caller hands in passes exactly where the geometry step answers it for some request, with every option (UUID, time and
+  -- seed too), the device's size and its sectors of their types; else it gets 31.
+  pub no-stranger : (g : Geometry) → TypedGeometry g → (isAnswer g ≡ true) ↔ AskedFor g
   -- Planning a group answers 0 or 25: 25 exactly in the log's group, where fewer blocks are free than the free list takes.
   pub refused-plans : (g : Geometry) → Answered g → (k : ℕ) → k < g .agcount
       → planned g k .number ≡ when (both (eqb k (g .logagno)) (ltb (freeBlocks (siteOf g k)) (freelistOf (g .features)))) freeListShort 0

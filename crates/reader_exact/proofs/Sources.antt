@@ -1,12 +1,15 @@
--- Every answer of the geometry step whose plans are accepted is the geometry of an accepted run, with any UUID.
+-- 31 IS EXACT: a geometry is an answer exactly where a request of its types asks for it. And every answer whose plans are accepted is the
+-- geometry of an accepted run, with any UUID.
 -- Assumes nothing.
 use mathlib.Core.Path.{_≡_, refl, ap, _∙_}
 use mathlib.Core.Bool.{Bool, true, false}
 use mathlib.Core.List.{List}
+use mathlib.Core.Logic.{_↔_}
 use Prim.Native.Nat.{ℕ}
 use borrow.Author.Tests.{eq-eqb}
 use lib.Dec.{lit<}
 use lib.IntN.{pos}
+use lib.ListN.{replicate}
 use Rattle.params.specs.declared.OptU64.the-variants.{Absent}
 use Rattle.params.specs.declared.OptTime.the-variants.{Absent as AbsentTime}
 use Rattle.params.specs.declared.Presence.the-variants.{Given}
@@ -17,14 +20,17 @@ use Rattle.geometry.specs.declared.Geometry.{Geometry}
 use Rattle.geometry.specs.declared.Computed.{Computed}
 use Rattle.geometry.specs.Compute.{withGroups, withSizes, chosenOf, refusals, refusalOf, geometryOf, computeDef}
 use Rattle.geometry_answers.specs.Named.{isAnswer}
-use Rattle.geometry_answers.specs.Answers.{TypedOptions, TypedAnswer}
-use Rattle.geometry_answers.proofs.Exact.{exact}
+use Rattle.geometry_answers.specs.Answers.{TypedOptions, TypedGeometry, TypedAnswer}
+use Rattle.geometry_answers.proofs.Exact.{exact, complete}
 use Rattle.inode_time.specs.Time.{timeInside, notEarly, shifted, timeNumber}
 use Rattle.request.specs.declared.Request.{Request}
 use Rattle.request.specs.Defaults.{uuidOf, timeOf, seedOf}
 use Rattle.plan_totals.specs.Totals.{plansNumber}
 use Rattle.run.specs.Runs.{stepOf, timeRefusal, runNumber, runOf}
 use Rattle.list_accepted.specs.Accepted.{TypedRequest, Source}
+use Rattle.list_accepted.proofs.Bytes.{below-at}
+use Rattle.head_bytes.proofs.Below.{below-zeros}
+use Rattle.reader_exact.specs.Asked.{AskedFor}
 use Rattle.reader_exact.specs.Left.{Handed}
 
 -- the options with this UUID, and with neither time nor seed
@@ -58,8 +64,8 @@ options-typed p u t =
       label-bytes = t .label-bytes;
     }
 
-module _ (g : Geometry) (u : List ℕ) (h : Handed g u) (a : isAnswer g ≡ true) (z : plansNumber g ≡ 0) where
-  -- the run that the geometry names
+module _ (g : Geometry) (u : List ℕ) (h : Handed g u) (a : isAnswer g ≡ true) where
+  -- the request that the geometry names
   named : TypedAnswer g
   named = exact g (h .geometry) .0 a
 
@@ -77,10 +83,6 @@ module _ (g : Geometry) (u : List ℕ) (h : Handed g u) (a : isAnswer g ≡ true
   unfolding stepOf
   step-is = step-same (named .answered .options) u (named .answered .device) (named .answered .logical) (named .answered .physical) ∙ named .answered .accepted
 
-  asked-number : runNumber asked ≡ 0
-  unfolding runNumber timeRefusal timeOf
-  asked-number = rw (step-is, z) (zero-time (g .features .bigtime))
-
   asked-typed : TypedRequest asked
   unfolding timeOf seedOf
   asked-typed =
@@ -96,13 +98,48 @@ module _ (g : Geometry) (u : List ℕ) (h : Handed g u) (a : isAnswer g ≡ true
         seed = lit< tt;
       }
 
-  asked-geometry : runOf asked .geometry ≡ g
-  unfolding runOf
-  asked-geometry = rw (eq-eqb (runNumber asked) 0 asked-number) (ap (λ (c : Computed). c .geometry) step-is)
+  module _ (z : plansNumber g ≡ 0) where
+    asked-number : runNumber asked ≡ 0
+    unfolding runNumber timeRefusal timeOf
+    asked-number = rw (step-is, z) (zero-time (g .features .bigtime))
 
-  asked-uuid : runOf asked .uuid ≡ u
-  unfolding runOf uuidOf
-  asked-uuid = rw (eq-eqb (runNumber asked) 0 asked-number)
+    asked-geometry : runOf asked .geometry ≡ g
+    unfolding runOf
+    asked-geometry = rw (eq-eqb (runNumber asked) 0 asked-number) (ap (λ (c : Computed). c .geometry) step-is)
 
-  pub source : Source g u
-  source = record { request = asked; accepted = record { typed = asked-typed; number = asked-number }; geometry = asked-geometry; uuid = asked-uuid }
+    asked-uuid : runOf asked .uuid ≡ u
+    unfolding runOf uuidOf
+    asked-uuid = rw (eq-eqb (runNumber asked) 0 asked-number)
+
+    pub source : Source g u
+    source = record { request = asked; accepted = record { typed = asked-typed; number = asked-number }; geometry = asked-geometry; uuid = asked-uuid }
+
+-- ---- 31
+
+zero-uuid : (g : Geometry) → TypedGeometry g → Handed g (replicate 16 0)
+zero-uuid g t = record { geometry = t; uuid-size = refl; uuid-bytes = below-at 256 (replicate 16 0) (lit< tt) (below-zeros 16) }
+
+to-asked : (g : Geometry) → TypedGeometry g → isAnswer g ≡ true → AskedFor g
+to-asked g t a =
+    let h = zero-uuid g t in
+    let u : List ℕ = replicate 16 0 in
+    record { request = asked g u h a; typed = asked-typed g u h a; answer = step-is g u h a }
+
+from-asked : (g : Geometry) → AskedFor g → isAnswer g ≡ true
+unfolding stepOf
+from-asked g w =
+    let r = w .request in
+    complete g
+    (record {
+      options = r .params;
+      label = w .typed .options .label-size;
+      device = r .device;
+      small = w .typed .device;
+      logical = r .logical;
+      physical = r .physical;
+      accepted = w .answer;
+    })
+
+-- A GEOMETRY THAT IS HANDED IN PASSES EXACTLY WHERE IT IS ASKED FOR
+pub exact-asked : (g : Geometry) → TypedGeometry g → (isAnswer g ≡ true) ↔ AskedFor g
+exact-asked g t = (to-asked g t, from-asked g)

@@ -1,3 +1,4 @@
 pub mod Read
+pub mod Asked
 pub mod Left
 pub mod Disk

@@ -23,7 +23,7 @@ pub use Rattle.geometry.specs.Limits.{mib}
 pub use Rattle.geometry.specs.declared.Geometry.{Geometry}
 pub use Rattle.geometry.specs.Compute.{chosenOf, refusals, computeDef}
 pub use Rattle.geometry_answers.specs.Named.{namedOn, namesOf, isAnswer}
-pub use Rattle.geometry_answers.specs.Answers.{Answered, TypedGeometry, TypedAnswer}
+pub use Rattle.geometry_answers.specs.Answers.{Answered, TypedGeometry}
 pub use Rattle.structs.specs.Written.{Written}
 pub use Rattle.crc.specs.Crc.{stamped, verified}
 pub use Rattle.crc.specs.Vectors.{Vectors}
@@ -52,6 +52,7 @@ pub use Rattle.list_send.specs.Sending.{begun, longestOf, handed}
 pub use Rattle.reader_exact.specs.Read.{readGroup0, readGroup, readLog}
 use Rattle.reader_exact.specs.Read.{found}
 pub use Rattle.reader_names.specs.Sizings.{plain}
+pub use Rattle.reader_exact.specs.Asked.{AskedFor}
 pub use Rattle.reader_exact.specs.Left.{Octets, Handed, ReadWhole, reported}
 pub use Rattle.reader_exact.specs.Disk.{headOn, formatted, ByRecords}
 use Rattle.reader_exact.specs.Disk.{logOn}
