@@ -37,10 +37,11 @@ use Rattle.reader_exact.specs.Disk.{formatted}
 use Rattle.reader_exact.proofs.Sizings.{reported-plain, reported-old}
 use Rattle.reader_exact.proofs.Numbers.{first-numbers, group-numbers, log-numbers}
 use Rattle.reader_exact.proofs.Sources.{exact-asked}
+use Rattle.reader_exact.proofs.Refused.{past-refused}
 use Rattle.reader_exact.proofs.Whole.{exact-whole}
 use Rattle.reader_vouch.proofs.Leaving.{first-head, other-head, log-block}
 use Rattle.reader_pass.proofs.Left.{accepted-left, left-accepted, left-unfinished}
-use Rattle.reader_pass.proofs.Fed.{fed-left}
+use Rattle.reader_pass.proofs.Fed.{parts-exact, parts-few, parts-more}
 use Rattle.mission.specs.Mission.{Demand1, Demand2, Demand3}
 use Rattle.mission.specs.Mission.Words.{OneForm}
 use Rattle.mission.proofs.Checks.{heads-checked}
@@ -132,7 +133,9 @@ demand3 =
       whole-disk = exact-whole;
       pass-accepts = λ d b n h. (accepted-left d b n, left-accepted d b n h);
       pass-unfinished = left-unfinished;
-      pass-vouches = fed-left;
+      pass-vouches = parts-exact;
+      pass-counted = λ parts n. ((λ w h. parts-few parts w n h), (λ h. parts-more parts n h));
+      no-such-group = λ g u k xs a h. past-refused g u xs k a h;
       one-use = used-once;
       totals = all-totals;
       interrupted = λ r a old n. (its-refused r a old n, its-accepted r a old n);

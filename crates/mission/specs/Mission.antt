@@ -141,10 +141,16 @@ pub record Demand3 : Type 0 where
   -- Before its end, on such a disk, it says 27 at the place that comes next (group 0 for the first sector, agcount for the log block).
   pub pass-unfinished : (d : Device) → LeftByRun d → (n : ℕ) → n < turnsNeeded d
       → (verdictOf (passed d n) .number ≡ wrongLength) × (verdictOf (passed d n) .place ≡ n - 1)
-  -- Whatever it is fed, from a file that changes while it is read too: 0 says that one accepted run leaves all these parts, the heads
-  -- behind the first sector and the log block behind them, and that all were fed.
-  pub pass-vouches : (parts : ℕ → List ℕ) → Octets (parts 1) → (n : ℕ) → verdictOf (fedBy parts n) .number ≡ 0
-      → ByRecords (λ k. parts (k + 1)) (parts (groupsFed parts + 1)) × (groupsFed parts + 2 ≤ n)
+  -- Whatever it is fed, part by part, from a file that changes while it is read too: its verdict is 0 exactly where one accepted run leaves
+  -- these parts (the heads behind a first sector that says how long they are, and the log block behind them), and all were fed: the first
+  -- sector, as many heads as there are groups, and the log block.
+  pub pass-vouches : (parts : ℕ → List ℕ) → Octets (parts 1) → (n : ℕ) → (verdictOf (fedBy parts n) .number ≡ 0) ↔ (RunParts parts × (partsNeeded parts ≤ n))
+  -- With fewer of them it says 27 at the place that comes next; whatever the parts, those behind the last that is needed change nothing.
+  pub pass-counted : (parts : ℕ → List ℕ) (n : ℕ)
+      → (RunParts parts → n < partsNeeded parts → (verdictOf (fedBy parts n) .number ≡ wrongLength) × (verdictOf (fedBy parts n) .place ≡ n - 1))
+      × (partsNeeded parts ≤ n → fedBy parts n ≡ fedBy parts (partsNeeded parts))
+  -- A head too many is that of a group that isn't there, and gets 29 whatever its bytes.
+  pub no-such-group : (g : Geometry) (u : List ℕ) (k : ℕ) (xs : List ℕ) → isAnswer g ≡ true → g .agcount ≤ k → readGroup g u k xs .number ≡ noPlace
   -- On a disk accepted whole, with the geometry that group 0's head gave, each block of each group has exactly one of five uses, decoded
   -- from the bytes.
   pub one-use : (heads : ℕ → List ℕ) (log : List ℕ) → Octets (heads 0) → ReadWhole heads log → (g : Geometry) → readGroup0 (heads 0) .geometry ≡ g

@@ -71,7 +71,7 @@ module _ (xs : List ℕ) (e : readGroup0 xs .number ≡ 0) where
   its-count = let b = answer-bounds (readGroup0 xs .geometry) its-label its-answer .groups .count-least in omega arith
 
 -- no more than the first sector is read for the name
-sector-named : (roomy : Bool) (xs ys : List ℕ) → take 512 xs ≡ ys → namedBy roomy xs ≡ namedBy roomy ys
+pub sector-named : (roomy : Bool) (xs ys : List ℕ) → take 512 xs ≡ ys → namedBy roomy xs ≡ namedBy roomy ys
 sector-named roomy xs ys e =
     same-named xs ys (
       part-first 512 4 4 xs ys (omega arith) e,
@@ -92,6 +92,14 @@ sector-named roomy xs ys e =
         ),
       ),
     ) roomy
+
+-- what bytes name under a sizing differs from what they name in plain sizing in log and sizing alone
+pub near-of : (roomy : Bool) (xs : List ℕ) (f : Geometry) → namedBy roomy xs ≡ record { number = 0; geometry = f } → plain f ≡ sized (namedBy false xs .geometry) (f .logblocks) false
+unfolding namedBy
+near-of roomy xs f e =
+    let y : namedBy roomy xs .number ≡ 0 = ap (λ (c : Computed). c .number) e in
+    subst (λ (c : Computed). plain (c .geometry) ≡ sized (namedBy false xs .geometry) (c .geometry .logblocks) false) e
+    (but-for-log (namesAt xs) roomy y (either-named roomy xs y))
 
 -- ---- geometries that differ in log and sizing alone put all in the same places
 
@@ -119,13 +127,9 @@ module _ (d : Device) where
   pub head-named : (roomy : Bool) (g : Geometry) → 512 ≤ headLength g → namedBy roomy (headOn g d 0) ≡ namedBy roomy (read d 0 512)
   head-named roomy g h = sector-named roomy (headOn g d 0) sector (ap (take 512) (head-start g) ∙ sym (read-first d 0 512 (headLength g) h))
 
-  -- what the first sector names under a sizing differs from what it names in plain sizing in log and sizing alone
+  -- what the first sector names under a sizing
   pub near-named : (roomy : Bool) (f : Geometry) → namedBy roomy (read d 0 512) ≡ record { number = 0; geometry = f } → plain f ≡ sized (sectorNamed d) (f .logblocks) false
-  unfolding namedBy
-  near-named roomy f e =
-      let y : namedBy roomy sector .number ≡ 0 = ap (λ (c : Computed). c .number) e in
-      subst (λ (c : Computed). plain (c .geometry) ≡ sized (sectorNamed d) (c .geometry .logblocks) false) e
-      (but-for-log (namesAt sector) roomy y (either-named roomy sector y))
+  near-named roomy f e = near-of roomy sector f e
 
   abbrev g : Geometry
   g = sectorNamed d
@@ -286,11 +290,11 @@ pub ended-zero : (p : Pass) → verdictOf p .number ≡ 0 → (p .stage ≡ Ende
 ended-zero p z = let e = no-verdict p (isEnded (p .stage)) refl z in (e, sym (verdict-ended p e) ∙ z)
 
 -- one that isn't ended says 27 at the place that comes next
-verdict-open : (p : Pass) → isEnded (p .stage) ≡ false → Missing (verdictOf p) (p .place)
+pub verdict-open : (p : Pass) → isEnded (p .stage) ≡ false → Missing (verdictOf p) (p .place)
 unfolding verdictOf
 verdict-open p e = rw e (refl, refl)
 
-place-open : (g : Geometry) (k : ℕ) → isEnded (stageAt g k) ≡ false
+pub place-open : (g : Geometry) (k : ℕ) → isEnded (stageAt g k) ≡ false
 unfolding stageAt
 place-open g k = choose-elim (λ (s : Stage). isEnded s ≡ false) (ltb k (g .agcount)) Heads Log (λ t. refl) (λ t. refl)
 

@@ -58,7 +58,8 @@ pub use Rattle.reader_exact.specs.Disk.{headOn, formatted, ByRecords}
 use Rattle.reader_exact.specs.Disk.{logOn}
 pub use Rattle.reader_vouch.specs.Leaving.{Leaves, LeavesLog, SomeLeaves}
 pub use Rattle.reader_pass.specs.Passing.{verdictOf}
-pub use Rattle.reader_pass.specs.Device.{Bytes, passed, fedBy, groupsFed, turnsNeeded, LeftByRun}
+pub use Rattle.reader_pass.specs.Device.{Bytes, passed, fedBy, turnsNeeded, LeftByRun}
+pub use Rattle.reader_pass.specs.Parts.{partsNeeded, RunParts}
 pub use Rattle.reader_decoded.specs.Decoded.{logIn, countIn}
 pub use Rattle.reader_decoded.specs.Checks.{Checked}
 pub use Rattle.reader_uses.specs.ByUse.{usesIn, Once, freeTotal, listTotal, chunkTotal}
