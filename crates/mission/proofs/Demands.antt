@@ -42,6 +42,7 @@ use Rattle.reader_exact.proofs.Whole.{exact-whole}
 use Rattle.reader_vouch.proofs.Leaving.{first-head, other-head, log-block}
 use Rattle.reader_pass.proofs.Left.{accepted-left, left-accepted, left-unfinished}
 use Rattle.reader_pass.proofs.Fed.{parts-exact, parts-few, parts-more}
+use Rattle.reader_layout.proofs.Left.{superblock-left, agf-left, agi-left, list-left, roots-left, inodes-left, directory-left}
 use Rattle.mission.specs.Mission.{Demand1, Demand2, Demand3}
 use Rattle.mission.specs.Mission.Words.{OneForm}
 use Rattle.mission.proofs.Checks.{heads-checked}
@@ -119,6 +120,13 @@ demand2 =
       ordered-list = run-ordered;
       left-behind = run-left;
       checksums-left = heads-checked;
+      superblocks-left = superblock-left;
+      agfs-left = agf-left;
+      agis-left = agi-left;
+      lists-left = list-left;
+      roots-left = roots-left;
+      inodes-left = inodes-left;
+      directory-left = directory-left;
     }
 
 pub demand3 : Demand3

@@ -114,6 +114,28 @@ pub record Demand2 : Type 0 where
   -- Every checksum in every head that they leave verifies: superblock, AGF, AGI, free list, and each root.
   pub checksums-left : (r : Request) → AcceptedRun r → (old : Device) (k : ℕ) → k < runOf r .geometry .agcount
       → Checked (runOf r .geometry) (headOn (runOf r .geometry) (formatted r old) k)
+  -- In every head that they leave each number stands at the public document's offset, and is the geometry's, the plan's or
+  -- the run's: in the superblock,
+  pub superblocks-left : (r : Request) → AcceptedRun r → (old : Device) (k : ℕ) → k < runOf r .geometry .agcount
+      → SuperblockAt (runOf r .geometry) (runOf r .uuid) k (sectorAt (runOf r .geometry) 0 (headOn (runOf r .geometry) (formatted r old) k))
+  -- in the free space header,
+  pub agfs-left : (r : Request) → AcceptedRun r → (old : Device) (k : ℕ) → k < runOf r .geometry .agcount
+      → AgfAt (runOf r .geometry) (runOf r .uuid) k (sectorAt (runOf r .geometry) 1 (headOn (runOf r .geometry) (formatted r old) k))
+  -- in the inode header,
+  pub agis-left : (r : Request) → AcceptedRun r → (old : Device) (k : ℕ) → k < runOf r .geometry .agcount
+      → AgiAt (runOf r .geometry) (runOf r .uuid) k (sectorAt (runOf r .geometry) 2 (headOn (runOf r .geometry) (formatted r old) k))
+  -- in the free list,
+  pub lists-left : (r : Request) → AcceptedRun r → (old : Device) (k : ℕ) → k < runOf r .geometry .agcount
+      → FreeListAt (runOf r .geometry) (runOf r .uuid) k (sectorAt (runOf r .geometry) 3 (headOn (runOf r .geometry) (formatted r old) k))
+  -- and in the header of each root behind the sectors.
+  pub roots-left : (r : Request) → AcceptedRun r → (old : Device) (k : ℕ) → k < runOf r .geometry .agcount
+      → RootsAt (runOf r .geometry) (runOf r .uuid) k (headOn (runOf r .geometry) (formatted r old) k)
+  -- In the root chunk that they leave the checksum of each of the 64 inodes verifies; each has its magic, its number and the UUID.
+  pub inodes-left : (r : Request) → AcceptedRun r → (old : Device)
+      → Inodes (runOf r .geometry) (runOf r .uuid) (chunkOn (runOf r .geometry) (formatted r old))
+  -- The first of them is the root directory: empty, its own parent, and its four times are the run's.
+  pub directory-left : (r : Request) → AcceptedRun r → (old : Device)
+      → DirectoryAt (runOf r .geometry) (runOf r .time) (inodeIn (runOf r .geometry) 0 (chunkOn (runOf r .geometry) (formatted r old)))
 
 -- ==== DEMAND 3: a reader that sees only the heads and the first log block, and what it vouches for
 

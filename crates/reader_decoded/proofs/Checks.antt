@@ -38,7 +38,7 @@ use Rattle.reader_decoded.proofs.Sectors.{whole, agf-there, agi-there, 
 
 -- ---- a list of blocks, each with its checksum
 
-abbrev Blocks : ℕ → List (List ℕ) → Type 0
+abbrev pub Blocks : ℕ → List (List ℕ) → Type 0
 Blocks bs [] = Unit {0}
 Blocks bs (x ∷ xs) = (length x ≡ bs) × (verified 52 x ≡ true) × Blocks bs xs
 
@@ -131,16 +131,16 @@ module _ (w : Frame) (p : AgPlan) (g : Geometry) (s : SbState) (uuid : List ℕ)
   refc-ok = (root-length w uuid _ _ _ _, root-checked _ _ _ _)
 
   -- the roots that are on, from the last to the first
-  abbrev counted : List (List ℕ)
+  abbrev pub counted : List (List ℕ)
   counted = choose (w .features .reflink) (refcRoot w uuid ∷ []) []
 
-  abbrev mapped : List (List ℕ)
+  abbrev pub mapped : List (List ℕ)
   mapped = choose (w .features .rmapbt) (rmapRoot w uuid (p .rmap) ∷ counted) counted
 
-  abbrev freed : List (List ℕ)
+  abbrev pub freed : List (List ℕ)
   freed = choose (w .features .finobt) (inodeRoot w uuid finoMagic (fibtBlock (w .header)) ∷ mapped) mapped
 
-  abbrev roots : List (List ℕ)
+  abbrev pub roots : List (List ℕ)
   roots = bnoRoot w uuid (p .free) ∷ cntRoot w uuid (p .free) ∷ inodeRoot w uuid inoMagic (ibtBlock (w .header)) ∷ freed
 
   roots-are : rootsBytes w p uuid ≡ joined roots []
@@ -149,7 +149,7 @@ module _ (w : Frame) (p : AgPlan) (g : Geometry) (s : SbState) (uuid : List ℕ)
       ap (λ (ys : List ℕ). bnoRoot w uuid (p .free) ++ (cntRoot w uuid (p .free) ++ (inodeRoot w uuid inoMagic (ibtBlock (w .header)) ++ ys)))
       (opt-joined (w .features .finobt) _ mapped _ (opt-joined (w .features .rmapbt) _ counted _ (opt-last (w .features .reflink) _)))
 
-  roots-ok : Blocks (w .block) roots
+  pub roots-ok : Blocks (w .block) roots
   roots-ok =
       let c = opt-blocks (w .block) (w .features .reflink) (refcRoot w uuid) [] (refc-ok .0) (refc-ok .1) tt in
       let m = opt-blocks (w .block) (w .features .rmapbt) (rmapRoot w uuid (p .rmap)) counted (rmap-ok .0) (rmap-ok .1) c in
@@ -158,7 +158,7 @@ module _ (w : Frame) (p : AgPlan) (g : Geometry) (s : SbState) (uuid : List ℕ)
       let j = inode-ok inoMagic (ibtBlock (w .header)) in
       (bno-ok .0, bno-ok .1, (cnt-ok .0, cnt-ok .1, (j .0, j .1, f)))
 
-  roots-count : length roots ≡ 3 + bit (w .features .finobt) + bit (w .features .rmapbt) + bit (w .features .reflink)
+  pub roots-count : length roots ≡ 3 + bit (w .features .finobt) + bit (w .features .rmapbt) + bit (w .features .reflink)
   roots-count =
       let a = opt-length (w .features .finobt) (inodeRoot w uuid finoMagic (fibtBlock (w .header))) mapped in
       let b = opt-length (w .features .rmapbt) (rmapRoot w uuid (p .rmap)) counted in
@@ -166,10 +166,10 @@ module _ (w : Frame) (p : AgPlan) (g : Geometry) (s : SbState) (uuid : List ℕ)
       omega arith
 
   -- what stands before the roots
-  abbrev before : List ℕ
+  abbrev pub before : List ℕ
   before = sbBytes g s sector ++ (sectorsBytes w p uuid ++ zeros (w .header * w .block - 4 * w .sector))
 
-  before-long : length before ≡ w .header * w .block
+  pub before-long : length before ≡ w .header * w .block
   unfolding sectorsBytes
   before-long =
       let z = length-replicate {A = ℕ} (w .sector) 0 in
@@ -181,7 +181,7 @@ module _ (w : Frame) (p : AgPlan) (g : Geometry) (s : SbState) (uuid : List ℕ)
       let f = ok .sectors-fit in
       simp length-append (omega arith)
 
-  whole-is : whole w p g s uuid ok ≡ before ++ joined roots []
+  pub whole-is : whole w p g s uuid ok ≡ before ++ joined roots []
   unfolding behindBytes
   whole-is = ap (λ (ys : List ℕ). sbBytes g s sector ++ (sectorsBytes w p uuid ++ (zeros (w .header * w .block - 4 * w .sector) ++ ys))) roots-are ∙ simp append-assoc
 

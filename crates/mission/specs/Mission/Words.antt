@@ -60,8 +60,10 @@ pub use Rattle.reader_vouch.specs.Leaving.{Leaves, LeavesLog, SomeLeaves}
 pub use Rattle.reader_pass.specs.Passing.{verdictOf}
 pub use Rattle.reader_pass.specs.Device.{Bytes, passed, fedBy, turnsNeeded, LeftByRun}
 pub use Rattle.reader_pass.specs.Parts.{partsNeeded, RunParts}
-pub use Rattle.reader_decoded.specs.Decoded.{logIn, countIn}
+pub use Rattle.reader_decoded.specs.Decoded.{sectorAt, logIn, countIn}
 pub use Rattle.reader_decoded.specs.Checks.{Checked}
+pub use Rattle.reader_layout.specs.Layouts.{SuperblockAt, AgfAt, AgiAt, FreeListAt, RootsAt}
+pub use Rattle.reader_layout.specs.Chunk.{chunkOn, inodeIn, Inodes, DirectoryAt}
 pub use Rattle.reader_uses.specs.ByUse.{usesIn, Once, freeTotal, listTotal, chunkTotal}
 
 -- Each promise on a lent buffer is `Written`, of its own test's number and its own bytes: of a write that asks for `m` bytes, of one by a table
