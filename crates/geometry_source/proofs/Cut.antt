@@ -27,7 +27,7 @@ use Rattle.geometry.specs.Limits.{minGroup, minBytes, realisticLogBytes, minGro
 use Rattle.geometry.specs.Groups.{defaultSize, initialGroups, isShort, trim, optionsRefusals}
 use Rattle.geometry.specs.Log.{preallocOf, lastRefusals}
 use Rattle.geometry.specs.Compute.{withGroups, askedGroups, withSizes, chosenOf, refusals, refusalOf}
-use Rattle.geometry_answers.proofs.Tests.{Sized, Grouped, sized, grouped, all-clear, sizes-part, options-part, groups-part, last-part, rest-of}
+use Rattle.geometry_answers.proofs.Tests.{Sized, Grouped, sized, grouped, all-clear, sizes-part, options-part, groups-part, rest-of}
 use Rattle.geometry_layout.specs.Places.{usableOf, chunkOf}
 use Rattle.geometry_layout.proofs.Ceil.{counted}
 use Rattle.geometry_layout.proofs.Small.{head-most, chunk-most}

@@ -2,7 +2,6 @@
 -- Assumes nothing.
 use mathlib.Core.Path.{_≡_}
 use Rattle.geometry.specs.declared.Geometry.{Geometry}
-use Rattle.geometry.specs.declared.Computed.{Computed}
 use Rattle.request.specs.declared.Request.{Request}
 use Rattle.run.specs.Runs.{stepOf}
 use Rattle.list_accepted.specs.Accepted.{TypedRequest}
