@@ -200,3 +200,8 @@ module _ (p : Params) (device logical physical : ℕ) where
       → cutChosen (chosenOf p device logical physical) .log ≡ chosenOf p device logical physical .log
   unfolding chosenOf withSizes
   cut-accepted e = log-kept p device (sizesOf p logical physical) e
+
+-- a log of all that it may have is cut in a single group, and not in two
+cut-example : (cutLog 1 20_000 8 20_000 ≡ 19_968) × (cutLog 2 20_000 8 20_000 ≡ 20_000)
+unfolding cutLog when
+cut-example = (refl, refl)
