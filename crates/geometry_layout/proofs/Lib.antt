@@ -4,4 +4,3 @@ pub mod Small
 pub mod Bounding
 pub mod Sizings
 pub mod Inside
-pub mod Unreachable
