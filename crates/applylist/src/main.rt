@@ -33,8 +33,8 @@ use list_apply::wants;
 use list_read::BYTES;
 use list_read::FLUSH;
 use list_read::ZEROS;
-use list_sector::ENOUGH;
 use list_sector::below_logical;
+use list_sector::enough;
 
 // What became of a piece: it is done, or the call that failed.
 pub(crate) const DONE: u8 = 0;
@@ -316,7 +316,8 @@ fn apply_to_device(fd: i32, extends: bool, limit: u64, path: &[u8]) {
     }
     let none = [0u8; 1];
     let mut ahead = io::large_buffer();
-    let i = input::fill_wanted(&none, 1, 0, ENOUGH, &mut ahead);
+    let want = enough();
+    let i = input::fill_wanted(&none, 1, 0, want, &mut ahead);
     if i.failed {
         os::fail(b"standard input");
         return;

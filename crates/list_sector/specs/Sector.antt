@@ -3,7 +3,7 @@
 -- Assumes nothing.
 use mathlib.Core.Bool.{Bool, _&&_}
 use mathlib.Core.List.{List}
-use Prim.Native.Nat.{ℕ, _+_}
+use Prim.Native.Nat.{ℕ, _+_, _*_}
 use lib.Dec.{leb, ltb, eqb}
 use lib.ListN.{length}
 use Rattle.seqs.specs.Lists.{choose}
@@ -33,6 +33,11 @@ sectorBehind n xs = choose (leb n 16384 && leb (194 + n) (length xs)) (choose (i
 -- the sector size that the bytes say, 0 where they say none
 unfoldable pub sectorIn : List ℕ → ℕ
 sectorIn xs = choose (ltb (length xs) 194) 0 (sectorBehind (blockIn xs) xs)
+
+-- so many bytes of any list have it: three heads of 18 bytes, the log's record with the largest block, the head of the next, and 104 bytes of
+-- the superblock
+abbrev pub enough : ℕ
+enough = 3 * 18 + (18 + 16384) + 18 + 104
 
 -- it is smaller than the device's logical sector
 unfoldable pub belowLogical : List ℕ → ℕ → Bool

@@ -3,15 +3,18 @@ ghost use mathlib.Core.Path.{_≡_};
 ghost use Prim.Native.Nat.{_+_, _≤_};
 ghost use lib.ListN.{length};
 ghost use Rattle.endian.specs.Bytes.{beAt};
-ghost use Rattle.list_sector.specs.Sector.{isFirst, sectorBehind, sectorIn, belowLogical};
+ghost use Rattle.list_sector.specs.Sector.{isFirst, sectorBehind, sectorIn, enough, belowLogical};
 use arith::choice::both;
 use endian::be16;
 use endian::be32;
 use endian::be64;
 
-// As many bytes of a list as its superblock's sector size stands in: three heads of 18 bytes, two records with theirs, the largest block and
-// 104 bytes of the superblock.
-pub const ENOUGH: usize = 16578;
+// As many bytes of a list as its superblock's sector size stands in.
+pub fn enough() -> usize
+    ensures { λ r. ⌜ r ≡ enough ⌝ }
+{
+    16578
+}
 
 // The mark WB.
 const BYTES_MARK: u32 = 0x5742;

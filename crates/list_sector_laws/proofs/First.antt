@@ -8,11 +8,10 @@ use native.Mathlib.Omega.{arith}
 use lib.Dec.{leb}
 use lib.ListN.{length, take}
 use lib.Seq.{length-take-le, take-all, take-take}
-use borrow.Author.Tests.{leb-true, leb-false, le-leb, lt-leb, le-ltb}
+use borrow.Author.Tests.{leb-true, leb-false, le-leb, le-ltb}
 use Rattle.endian.specs.Bytes.{beAt}
 use Rattle.endian.proofs.Consecutive.{at-inside}
-use Rattle.list_sector.specs.Sector.{blockIn, isFirst, sectorBehind, sectorIn}
-use Rattle.list_sector_laws.specs.Learned.{enough}
+use Rattle.list_sector.specs.Sector.{blockIn, isFirst, sectorBehind, sectorIn, enough}
 
 -- a number inside bytes that two lists begin with is the same in both
 pub same-first : (n off size : ℕ) (xs ys : List ℕ) → take size xs ≡ take size ys → off + n ≤ size → beAt n off xs ≡ beAt n off ys

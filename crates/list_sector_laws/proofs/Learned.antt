@@ -2,7 +2,7 @@
 -- Assumes nothing.
 use mathlib.Core.Path.{_≡_, refl, sym, ap, _∙_}
 use mathlib.Core.List.{List, _++_}
-use Prim.Native.Nat.{ℕ, _+_, _*_, _^_, _≤_, _<_}
+use Prim.Native.Nat.{ℕ, _+_, _^_, _≤_, _<_}
 use native.Mathlib.Omega.{arith}
 use native.Mathlib.Nat.{mul-le-mul-right}
 use lib.Dec.{ltb, lit<}
@@ -14,7 +14,6 @@ use Rattle.endian.proofs.Consecutive.{at-inside}
 use Rattle.structs.proofs.Reading.{read-number}
 use Rattle.geometry.specs.declared.Geometry.{Geometry}
 use Rattle.plan.specs.Plan.{planned}
-use Rattle.sb.specs.declared.SbState.{SbState}
 use Rattle.sb.specs.Superblock.{fieldsWith, sbFields, sbBytes}
 use Rattle.sb.proofs.Read.{sb-holds, sectsize-back}
 use Rattle.sb_states.specs.States.{unfinishedState, stateOf}
@@ -33,7 +32,7 @@ use Rattle.list_accepted.proofs.Sizes.{sector-least}
 use Rattle.list_accepted.proofs.Runs.{run-bounds, run-label, run-uuid-length}
 use Rattle.list_accepted.proofs.Sound.{sound}
 use Rattle.list_accepted.proofs.Parsed.{accepted-run}
-use Rattle.list_sector_laws.specs.Learned.{enough, firstBytes, Learned}
+use Rattle.list_sector_laws.specs.Learned.{Learned}
 use Rattle.list_sector_laws.proofs.First.{same-first, first-says}
 use Rattle.list_sector_laws.proofs.Begins.{firstBlock, restOf, list-begins}
 

@@ -6,13 +6,9 @@ use Prim.Native.Nat.{ℕ, _≤_}
 use lib.Dec.{ltb}
 use lib.ListN.{take}
 use Rattle.list_records.specs.Records.{listBytes}
-use Rattle.list_sector.specs.Sector.{sectorIn, belowLogical}
+use Rattle.list_sector.specs.Sector.{sectorIn, enough, belowLogical}
 use Rattle.run.specs.declared.Run.{Run}
 use Rattle.list_spec.specs.Listing.{listOf}
-
--- so many bytes are held back: ENOUGH of crate list_sector
-abbrev pub enough : ℕ
-enough = 16578
 
 -- the first n bytes of a run's list
 abbrev pub firstBytes : Run → ℕ → ℕ → List ℕ

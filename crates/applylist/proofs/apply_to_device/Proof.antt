@@ -25,6 +25,9 @@ returns c = search needs
 large-buffer-requires : tie.Need-large-buffer-requires
 large-buffer-requires c κs = search needs
 
+enough-requires : tie.Need-enough-requires
+enough-requires c κs = search needs
+
 slice-aggregate-fill-wanted : tie.Need-slice-aggregate-fill-wanted
 slice-aggregate-fill-wanted c = search needs
 
@@ -83,6 +86,7 @@ apply-to-device-spec =
     write-all-requires-2
     returns
     large-buffer-requires
+    enough-requires
     slice-aggregate-fill-wanted
     slice-aggregate-fill-wanted-2
     fill-wanted-requires
