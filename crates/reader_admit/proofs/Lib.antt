@@ -1,0 +1,4 @@
+pub mod Within
+pub mod Admitted
+pub mod Whole
+pub mod Example
