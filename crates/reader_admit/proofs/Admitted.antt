@@ -6,8 +6,7 @@ use mathlib.Core.Bool.{Bool, true, false, not, _&&_}
 use mathlib.Core.List.{List}
 use mathlib.Core.Logic.{_↔_}
 use Prim.Native.Nat.{ℕ, _<_}
-use native.Mathlib.Omega.{arith}
-use borrow.Author.Tests.{eqb-true, eqb-false, ne-eqb}
+use borrow.Author.Tests.{eqb-true, ne-eqb}
 use lib.Dec.{eqb}
 use Rattle.arith.specs.Choice.{when}
 use Rattle.seqs.specs.Lists.{choose}
@@ -22,14 +21,13 @@ use Rattle.list_spec.specs.Listing.{logBlock, headLeft}
 use Rattle.list_accepted.specs.Accepted.{Source}
 use Rattle.reader_exact.specs.declared.Found.{Found}
 use Rattle.reader_exact.specs.Read.{found, readGroup0, readGroup, readLog}
-use Rattle.reader_exact.specs.Left.{Octets, Handed, Left, LeftLog, reported}
+use Rattle.reader_exact.specs.Left.{Octets, Handed, Left, LeftLog}
 use Rattle.reader_exact.specs.Disk.{headOn, logOn, formatted}
 use Rattle.reader_exact.proofs.Disk.{head-formatted, log-formatted}
 use Rattle.reader_exact.proofs.First.{complete-first, exact-first}
 use Rattle.reader_exact.proofs.Others.{group-sound, complete-group, exact-log}
-use Rattle.reader_vouch.specs.Leaving.{Leaves, LeavesLog}
 use Rattle.reader_admit.specs.Admit.{admitted}
-use Rattle.reader_admit.specs.Profile.{ProfileSource, ProfileLeaves, ProfileLeavesLog, ProfileFirst}
+use Rattle.reader_admit.specs.Profile.{ProfileLeaves, ProfileLeavesLog, ProfileFirst}
 use Rattle.reader_admit.proofs.Within.{source-within, within-source, reported-within}
 
 -- ---- the number

@@ -12,9 +12,9 @@ use Rattle.request.specs.declared.Request.{Request}
 use Rattle.run.specs.Runs.{runOf}
 use Rattle.list_records.specs.Device.{Device}
 use Rattle.list_spec.specs.Listing.{logBlock, headLeft}
-use Rattle.list_accepted.specs.Accepted.{AcceptedRun, Source}
+use Rattle.list_accepted.specs.Accepted.{AcceptedRun}
 use Rattle.reader_exact.specs.Read.{readGroup0}
-use Rattle.reader_exact.specs.Left.{Octets, ReadWhole, reported}
+use Rattle.reader_exact.specs.Left.{Octets, ReadWhole}
 use Rattle.reader_exact.specs.Disk.{ByRecords, headOn, logOn}
 use Rattle.reader_exact.proofs.Disk.{head-formatted, log-formatted}
 use Rattle.reader_exact.proofs.Heads.{source-handed}
@@ -22,7 +22,7 @@ use Rattle.reader_exact.proofs.Others.{exact-log}
 use Rattle.reader_exact.proofs.Recovery.{Recovered, recovered}
 use Rattle.reader_exact.proofs.Whole.{whole-source, whole-heads}
 use Rattle.reader_pass.specs.Passing.{verdictOf}
-use Rattle.reader_pass.specs.Device.{Bytes, passed, fedBy, groupsFed, sectorNamed, turnsNeeded, Whole, LeftByRun}
+use Rattle.reader_pass.specs.Device.{Bytes, passed, fedBy, groupsFed, sectorNamed, turnsNeeded, LeftByRun}
 use Rattle.reader_pass.proofs.Accepted.{pass-sound, pass-geometry}
 use Rattle.reader_pass.proofs.Fed.{fed-whole}
 use Rattle.reader_pass.proofs.Left.{octets, run-leaves, left-accepted, left-geometry}

@@ -4,15 +4,14 @@
 use mathlib.Core.Path.{_≡_, refl, sym, ap, subst, _∙_}
 use mathlib.Core.Bool.{Bool, true, false}
 use mathlib.Core.List.{List}
-use Prim.Native.Nat.{ℕ, _^_, _<_, _≤_}
+use Prim.Native.Nat.{ℕ, _<_}
 use native.Mathlib.Omega.{arith}
-use borrow.Author.Tests.{le-ltb, ltb-false}
+use borrow.Author.Tests.{le-ltb}
 use lib.Dec.{ltb, lit<}
 use lib.ListN.{length}
 use Rattle.seqs.proofs.Laws.{choose-elim}
 use Rattle.params.specs.declared.Label.{Label}
 use Rattle.params.specs.declared.Params.{Params}
-use Rattle.params.specs.declared.Timestamp.{Timestamp}
 use Rattle.params.specs.Params.{withLabel}
 use Rattle.geometry_sizes.specs.Sizes.{sizesOf}
 use Rattle.geometry.specs.declared.Geometry.{Geometry}

@@ -1,6 +1,7 @@
 // A reader that is told to admit profile disks only: the step behind an answer of the reader, which stays as it is where it isn't told so.
 ghost use mathlib.Core.Path.{_≡_};
 ghost use Rattle.reader_admit.specs.Admit.{admitted};
+use arith::choice::pick_u32;
 use geometry::Geometry;
 use profile::label_on;
 use profile::profile_number;
@@ -12,8 +13,5 @@ pub fn admit(told: bool, g: Geometry, number: u32) -> u32
 {
     let label = label_on(g);
     let n = profile_number(told, g, label);
-    if number != 0 {
-        return number;
-    }
-    n
+    pick_u32(number == 0, n, number)
 }

@@ -1,18 +1,23 @@
 -- `reader_admit::admit` meets its contract.
 -- Assumes nothing.
+use mathlib.Core.Path.{_≡_, refl, _∙_}
+use mathlib.Core.Bool.{Bool, true, false}
+use Prim.Native.Nat.{ℕ}
 use borrow.Author.Needs.{needs}
-use borrow.Author.Tests.{eq-eqb, ne-eqb}
+use Rattle.arith.specs.Choice.{when}
+use Rattle.seqs.specs.Lists.{choose}
 use Rattle.reader_admit.specs.Admit.{admitted}
 use Rattle.reader_admit.proofs.admit.Statement.{statement}
 use Rattle.reader_admit.proofs.admit.Tie as tie
 
+picked : (t : Bool) (a b : ℕ) → when t a b ≡ choose t a b
+unfolding when
+picked true a b = refl
+picked false a b = refl
+
 returns : tie.Need-returns
 unfolding admitted
-returns c = rw (ne-eqb _ 0 (c .if1 .taken))
-
-returns-2 : tie.Need-returns-2
-unfolding admitted
-returns-2 c = rw (eq-eqb _ 0 (c .if1 .left), c .before .profile-number .ensures, c .before .before .label-on .ensures)
+returns c = c .pick-u32 .ensures ∙ rw (c .before .profile-number .ensures, c .before .before .label-on .ensures) (picked _ _ _)
 
 pub admit-spec : {M : Type 1} → statement M
-admit-spec = tie.close (tie.spec (λ c κs. search needs) (λ c κs. search needs) returns returns-2)
+admit-spec = tie.close (tie.spec (λ c κs. search needs) (λ c κs. search needs) (λ c κs. search needs) returns)
