@@ -1,4 +1,4 @@
--- ADMITTED EXACTLY WHERE SOME ACCEPTED RUN UNDER THE PROFILE LEAVES THE BYTES: group 0's head, a group's head and the log block. 37 exactly where
+-- ADMITTED EXACTLY WHERE SOME ACCEPTED RUN UNDER THE PROFILE LEAVES THE BYTES: group 0's head, a group's head and the log block. 37 where
 -- an accepted run leaves them and none under the profile does.
 -- Assumes nothing.
 use mathlib.Core.Path.{_≡_, refl, sym, ap, subst, _∙_}
