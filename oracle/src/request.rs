@@ -22,8 +22,8 @@ pub mod op {
     pub const NANOSECONDS: usize = 11;
     pub const SIZING: usize = 12;
     pub const PROFILE: usize = 13;
-    /// The last code that the port's programs read today; PROFILE once they know the profile.
-    pub const LAST: usize = SIZING;
+    /// The last code.
+    pub const LAST: usize = PROFILE;
 }
 
 /// What the records say. `options[code]` is the value of the `OP` record with that code.

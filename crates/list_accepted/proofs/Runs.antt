@@ -18,9 +18,10 @@ use Rattle.geometry_layout.proofs.Bounding.{answered-bounds}
 use Rattle.request.specs.declared.Request.{Request}
 use Rattle.request.specs.Defaults.{uuidOf, timeOf, seedOf}
 use Rattle.plan_totals.specs.Totals.{plansNumber}
+use Rattle.profile.specs.Rules.{profileNumber}
 use Rattle.run.specs.declared.Run.{Run}
-use Rattle.run.specs.Runs.{orNext, stepOf, timeRefusal, runNumber, runOf}
-use Rattle.run.proofs.Accepted.{none}
+use Rattle.run.specs.Runs.{orNext, stepOf, timeRefusal, bareNumber, runNumber, runOf}
+use Rattle.run.proofs.Accepted.{none, bare-zero, profile-zero}
 use Rattle.list_accepted.specs.Accepted.{AcceptedRun, Source}
 use Rattle.list_accepted.proofs.Bytes.{below-all, label-below, uuid-length, uuid-below}
 
@@ -28,14 +29,16 @@ all-none : (a b c d : ℕ) → a ≡ 0 → b ≡ 0 → c ≡ 0 → d ≡ 0 → o
 all-none a b c d e f g h = rw (e, f, g, h) refl
 
 -- what makes a run accepted
-pub number-zero : (r : Request) → r .number ≡ 0 → stepOf r .number ≡ 0 → plansNumber (stepOf r .geometry) ≡ 0 → timeRefusal (stepOf r .geometry) (timeOf (r .params)) ≡ 0 → runNumber r ≡ 0
-unfolding runNumber
-number-zero r e f g h = all-none (r .number) (stepOf r .number) (plansNumber (stepOf r .geometry)) (timeRefusal (stepOf r .geometry) (timeOf (r .params))) e f g h
+pub number-zero : (r : Request) → r .number ≡ 0 → stepOf r .number ≡ 0 → plansNumber (stepOf r .geometry) ≡ 0 → timeRefusal (stepOf r .geometry) (timeOf (r .params)) ≡ 0
+    → profileNumber (r .profile) (stepOf r .geometry) (r .params .label) ≡ 0 → runNumber r ≡ 0
+unfolding runNumber bareNumber
+number-zero r e f g h p =
+    rw (all-none (r .number) (stepOf r .number) (plansNumber (stepOf r .geometry)) (timeRefusal (stepOf r .geometry) (timeOf (r .params))) e f g h) p
 
 -- and its records are well-formed
 pub request-zero : (r : Request) → runNumber r ≡ 0 → r .number ≡ 0
-unfolding runNumber
-request-zero r e = none (r .number) _ e .0
+unfolding bareNumber
+request-zero r e = none (r .number) _ (bare-zero r e) .0
 
 module _ (r : Request) (a : AcceptedRun r) where
   -- ---- its numbers
@@ -44,8 +47,8 @@ module _ (r : Request) (a : AcceptedRun r) where
   step = stepOf r .geometry
 
   well-formed : (r .number ≡ 0) × (orNext (stepOf r .number) (orNext (plansNumber step) (timeRefusal step (timeOf (r .params)))) ≡ 0)
-  unfolding runNumber
-  well-formed = none _ _ (a .number)
+  unfolding bareNumber
+  well-formed = none _ _ (bare-zero r (a .number))
 
   step-accepted : (stepOf r .number ≡ 0) × (orNext (plansNumber step) (timeRefusal step (timeOf (r .params))) ≡ 0)
   step-accepted = none _ _ (well-formed .1)
@@ -87,6 +90,10 @@ module _ (r : Request) (a : AcceptedRun r) where
 
   pub run-timely : timeRefusal (runOf r .geometry) (runOf r .time) ≡ 0
   run-timely = rw (run-geometry, run-time) (rest-accepted .1)
+
+  -- under the profile its rules hold
+  pub run-profile : profileNumber (r .profile) (runOf r .geometry) (r .params .label) ≡ 0
+  run-profile = ap (λ (g : Geometry). profileNumber (r .profile) g (r .params .label)) run-geometry ∙ profile-zero r (a .number)
 
   -- ---- its geometry
 

@@ -25,6 +25,7 @@ use Rattle.plan_totals.specs.Totals.{plansNumber, freeCount}
 use Rattle.sb_states.specs.States.{finishedState}
 use Rattle.request.specs.Parse.{request}
 use Rattle.request.specs.Defaults.{orEpoch, timeOf}
+use Rattle.profile.proofs.Labels.{not-under}
 use Rattle.run.specs.Runs.{stepOf, timeRefusal, runOf}
 use Rattle.stations.specs.Stations.{Case, refused, acceptedPlans, plansBy, plansOf, shown, same, passes, all, stations, exampleRows, example}
 use Rattle.stations.proofs.StationCases.{hold}
@@ -79,7 +80,7 @@ module _ (c : Case) (root free : ℕ) (rest : List ℕ) (row : c .plans ≡ 0 �
   pub station-accepted : AcceptedRun (requestOf c)
   unfolding stepOf
   station-accepted =
-      record { typed = typed; number = number-zero (requestOf c) refl (eqb-true (step .number) 0 (planned-row .0)) (planned-row .1 .0) timely }
+      record { typed = typed; number = number-zero (requestOf c) refl (eqb-true (step .number) 0 (planned-row .0)) (planned-row .1 .0) timely (not-under (step .geometry) (c .options .label)) }
 
   -- AND LEAVES THE ROW'S NUMBERS IN GROUP 0'S SUPERBLOCK
   pub station-says : (rootField (leftIn (runOf (requestOf c)) 0) ≡ root) × (freeField (leftIn (runOf (requestOf c)) 0) ≡ free)

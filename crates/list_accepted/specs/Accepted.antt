@@ -1,4 +1,4 @@
--- Accepted runs: requests of the machine's types whose geometry, plans and time are accepted.
+-- Accepted runs: requests of the machine's types whose geometry, plans and time are accepted, under the profile or not.
 -- Assumes nothing.
 use mathlib.Core.Path.{_≡_}
 use mathlib.Core.List.{List}
@@ -28,7 +28,7 @@ pub record TypedRequest (r : Request) : Type 0 where
   pub nanoseconds : timeOf (r .params) .nsecs < 2 ^ 32
   pub seed : seedOf (r .params) < 2 ^ 64
 
--- a run is accepted if its geometry, all its plans and its time are
+-- a run is accepted if its geometry, all its plans and its time are, and under the profile its rules hold
 pub record AcceptedRun (r : Request) : Type 0 where
   pub typed : TypedRequest r
   pub number : runNumber r ≡ 0

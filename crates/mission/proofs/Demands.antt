@@ -25,7 +25,7 @@ use Rattle.seqs.proofs.Laws.{choose-elim}
 use Rattle.request.specs.declared.Request.{Request}
 use Rattle.request.specs.Parse.{parseDef}
 use Rattle.run.specs.declared.Run.{Run}
-use Rattle.run.specs.Runs.{runNumber, runOf, accepted}
+use Rattle.run.specs.Runs.{bareNumber, runNumber, runOf, accepted}
 use Rattle.list_accepted.proofs.Parsed.{accepted-run}
 use Rattle.stations.specs.Stations.{stations}
 use Rattle.list_accepted.proofs.Stations.{k1-accepted}
@@ -80,7 +80,7 @@ unfolding runOf
 number-is r = choose-elim (λ (x : Run). x .number ≡ runNumber r) (eqb (runNumber r) 0) _ _ (λ t. sym (eqb-true (runNumber r) 0 t)) (λ t. refl)
 
 pub demand1 : Demand1
-unfolding computeDef refusalOf accepted runNumber
+unfolding computeDef refusalOf accepted runNumber bareNumber
 demand1 =
     record {
       any-input = accepted-run;

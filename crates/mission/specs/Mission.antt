@@ -33,11 +33,12 @@ pub record Demand1 : Type 0 where
   -- accepted.
   pub any-input : (xs : List ℕ) → Octets xs → accepted xs .number ≡ 0 → AcceptedRun (parseDef xs)
   -- Its number is 28 where the bytes are malformed, else the geometry step's, else that of the first refused plan, else 26 where no inode
-  -- can store the time.
+  -- can store the time, else 37 where a run under the profile breaks a rule.
   pub input-number : (xs : List ℕ)
       → let r = parseDef xs in
       accepted xs .number
-      ≡ orNext (r .number) (orNext (stepOf r .number) (orNext (plansNumber (stepOf r .geometry)) (timeRefusal (stepOf r .geometry) (timeOf (r .params)))))
+      ≡ orNext (orNext (r .number) (orNext (stepOf r .number) (orNext (plansNumber (stepOf r .geometry)) (timeRefusal (stepOf r .geometry) (timeOf (r .params))))))
+      (profileNumber (r .profile) (stepOf r .geometry) (r .params .label))
   -- The geometry step's number is that of the first test of the table of refusals that holds, and 0 where none does.
   pub by-the-table : (p : Params) (device logical physical : ℕ)
       → computeDef p device logical physical .number ≡ first (refusals p device (chosenOf p device logical physical)) 0

@@ -1,4 +1,5 @@
-// Reads the disk or image that PATH names and prints planlist's table of it, or `refused N`. It is opened for reading alone.
+// Reads the disk or image that PATH names and prints planlist's table of it, or `refused N`. It is opened for reading alone. Told to admit
+// disks of the scan station profile only, it judges what the pass accepted by its geometry (`reader_admit`).
 // A pass (`reader_pass`) says which bytes it wants next and whether an accepted run leaves the disk, and `plan_table` makes the table of the
 // geometry that its superblock names; here bytes are only read, and lines written. No line is printed before every head and the log's block
 // are accepted; what the bytes of such a disk say of a group is its row (`whole-printed`, crate reader_uses).
@@ -94,13 +95,18 @@ fn read_on(fd: i32, first: Reading, work: &mut [u8], buf: &mut [u8]) -> Reading 
     r
 }
 
-// The table of an accepted disk, or the refusal of the bytes that stand at this offset.
-fn answer(v: Verdict, offset: u64, bytes: &[u8]) -> u8 {
+// The table of an accepted disk, the refusal of the bytes that stand at this offset, or that of a disk outside the profile.
+fn answer(v: Verdict, told: bool, offset: u64, bytes: &[u8]) -> u8 {
     let g = v.geometry;
     let uuid = v.uuid;
     if v.number != 0 {
         words::say_refused(v, offset, bytes);
         return printed::print_refused(v.number);
+    }
+    let n = reader_admit::admit(told, g, v.number);
+    if n != 0 {
+        words::say_outside();
+        return printed::print_refused(n);
     }
     words::say_disk(g, uuid);
     printed::print_table(g)
@@ -122,7 +128,7 @@ fn refuse_short(stop: u8, number: u32) {
 }
 
 // What is said of a disk that was read; the buffer begins with the bytes that were read last.
-fn say_read(r: Reading, buf: &[u8]) {
+fn say_read(r: Reading, told: bool, buf: &[u8]) {
     let v = reader_pass::finish(r.pass);
     let g = v.geometry;
     if r.stop != WHOLE {
@@ -132,45 +138,45 @@ fn say_read(r: Reading, buf: &[u8]) {
         return;
     }
     let n = min_usize(r.length, buf.len());
-    say_written(answer(v, r.offset, &buf[..n]));
+    say_written(answer(v, told, r.offset, &buf[..n]));
 }
 
-fn read_few(fd: i32, first: Reading) {
+fn read_few(fd: i32, told: bool, first: Reading) {
     let mut work = few_bytes();
     let mut buf = few_bytes();
     let r = read_on(fd, first, &mut work, &mut buf);
-    say_read(r, &buf);
+    say_read(r, told, &buf);
 }
 
-fn read_most(fd: i32, first: Reading) {
+fn read_most(fd: i32, told: bool, first: Reading) {
     let mut work = most_bytes();
     let mut buf = most_bytes();
     let r = read_on(fd, first, &mut work, &mut buf);
-    say_read(r, &buf);
+    say_read(r, told, &buf);
 }
 
 // The first turn says how long a head is.
-fn read_open(fd: i32) {
+fn read_open(fd: i32, told: bool) {
     let mut work = [0u8; 512];
     let mut buf = [0u8; 512];
     let begun = read_so_far(WHOLE, reader_pass::begin(), 0, 0);
     let first = turn(fd, begun, &mut work, &mut buf);
     let w = first.wanted;
     if !goes_on(first) {
-        say_read(first, &buf);
+        say_read(first, told, &buf);
         return;
     }
     if w.length <= FEW {
-        read_few(fd, first);
+        read_few(fd, told, first);
         return;
     }
-    read_most(fd, first);
+    read_most(fd, told, first);
 }
 
-// Opens the file that the argument names.
-fn open() -> i32 {
+// Opens the file that argument i names.
+fn open(i: usize) -> i32 {
     let mut path = io::buffer();
-    let n = os::arg(1, &mut path);
+    let n = os::arg(i, &mut path);
     if n == 0 && os::errno() != 0 {
         os::fail(b"path");
         return -1;
@@ -184,7 +190,7 @@ fn open() -> i32 {
 }
 
 fn usage(fd: i32) {
-    io::write_all(fd, b"usage: readdisk PATH\n");
+    io::write_all(fd, b"usage: readdisk [--profile] PATH\n");
 }
 
 // Whether the first argument is this word.
@@ -194,17 +200,26 @@ fn is_word(word: &[u8]) -> bool {
     check::same(&argument[..n], word)
 }
 
+// Reads what argument i names, the last of `count` words.
+fn read(i: usize, count: usize, told: bool) {
+    if os::arg_count() != count {
+        usage(STDERR_FILENO);
+        return;
+    }
+    let fd = open(i);
+    if 0 <= fd {
+        read_open(fd, told);
+    }
+}
+
 fn main() {
     if is_word(b"--help") {
         usage(STDOUT_FILENO);
         return;
     }
-    if os::arg_count() != 2 {
-        usage(STDERR_FILENO);
+    if is_word(b"--profile") {
+        read(2, 3, true);
         return;
     }
-    let fd = open();
-    if 0 <= fd {
-        read_open(fd);
-    }
+    read(1, 2, false);
 }

@@ -144,6 +144,11 @@ fn say_differs(a: Agreement, offset: u64, length: usize) {
     }
 }
 
+// A disk that a run leaves, but none under the profile.
+pub(crate) fn say_outside() {
+    say(b"an accepted disk, but outside the scan station profile\n");
+}
+
 // A refused place, whose bytes stand at this offset.
 pub(crate) fn say_refused(v: Verdict, offset: u64, bytes: &[u8]) {
     let g = v.geometry;

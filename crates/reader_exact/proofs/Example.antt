@@ -2,17 +2,17 @@
 -- Assumes nothing.
 use mathlib.Core.Path.{_≡_, refl}
 use mathlib.Core.Bool.{true, false}
-use mathlib.Core.List.{List, []}
+use mathlib.Core.List.{List, [], _∷_}
 use Prim.Native.Nat.{ℕ, _*_, _<_}
 use native.Mathlib.Nat.{le-refl}
 use native.Mathlib.Omega.{arith}
 use lib.Dec.{lit<}
-use lib.ListN.{length}
+use lib.ListN.{length, replicate}
 use Rattle.arith.specs.Choice.{when, bit}
 use Rattle.arith.specs.Numbers.{ceilDiv}
 use Rattle.arith.specs.Powers.{powerIn, powerLog, leastFrom, log2Up}
 use Rattle.params.specs.declared.OptU64.the-variants.{Absent}
-use Rattle.params.specs.Params.{allFeatures, noOptions, withAgcount}
+use Rattle.params.specs.Params.{allFeatures, noOptions, withAgcount, withLabel}
 use Rattle.geometry_sizes.specs.Sizes.{defaultSector, sizesOf, sizesRefusals}
 use Rattle.geometry.specs.declared.Geometry.{Geometry}
 use Rattle.geometry.specs.Groups.{askedBlocks, defaultSize, initialGroups, isShort, trim, optionsRefusals, groupsRefusals}
@@ -33,11 +33,14 @@ use Rattle.plan.specs.Plan.{freeAtFirst, rmapAtFirst, atFirst, failed, noted, m
 use Rattle.plan_totals.specs.Totals.{firstTo, plansNumber}
 use Rattle.inode_time.specs.Time.{timeInside, notEarly, shifted}
 use Rattle.request.specs.declared.Request.{Request}
+use Rattle.request.specs.Parse.{request, under}
 use Rattle.request.specs.Defaults.{timeOf}
-use Rattle.run.specs.Runs.{stepOf, timeRefusal, runNumber, runOf}
+use Rattle.profile.specs.Rules.{allowedSector, allOn, allowedGroups, labelByte, labelBytes, allowedLabel, inProfile, trimmed, labelOn}
+use Rattle.head_bytes.proofs.Below.{below-zeros}
+use Rattle.run.specs.Runs.{stepOf, timeRefusal, bareNumber, runNumber, runOf}
 use Rattle.list_accepted.specs.Accepted.{AcceptedRun}
-use Rattle.list_accepted.proofs.Typed.{plain-typed}
-use Rattle.list_accepted.proofs.Runs.{run-answer, source-of}
+use Rattle.list_accepted.proofs.Typed.{labelled-typed, plain-typed}
+use Rattle.list_accepted.proofs.Runs.{run-answer, run-geometry, source-of}
 use Rattle.head_bytes.specs.Head.{headLength}
 use Rattle.list_spec.specs.Listing.{headWritten}
 use Rattle.reader_exact.specs.Read.{readGroup0, readGroup}
@@ -47,7 +50,11 @@ use Rattle.reader_exact.proofs.Refused.{short-refused, unfinished-refus
 
 -- planlist's example: a device of 1 GiB with sectors of 512 bytes
 pub disk : Request
-disk = record { number = 0; params = noOptions; device = 1_073_741_824; logical = 512; physical = 512 }
+disk = request 0 noOptions 1_073_741_824 512 512
+
+-- the same disk under the profile, with the label AB
+pub named : Request
+named = under true (request 0 (withLabel noOptions (record { length = 2; bytes = 65 ∷ 66 ∷ replicate 10 0 })) 1_073_741_824 512 512)
 
 -- K4: 5 groups of 16,396 blocks, which planning refuses
 pub tight : Geometry
@@ -56,17 +63,41 @@ tight = computeDef (withAgcount noOptions 5) (5 * 16_396 * 4096) 512 512 .geomet
 -- what the definitions give by computation
 record Computed : Type 0 where
   pub disk-number : runNumber disk ≡ 0
+  pub disk-judged : inProfile (stepOf disk .geometry) (labelOn (stepOf disk .geometry)) ≡ false
+  pub named-number : runNumber named ≡ 0
+  pub named-field : stepOf named .geometry .label ≡ 65 ∷ 66 ∷ replicate 10 0
   pub tight-answer : isAnswer tight ≡ true
   pub tight-plans : plansNumber tight ≡ 25
   pub zero-answer : isAnswer zeroGeometry ≡ false
 
 computed : Computed
-unfolding disk tight when bit ceilDiv powerIn powerLog leastFrom log2Up defaultSector sizesOf sizesRefusals askedBlocks defaultSize initialGroups isShort trim optionsRefusals groupsRefusals headerOf preallocOf logLimit logBlocks defaultImaxpct lastRefusals withGroups withSizes chosenOf refusals refusalOf labelOf geometryOf zeroGeometry compute.answer computeDef sameFeatures numbersOf sameFrom sameGeometry namedOptions namedOn namedFits namedAnswer namesOf isAnswer ibtBlock rmapBlock refcBlock freelistOf chunkOf clusterOf alignOf roundUp aligned rootChunkOf groupBlocks fsbOf inoOf groupRefusal siteOf firstIndex pushed appended fold turns upFrom valid weigh blocks negative cut takenAt takenFrom taken fitter bigger pickedFrom picked joinsLeft joinsRight insertedAt takes inserted freeAtFirst rmapAtFirst atFirst failed noted moved turn listed chunked answer planOf planned firstTo plansNumber timeInside notEarly shifted timeOf stepOf timeRefusal runNumber
-computed = record { disk-number = refl; tight-answer = refl; tight-plans = refl; zero-answer = refl }
+unfolding disk named tight allowedSector allOn allowedGroups labelByte labelBytes allowedLabel inProfile trimmed labelOn when bit ceilDiv powerIn powerLog leastFrom log2Up defaultSector sizesOf sizesRefusals askedBlocks defaultSize initialGroups isShort trim optionsRefusals groupsRefusals headerOf preallocOf logLimit logBlocks defaultImaxpct lastRefusals withGroups withSizes chosenOf refusals refusalOf labelOf geometryOf zeroGeometry compute.answer computeDef sameFeatures numbersOf sameFrom sameGeometry namedOptions namedOn namedFits namedAnswer namesOf isAnswer ibtBlock rmapBlock refcBlock freelistOf chunkOf clusterOf alignOf roundUp aligned rootChunkOf groupBlocks fsbOf inoOf groupRefusal siteOf firstIndex pushed appended fold turns upFrom valid weigh blocks negative cut takenAt takenFrom taken fitter bigger pickedFrom picked joinsLeft joinsRight insertedAt takes inserted freeAtFirst rmapAtFirst atFirst failed noted moved turn listed chunked answer planOf planned firstTo plansNumber timeInside notEarly shifted timeOf stepOf timeRefusal bareNumber runNumber
+computed = record { disk-number = refl; disk-judged = refl; named-number = refl; named-field = refl; tight-answer = refl; tight-plans = refl; zero-answer = refl }
 
 pub disk-accepted : AcceptedRun disk
 unfolding disk
 disk-accepted = record { typed = plain-typed allFeatures Absent false 1_073_741_824 (lit< tt) (lit< tt); number = computed .disk-number }
+
+-- it has no label, and so is outside the profile
+pub disk-outside : inProfile (runOf disk .geometry) (labelOn (runOf disk .geometry)) ≡ false
+disk-outside = rw (run-geometry disk disk-accepted) (computed .disk-judged)
+
+-- the other is accepted under it, and its field is filled up with zeros
+pub named-accepted : AcceptedRun named
+unfolding named
+named-accepted =
+    record {
+      typed =
+          labelled-typed allFeatures Absent (record { length = 2; bytes = 65 ∷ 66 ∷ replicate 10 0 }) false true 1_073_741_824 (lit< tt) refl (lit< tt, (lit< tt, below-zeros 10)) (lit< tt) (lit< tt);
+      number = computed .named-number;
+    }
+
+pub named-label : runOf named .geometry .label ≡ 65 ∷ 66 ∷ replicate 10 0
+named-label = rw (run-geometry named named-accepted) (computed .named-field)
+
+pub named-under : named .profile ≡ true
+unfolding named
+named-under = refl
 
 -- IT IS READ BACK
 pub disk-read : Recovered (runOf disk .geometry) (runOf disk .uuid)

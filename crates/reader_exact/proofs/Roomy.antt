@@ -36,8 +36,9 @@ use Rattle.plan_rmap.specs.Rmap.{joinsLeft, joinsRight, insertedAt, takes, inse
 use Rattle.plan.specs.Plan.{freeAtFirst, rmapAtFirst, atFirst, failed, noted, moved, turn, listed, chunked, answer, planOf, planned}
 use Rattle.plan_totals.specs.Totals.{firstTo, plansNumber}
 use Rattle.inode_time.specs.Time.{timeInside, notEarly, shifted}
+use Rattle.request.specs.Parse.{request}
 use Rattle.request.specs.Defaults.{timeOf}
-use Rattle.run.specs.Runs.{stepOf, timeRefusal, runNumber, runOf}
+use Rattle.run.specs.Runs.{stepOf, timeRefusal, bareNumber, runNumber, runOf}
 use Rattle.list_accepted.specs.Accepted.{TypedRequest, AcceptedRun}
 use Rattle.list_accepted.proofs.Typed.{plain-typed}
 use Rattle.list_accepted.proofs.Runs.{source-plans, source-answer, source-label, source-uuid, source-of}
@@ -54,7 +55,7 @@ use Rattle.reader_exact.proofs.Refused.{unlike-refused}
 
 -- groups of so many bytes on a device of so many
 abbrev asked : Features → ℕ → ℕ → Bool → Request
-asked f agsize device roomy = record { number = 0; params = withRoomy (withFeatures (withAgsize noOptions agsize) f) roomy; device = device; logical = 512; physical = 512 }
+asked f agsize device roomy = request 0 (withRoomy (withFeatures (withAgsize noOptions agsize) f) roomy) device 512 512
 
 abbrev withoutRmapbt : Features
 withoutRmapbt = record { finobt = true; rmapbt = false; reflink = true; inobtcount = true; bigtime = true; nrext64 = true; sparse = true }
@@ -85,7 +86,7 @@ record Computed : Type 0 where
   pub corner-plain : isAnswer (plain (stepOf (corner true) .geometry)) ≡ false
 
 computed : Computed
-unfolding ample crowded corner when bit ceilDiv powerIn powerLog leastFrom log2Up defaultSector sizesOf sizesRefusals askedBlocks defaultSize initialGroups isShort trim optionsRefusals groupsRefusals headerOf preallocOf logLimit logBlocks defaultImaxpct lastRefusals withGroups withSizes chosenOf refusals refusalOf labelOf geometryOf zeroGeometry compute.answer computeDef sameFeatures numbersOf sameFrom sameGeometry namedOptions namedOn namedFits namedAnswer namesOf isAnswer ibtBlock rmapBlock refcBlock freelistOf chunkOf clusterOf alignOf roundUp aligned rootChunkOf groupBlocks fsbOf inoOf groupRefusal siteOf firstIndex pushed appended fold turns upFrom valid weigh blocks negative cut takenAt takenFrom taken fitter bigger pickedFrom picked joinsLeft joinsRight insertedAt takes inserted freeAtFirst rmapAtFirst atFirst failed noted moved turn listed chunked answer planOf planned firstTo plansNumber timeInside notEarly shifted timeOf stepOf timeRefusal runNumber headLength
+unfolding ample crowded corner when bit ceilDiv powerIn powerLog leastFrom log2Up defaultSector sizesOf sizesRefusals askedBlocks defaultSize initialGroups isShort trim optionsRefusals groupsRefusals headerOf preallocOf logLimit logBlocks defaultImaxpct lastRefusals withGroups withSizes chosenOf refusals refusalOf labelOf geometryOf zeroGeometry compute.answer computeDef sameFeatures numbersOf sameFrom sameGeometry namedOptions namedOn namedFits namedAnswer namesOf isAnswer ibtBlock rmapBlock refcBlock freelistOf chunkOf clusterOf alignOf roundUp aligned rootChunkOf groupBlocks fsbOf inoOf groupRefusal siteOf firstIndex pushed appended fold turns upFrom valid weigh blocks negative cut takenAt takenFrom taken fitter bigger pickedFrom picked joinsLeft joinsRight insertedAt takes inserted freeAtFirst rmapAtFirst atFirst failed noted moved turn listed chunked answer planOf planned firstTo plansNumber timeInside notEarly shifted timeOf stepOf timeRefusal bareNumber runNumber headLength
 computed =
     record {
       ample-number = refl;

@@ -26,11 +26,13 @@ use Rattle.inode_time.specs.Time.{timeInside, notEarly, shifted, timeNumber}
 use Rattle.request.specs.declared.Request.{Request}
 use Rattle.request.specs.Defaults.{uuidOf, timeOf, seedOf}
 use Rattle.plan_totals.specs.Totals.{plansNumber}
+use Rattle.profile.proofs.Labels.{not-under}
 use Rattle.run.specs.Runs.{stepOf, timeRefusal, runNumber, runOf}
 use Rattle.list_accepted.specs.Accepted.{TypedRequest, Source}
 use Rattle.list_accepted.proofs.Bytes.{below-at}
 use Rattle.head_bytes.proofs.Below.{below-zeros}
 use Rattle.reader_exact.specs.Asked.{AskedFor}
+use Rattle.list_accepted.proofs.Runs.{number-zero}
 use Rattle.reader_exact.specs.Left.{Handed}
 
 -- the options with this UUID, and with neither time nor seed
@@ -77,6 +79,7 @@ module _ (g : Geometry) (u : List ℕ) (h : Handed g u) (a : isAnswer g ≡ true
         device = named .answered .device;
         logical = named .answered .logical;
         physical = named .answered .physical;
+        profile = false;
       }
 
   step-is : stepOf asked ≡ record { number = 0; geometry = g }
@@ -100,8 +103,11 @@ module _ (g : Geometry) (u : List ℕ) (h : Handed g u) (a : isAnswer g ≡ true
 
   module _ (z : plansNumber g ≡ 0) where
     asked-number : runNumber asked ≡ 0
-    unfolding runNumber timeRefusal timeOf
-    asked-number = rw (step-is, z) (zero-time (g .features .bigtime))
+    unfolding stepOf timeRefusal timeOf
+    asked-number =
+        let e = step-is in
+        number-zero asked refl (ap (λ (c : Computed). c .number) e) (ap (λ (c : Computed). plansNumber (c .geometry)) e ∙ z)
+        (ap (λ (c : Computed). timeNumber (c .geometry .features .bigtime) (pos 0) 0) e ∙ zero-time (g .features .bigtime)) (not-under (stepOf asked .geometry) (asked .params .label))
 
     asked-geometry : runOf asked .geometry ≡ g
     unfolding runOf

@@ -35,10 +35,11 @@ use Rattle.reader_exact.proofs.Others.{number-read}
 use Rattle.reader_pass.specs.declared.Stage.{Stage}
 use Rattle.reader_pass.specs.declared.Stage.the-variants.{Naming, First, Heads, Log, Ended}
 use Rattle.reader_pass.specs.declared.Pass.{Pass}
-use Rattle.reader_pass.specs.Passing.{begun, endedBy, stageAt, wentOn, fedNamed, fedFirst, isEnded, verdictOf}
+use Rattle.reader_pass.specs.declared.Verdict.{Verdict}
+use Rattle.reader_pass.specs.Passing.{begun, endedBy, stageAt, wentOn, fedNamed, fedFirst, isEnded, saying, verdictOf}
 use Rattle.reader_pass.specs.Device.{turn, turns, passed, sectorNamed, turnsNeeded, Missing, Whole}
 use Rattle.reader_pass.proofs.States.{stopped, went, unnamed, named}
-use Rattle.reader_pass.proofs.Turns.{turn-at, turns-ended, Ends, before-place, Rest, same-ends, heads-on, heads-end}
+use Rattle.reader_pass.proofs.Turns.{turn-at, turns-ended, Ends, before-place, Rest, same-ends, log-turn, heads-on, heads-end}
 
 -- ---- what an accepted head of group 0 names
 
@@ -310,6 +311,39 @@ module _ (d : Device) (n : ℕ) where
   -- AND THERE IT IS ACCEPTED, once all was fed
   pub pass-complete : turnsNeeded d ≤ n → Whole d → verdictOf (passed d n) .number ≡ 0
   pass-complete h w = let r = pass-ends d n h in verdict-ended (passed d n) (r .ended) ∙ r .to w
+
+-- ---- the geometry that it gives
+
+pub verdict-geometry : (p : Pass) → verdictOf p .geometry ≡ p .geometry
+unfolding verdictOf
+verdict-geometry p = choose-elim (λ (v : Verdict). v .geometry ≡ p .geometry) (isEnded (p .stage)) (saying p (p .number)) (saying p 27) (λ t. refl) (λ t. refl)
+
+-- once all was fed, it is the one that group 0's head gave
+whole-geometry : (d : Device) → Whole d → passed d (turnsNeeded d) .geometry ≡ readGroup0 (headOn (sectorNamed d) d 0) .geometry
+unfolding turns
+whole-geometry d w =
+    let z = whole-named d w in
+    let f = readGroup0 (headOn (sectorNamed d) d 0) in
+    let l = label d z (w .first) in
+    let a = answer d z (w .first) in
+    let c = same-count d (f .geometry) (sectorNamed d) (near d z (w .first)) in
+    let b = count d z in
+    let m = sectorNamed d .agcount - 1 in
+    let k : turnsNeeded d ≡ suc (suc (m + 1)) = omega arith in
+    let h = heads-on d (f .geometry) (f .uuid) l a m 1 (omega (arith, c)) (rest d z (w .first) w) in
+    let t = log-turn d (f .geometry) (f .uuid) l a (1 + m) (omega (arith, c)) in
+    let e = ap (λ (x : Pass). turns d (m + 1) (turn d x)) (named-first d z) ∙ ap (turns d (m + 1)) (first-accepted d z (w .first)) ∙ turns-add d m 1 (before-place d (f .geometry) (f .uuid) l a 1) ∙ ap (turn d) h ∙ t in
+    ap (λ (j : ℕ). turns d j begun .geometry) k ∙ ap (λ (p : Pass). p .geometry) e
+
+-- AND SO OF EVERY VERDICT 0
+pub pass-geometry : (d : Device) (n : ℕ) → verdictOf (passed d n) .number ≡ 0 → verdictOf (passed d n) .geometry ≡ readGroup0 (headOn (sectorNamed d) d 0) .geometry
+pass-geometry d n z =
+    let e = ended-zero (passed d n) z in
+    let k = turnsNeeded d in
+    let r = pass-ends d k (omega arith) in
+    let c : n + k ≡ k + n = omega arith in
+    let s = sym (more-turns d n k begun (e .0)) ∙ ap (λ (j : ℕ). turns d j begun) c ∙ more-turns d k n begun (r .ended) in
+    verdict-geometry (passed d n) ∙ ap (λ (p : Pass). p .geometry) s ∙ whole-geometry d (pass-sound d n z)
 
 -- UNTIL ALL WAS FED it says 27 at the place that comes next
 pub pass-unfinished : (d : Device) → Whole d → (n : ℕ) → n < turnsNeeded d → Missing (verdictOf (passed d n)) (n - 1)

@@ -39,7 +39,7 @@ use Rattle.reader_pass.specs.Device.{fedBy, groupsFed, Missing}
 use Rattle.reader_pass.specs.Parts.{Announces, partsNeeded, RunParts}
 use Rattle.reader_pass.proofs.States.{some-head, no-head, went, named, long-is}
 use Rattle.reader_pass.proofs.Turns.{following-in}
-use Rattle.reader_pass.proofs.Accepted.{its-count, sector-named, near-of, ended-zero, verdict-open, place-open}
+use Rattle.reader_pass.proofs.Accepted.{its-count, sector-named, near-of, ended-zero, verdict-open, place-open, verdict-geometry}
 
 -- ---- lengths of what is accepted
 
@@ -81,17 +81,18 @@ module _ (parts : ℕ → List ℕ) where
     pub others : (j : ℕ) → 0 < j → j < p .place → groupNumber (its .geometry) (its .uuid) j (parts (j + 1)) ≡ 0
 
   -- all are, and all were fed
-  record All (n : ℕ) : Type 0 where
+  record All (n : ℕ) (g : Geometry) : Type 0 where
     pub sector : Announces (parts 0) (parts 1)
     pub whole : ReadWhole (λ k. parts (k + 1)) (parts (groupsFed parts + 1))
     pub count : partsNeeded parts ≤ n
+    pub geometry : g ≡ its .geometry
 
   abbrev Known : ℕ → Stage → Pass → Type 0
   Known n Naming p = n ≡ 0
   Known n First p = (n ≡ 1) × Taken p
   Known n Heads p = Before n p × (p .place < groupsFed parts)
   Known n Log p = Before n p × (p .place ≡ groupsFed parts)
-  Known n Ended p = p .number ≡ 0 → All n
+  Known n Ended p = p .number ≡ 0 → All n (p .geometry)
 
   -- a refusal
   refused : (n m : ℕ) (p : Pass) → (m ≡ 0 → ⊥) → Known n Ended (endedBy p m)
@@ -199,13 +200,14 @@ module _ (parts : ℕ → List ℕ) where
                   ∙ z;
             };
         count = omega (arith, e);
+        geometry = b .geometry;
       }
 
   ended-known : (n : ℕ) (p : Pass) → Known n Ended p → p .stage ≡ Ended → Known (suc n) (p .stage) p
   ended-known n p k e = subst (λ (s : Stage). Known (suc n) s p) (sym e) (later n p k)
     where
       later : (m : ℕ) (q : Pass) → Known m Ended q → Known (suc m) Ended q
-      later m q h = λ z. let a = h z in record { sector = a .sector; whole = a .whole; count = omega (arith, a .count) }
+      later m q h = λ z. let a = h z in record { sector = a .sector; whole = a .whole; count = omega (arith, a .count); geometry = a .geometry }
 
   whole-known : (n : ℕ) (s : Stage) (p : Pass) → Known n s p → p .stage ≡ s → length (parts n) ≡ lengthOf s (p .geometry)
       → Known (suc n) (fedWhole s p (parts n) .stage) (fedWhole s p (parts n))
@@ -237,11 +239,16 @@ module _ (parts : ℕ → List ℕ) where
       (λ t. whole-known n (p .stage) p (known n) refl (eqb-true (length (parts n)) (lengthOf (p .stage) (p .geometry)) t)) (λ t. short-known n (p .stage) p (known n) refl)
 
   -- the verdict 0 says that all was fed and is accepted
-  all-fed : (n : ℕ) → verdictOf (fedBy parts n) .number ≡ 0 → All n
+  all-fed : (n : ℕ) → verdictOf (fedBy parts n) .number ≡ 0 → All n (fedBy parts n .geometry)
   all-fed n z =
       let p = fedBy parts n in
       let e = ended-zero p z in
       subst (λ (s : Stage). Known n s p) (e .0) (known n) (e .1)
+
+  -- the reader accepts it, and the geometry is the one that group 0's head gave
+  pub fed-whole : (n : ℕ) → verdictOf (fedBy parts n) .number ≡ 0
+      → ReadWhole (λ k. parts (k + 1)) (parts (groupsFed parts + 1)) × ((partsNeeded parts ≤ n) × (verdictOf (fedBy parts n) .geometry ≡ readGroup0 (parts 1) .geometry))
+  fed-whole n z = let a = all-fed n z in (a .whole, (a .count, verdict-geometry (fedBy parts n) ∙ a .geometry))
 
   -- ---- more parts than are needed
 

@@ -1,6 +1,6 @@
 -- ACCEPTED EXACTLY WHERE THE WRITTEN RECORDS OF ONE ACCEPTED RUN LEAVE WHAT STANDS IN ITS HEADS AND ITS LOG BLOCK.
 -- Assumes nothing.
-use mathlib.Core.Path.{_≡_, sym, ap, subst, _∙_}
+use mathlib.Core.Path.{_≡_, sym, ap, _∙_}
 use mathlib.Core.Bool.{false}
 use mathlib.Core.List.{List}
 use Prim.Native.Nat.{ℕ, zero, suc, _-_, _<_, _≤_}
@@ -16,7 +16,7 @@ use Rattle.list_spec.specs.Listing.{headLeft}
 use Rattle.list_accepted.proofs.Runs.{source-of}
 use Rattle.reader_exact.specs.declared.Found.{Found}
 use Rattle.reader_exact.specs.Read.{readGroup0}
-use Rattle.reader_exact.specs.Left.{Octets, ReadWhole, reported}
+use Rattle.reader_exact.specs.Left.{Octets, reported}
 use Rattle.reader_exact.specs.Disk.{headOn, logOn, ByRecords}
 use Rattle.reader_exact.proofs.Sizings.{reported-plain}
 use Rattle.reader_exact.proofs.Heads.{head-least, source-bounds, some-group, left-named}
@@ -34,15 +34,14 @@ read-below d b (suc n) off zero = b off
 read-below d b (suc n) off (suc i) = read-below d b n (suc off) i
 
 module _ (d : Device) where
-  octets : Bytes d → (g : Geometry) → Octets (headOn g d 0)
+  pub octets : Bytes d → (g : Geometry) → Octets (headOn g d 0)
   unfolding headOn
   octets b g = read-below d b (headLength g) _
 
-  -- a run that leaves it all
-  from-whole : Bytes d → Whole d → LeftByRun d
-  from-whole b w =
+  -- a run that leaves all heads and the log block leaves them on the device
+  unfoldable pub run-leaves : Whole d → ByRecords (headOn (sectorNamed d) d) (logOn (sectorNamed d) d) → LeftByRun d
+  run-leaves w o =
       let g = sectorNamed d in
-      let o = exact-whole (headOn g d) (logOn g d) (octets b g) .0 w in
       let r = o .request in
       let f = readGroup0 (headOn g d 0) .geometry in
       let e : f ≡ reported (runOf r .geometry) = ap (λ (x : Found). x .geometry) (whole-found (headOn g d) (logOn g d) o) in
@@ -54,18 +53,32 @@ module _ (d : Device) where
         log-block = λ old. same-log d (runOf r .geometry) g near ∙ o .log-block old;
       }
 
-  to-whole : LeftByRun d → Whole d
-  to-whole w =
+  from-whole : Bytes d → Whole d → LeftByRun d
+  from-whole b w = let g = sectorNamed d in run-leaves w (exact-whole (headOn g d) (logOn g d) (octets b g) .0 w)
+
+  -- the run leaves them where the first sector puts them
+  unfoldable its-run : LeftByRun d → ByRecords (headOn (sectorNamed d) d) (logOn (sectorNamed d) d)
+  its-run w =
       let r = w .request in
       let g = runOf r .geometry in
       let u = runOf r .uuid in
       let s = source-of r (w .accepted) in
       let first : headOn g d 0 ≡ headLeft g u 0 = w .head d 0 (some-group g u s) ∙ head-formatted r (w .accepted) d 0 (some-group g u s) in
-      let o : ByRecords (headOn g d) (logOn g d) = record { request = r; accepted = w .accepted; head = w .head; log-block = w .log-block } in
       let near = near-named d (g .roomy) g (sym (head-named d (g .roomy) g (head-least g (source-bounds g u s))) ∙ ap (namedBy (g .roomy)) first ∙ left-named g u s) in
-      let heads : headOn g d ≡ headOn (sectorNamed d) d = λ i k. same-head d g (sectorNamed d) near k i in
-      subst (λ (x : ℕ → List ℕ). ReadWhole x (logOn (sectorNamed d) d)) heads
-      (subst (ReadWhole (headOn g d)) (same-log d g (sectorNamed d) near) (whole-complete (headOn g d) (logOn g d) o))
+      record {
+        request = r;
+        accepted = w .accepted;
+        head = λ old k i. sym (same-head d g (sectorNamed d) near k) ∙ w .head old k i;
+        log-block = λ old. sym (same-log d g (sectorNamed d) near) ∙ w .log-block old;
+      }
+
+  to-whole : LeftByRun d → Whole d
+  to-whole w = whole-complete (headOn (sectorNamed d) d) (logOn (sectorNamed d) d) (its-run w)
+
+  -- and its geometry, as it is reported, is what group 0's head gives
+  pub left-geometry : (w : LeftByRun d) → readGroup0 (headOn (sectorNamed d) d 0) .geometry ≡ reported (runOf (w .request) .geometry)
+  unfolding its-run
+  left-geometry w = ap (λ (x : Found). x .geometry) (whole-found (headOn (sectorNamed d) d) (logOn (sectorNamed d) d) (its-run w))
 
   module _ (b : Bytes d) (n : ℕ) where
     -- after any number of turns

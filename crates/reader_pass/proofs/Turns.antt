@@ -95,7 +95,7 @@ module _ (d : Device) (g : Geometry) (u : List ℕ) (l : length (g .label) ≡ 1
       turn-at d (before-place k) Heads (sym (some-head g k h))
       ∙ ap₂ (λ (off next : ℕ). wentOn (before-place k) (groupNumber g u k (read d off (headLength g))) g u next) (head-offset g l a k h) (following-in k (g .agcount) h)
 
-  log-turn : (k : ℕ) → g .agcount ≤ k → turn d (before-place k) ≡ endedBy (before-place k) (readLog g u (logOn g d))
+  pub log-turn : (k : ℕ) → g .agcount ≤ k → turn d (before-place k) ≡ endedBy (before-place k) (readLog g u (logOn g d))
   unfolding logOn fedLog
   log-turn k h =
       turn-at d (before-place k) Log (sym (no-head g k h))

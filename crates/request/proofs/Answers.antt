@@ -1,7 +1,7 @@
 -- The two answers of `parse`.
 -- Assumes nothing.
 use mathlib.Core.Path.{_≡_, refl}
-use mathlib.Core.Bool.{true, false}
+use mathlib.Core.Bool.{Bool, true, false}
 use mathlib.Core.List.{List}
 use Prim.Native.Nat.{ℕ, _≤_}
 use native.Mathlib.Omega.{arith}
@@ -9,8 +9,8 @@ use lib.ListN.{length}
 use Rattle.endian.specs.Bytes.{beAt}
 use Rattle.params.specs.declared.Params.{Params}
 use Rattle.request_input.specs.Records.{wellFormed}
-use Rattle.request.specs.Options.{paramsOf}
-use Rattle.request.specs.Parse.{request, refusal, parseDef}
+use Rattle.request.specs.Options.{paramsOf, profileOf}
+use Rattle.request.specs.Parse.{request, under, refusal, parseDef}
 use Rattle.request.proofs.Values.{device-inside}
 
 pub refused-is : (xs : List ℕ) → wellFormed xs ≡ false → refusal ≡ parseDef xs
@@ -18,9 +18,9 @@ unfolding parseDef
 refused-is xs e = rw e refl
 
 -- the device is read inside the input
-pub accepted-is : (xs : List ℕ) → wellFormed xs ≡ true → {p : Params} {d l s : ℕ} → p ≡ paramsOf xs
-    → (10 ≤ length xs → d ≡ beAt 8 2 xs) → (14 ≤ length xs → l ≡ beAt 4 10 xs) → (18 ≤ length xs → s ≡ beAt 4 14 xs) → request 0 p d l s ≡ parseDef xs
+pub accepted-is : (xs : List ℕ) → wellFormed xs ≡ true → {p : Params} {b : Bool} {d l s : ℕ} → p ≡ paramsOf xs → b ≡ profileOf xs
+    → (10 ≤ length xs → d ≡ beAt 8 2 xs) → (14 ≤ length xs → l ≡ beAt 4 10 xs) → (18 ≤ length xs → s ≡ beAt 4 14 xs) → under b (request 0 p d l s) ≡ parseDef xs
 unfolding parseDef
-accepted-is xs e ep fd fl fs =
+accepted-is xs e ep eb fd fl fs =
     let h = device-inside xs e in
-    rw (ep, fd (omega arith), fl (omega arith), fs h, e) refl
+    rw (ep, eb, fd (omega arith), fl (omega arith), fs h, e) refl

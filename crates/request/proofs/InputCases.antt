@@ -7,7 +7,7 @@ use lib.ListN.{length, replicate}
 use Rattle.endian.specs.Bytes.{beBytes, beAt}
 use Rattle.params.specs.Params.{noOptions}
 use Rattle.request_input.specs.Records.{optionBits, fits, recordAt, split, records, lookup, sound, startsWithDevice, wellFormed}
-use Rattle.request.specs.Options.{signed, featuresIn, labelAt, paramsOf}
+use Rattle.request.specs.Options.{signed, featuresIn, labelAt, paramsOf, profileOf}
 use Rattle.request.specs.Parse.{longestInput, request, parseDef}
 use Rattle.request.specs.Defaults.{uuidOf, timeOf, seedOf}
 use Rattle.request.specs.Cases.{dv, op, lb, id, disk, full, all, cases}
@@ -17,7 +17,7 @@ unfolding beBytes beAt optionBits fits recordAt split records lookup sound start
 cases-hold = tt
 
 pub example : parseDef disk ≡ request 0 noOptions 1_073_741_824 512 512
-unfolding beBytes beAt optionBits fits recordAt split records lookup sound startsWithDevice wellFormed signed featuresIn labelAt paramsOf parseDef dv disk
+unfolding beBytes beAt optionBits fits recordAt split records lookup sound startsWithDevice wellFormed signed featuresIn labelAt paramsOf profileOf parseDef dv disk
 example = refl
 
 pub full-length : length full ≡ longestInput

@@ -47,6 +47,7 @@ full =
     ∷ op 10 (2 ^ 64 - 1)
     ∷ op 11 (2 ^ 32 - 1)
     ∷ op 12 1
+    ∷ op 13 1
     ∷ lb (replicate 255 65)
     ∷ id (replicate 16 7)
     ∷ [])
@@ -71,6 +72,8 @@ cases =
     ∷ case (disk ++ lb []) 0
     ∷ case (disk ++ op 12 0) 0
     ∷ case (disk ++ op 12 1) 0
+    ∷ case (disk ++ op 13 0) 0
+    ∷ case (disk ++ op 13 1) 0
     ∷ case [] malformed  -- no device
     ∷ case (op 2 4096) malformed
     ∷ case (op 2 4096 ++ disk) malformed  -- the device is not first
@@ -86,8 +89,10 @@ cases =
     ∷ case (disk ++ id (replicate 15 0)) malformed
     ∷ case (disk ++ beBytes 2 0x5858) malformed  -- unknown mark, codes and feature bit
     ∷ case (disk ++ op 0 0) malformed
-    ∷ case (disk ++ op 13 0) malformed
+    ∷ case (disk ++ op 14 0) malformed
     ∷ case (disk ++ op 12 2) malformed  -- neither sizing
+    ∷ case (disk ++ op 13 2) malformed  -- neither under the profile nor not
+    ∷ case (disk ++ (op 13 1 ++ op 13 1)) malformed
     ∷ case (disk ++ op 255 0) malformed
     ∷ case (disk ++ op 9 128) malformed
     ∷ case (disk ++ op 2 (2 ^ 32)) malformed  -- too large for its type

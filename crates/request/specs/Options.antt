@@ -78,10 +78,10 @@ abbrev pub featuresGiven : OptU64 → Features
 featuresGiven Absent = allFeatures
 featuresGiven (Given n) = featuresIn n
 
--- the log is sized roomily where 1 is given
-abbrev pub roomyGiven : OptU64 → Bool
-roomyGiven Absent = false
-roomyGiven (Given n) = eqb n 1
+-- an option of one bit is on where 1 is given
+abbrev pub turnedOn : OptU64 → Bool
+turnedOn Absent = false
+turnedOn (Given n) = eqb n 1
 
 -- the label whose length stands at `p`: its length, and its first 12 bytes, filled up with zeros
 unfoldable pub labelAt : ℕ → List ℕ → Label
@@ -112,7 +112,11 @@ optionsIn rs xs =
     (timeGiven (lookup (option 10) rs) (lookup (option 11) rs))
     (lookup (option 8) rs)
     (featuresGiven (lookup (option 9) rs))
-    (roomyGiven (lookup (option 12) rs))
+    (turnedOn (lookup (option 12) rs))
 
 unfoldable pub paramsOf : List ℕ → Params
 paramsOf xs = optionsIn (records 0 xs) xs
+
+-- the run is under the scan station profile; this is no option of the geometry step
+unfoldable pub profileOf : List ℕ → Bool
+profileOf xs = turnedOn (lookup (option 13) (records 0 xs))

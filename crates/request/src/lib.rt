@@ -15,6 +15,7 @@ pub struct Request {
     pub device: u64, // bytes
     pub logical: u32, // bytes of the logical sector
     pub physical: u32,
+    pub profile: bool, // the run is under the scan station profile
 }
 
 fn malformed() -> Request
@@ -27,14 +28,15 @@ fn malformed() -> Request
         device: 0,
         logical: 0,
         physical: 0,
+        profile: false,
     }
 }
 
 // A buffer for an input: one byte more than the longest, so that an input which fills it is malformed whatever follows.
-pub fn input_buffer() -> [u8; 427]
+pub fn input_buffer() -> [u8; 438]
     ensures { λ r. ⌜ length r ≡ suc longestInput ⌝ }
 {
-    [0; 427]
+    [0; 438]
 }
 
 // Reads the records of any input.
@@ -45,6 +47,7 @@ pub fn parse(input: &[u8]) -> Request
         return malformed();
     }
     let params = options::params_of(input);
+    let profile = options::profile_of(input);
     let device = endian::be64(input, 2);
     let logical = endian::be32(input, 10);
     let physical = endian::be32(input, 14);
@@ -54,5 +57,6 @@ pub fn parse(input: &[u8]) -> Request
         device: device.value,
         logical: logical.value,
         physical: physical.value,
+        profile,
     }
 }

@@ -5,7 +5,7 @@ ghost use Prim.Native.Nat.{_+_, _≤_, _<_};
 ghost use lib.ListN.{length, getD};
 ghost use Rattle.endian.specs.Fields.{part};
 ghost use Rattle.request_input.specs.Records.{optionBits, records, lookup, wellFormed};
-ghost use Rattle.request.specs.Options.{below, labelInside, uuidInside, short32, short8, signed, givenTime, timeGiven, on, featuresIn, featuresGiven, roomyGiven, labelAt, labelGiven, uuidGiven, paramsOf};
+ghost use Rattle.request.specs.Options.{below, labelInside, uuidInside, short32, short8, signed, givenTime, timeGiven, on, featuresIn, featuresGiven, turnedOn, labelAt, labelGiven, uuidGiven, paramsOf, profileOf};
 use params::Features;
 use params::Label;
 use params::OptTime;
@@ -45,6 +45,8 @@ const SECONDS: usize = 10;
 const NANOSECONDS: usize = 11;
 
 const ROOMY: usize = 12;
+
+const PROFILE: usize = 13;
 
 // 2^63
 const HALF: u64 = 0x8000_0000_0000_0000;
@@ -138,8 +140,9 @@ fn features_of(option: OptU64) -> Features
     }
 }
 
-fn roomy_of(option: OptU64) -> bool
-    ensures { λ r. ⌜ r ≡ roomyGiven option ⌝ }
+// Whether an option of one bit is given as 1.
+fn turned_on(option: OptU64) -> bool
+    ensures { λ r. ⌜ r ≡ turnedOn option ⌝ }
 {
     match option {
         OptU64::Given(n) => n == 1,
@@ -282,6 +285,13 @@ pub(crate) fn params_of(input: &[u8]) -> Params
         time: time_in(input),
         gen_seed: option(input, SEED),
         features: features_of(option(input, FEATURES)),
-        roomy: roomy_of(option(input, ROOMY)),
+        roomy: turned_on(option(input, ROOMY)),
     }
+}
+
+// Whether the input puts the run under the profile.
+pub(crate) fn profile_of(input: &[u8]) -> bool
+    ensures { λ r. ⌜ r ≡ profileOf (now (input .entry)) ⌝ }
+{
+    turned_on(option(input, PROFILE))
 }

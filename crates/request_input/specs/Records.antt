@@ -29,6 +29,7 @@ optionBits =
     ∷ 64  -- 10 seconds
     ∷ 32  -- 11 nanoseconds
     ∷ 1  -- 12 roomy
+    ∷ 1  -- 13 profile
     ∷ []
 
 -- the code is known, and the number fits the option's type

@@ -12,8 +12,9 @@ use Rattle.request.specs.declared.Request.{Request}
 use Rattle.request.specs.Parse.{parseDef}
 use Rattle.request.specs.Defaults.{timeOf}
 use Rattle.plan_totals.specs.Totals.{plansNumber}
+use Rattle.profile.specs.Rules.{profileNumber}
 use Rattle.run.specs.declared.Run.{Run}
-use Rattle.run.specs.Runs.{orNext, stepOf, timeRefusal, runNumber, noRun, runOf, accepted}
+use Rattle.run.specs.Runs.{orNext, stepOf, timeRefusal, bareNumber, runNumber, noRun, runOf, accepted}
 
 -- the first of two numbers that isn't 0 is 0: so are both
 none-at : (a b : ℕ) (t : Bool) → eqb a 0 ≡ t → choose t b a ≡ 0 → (a ≡ 0) × (b ≡ 0)
@@ -35,15 +36,24 @@ its-geometry : (r : Request) → runNumber r ≡ 0 → runOf r .geometry ≡ ste
 unfolding runOf
 its-geometry r e = rw (eq-eqb (runNumber r) 0 e)
 
-step-plans : (r : Request) → runNumber r ≡ 0 → plansNumber (stepOf r .geometry) ≡ 0
+-- so is the run without the profile
+pub bare-zero : (r : Request) → runNumber r ≡ 0 → bareNumber r ≡ 0
 unfolding runNumber
+bare-zero r e = none (bareNumber r) _ e .0
+
+pub profile-zero : (r : Request) → runNumber r ≡ 0 → profileNumber (r .profile) (stepOf r .geometry) (r .params .label) ≡ 0
+unfolding runNumber
+profile-zero r e = none (bareNumber r) _ e .1
+
+step-plans : (r : Request) → bareNumber r ≡ 0 → plansNumber (stepOf r .geometry) ≡ 0
+unfolding bareNumber
 step-plans r e =
     let p = plansNumber (stepOf r .geometry) in
     let t = timeRefusal (stepOf r .geometry) (timeOf (r .params)) in
     none p t (none (stepOf r .number) (orNext p t) (none (r .number) (orNext (stepOf r .number) (orNext p t)) e .1) .1) .0
 
 first-refusal : (r : Request) → r .number ≡ 28 → runNumber r ≡ 28
-unfolding runNumber
+unfolding runNumber bareNumber
 first-refusal r e = rw e
 
 first-number : (r : Request) → r .number ≡ 28 → runOf r .number ≡ 28
@@ -55,7 +65,7 @@ pub plans-zero : (xs : List ℕ) → accepted xs .number ≡ 0 → plansNumber (
 unfolding accepted
 plans-zero xs e =
     let z = run-zero (parseDef xs) e in
-    ap plansNumber (its-geometry (parseDef xs) z) ∙ step-plans (parseDef xs) z
+    ap plansNumber (its-geometry (parseDef xs) z) ∙ step-plans (parseDef xs) (bare-zero (parseDef xs) z)
 
 -- AN EMPTY INPUT IS NO RUN: 28
 pub empty-malformed : parseDef [] .number ≡ 28

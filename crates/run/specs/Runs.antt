@@ -1,4 +1,4 @@
--- A run: what the input records ask for, accepted where its geometry, all its plans and its time are.
+-- A run: what the input records ask for, accepted where its geometry, all its plans and its time are, and under the profile its rules hold.
 -- Assumes nothing.
 use mathlib.Core.List.{List}
 use Prim.Native.Nat.{ℕ}
@@ -15,6 +15,7 @@ use Rattle.request.specs.declared.Request.{Request}
 use Rattle.request.specs.Parse.{parseDef}
 use Rattle.request.specs.Defaults.{uuidOf, timeOf, seedOf}
 use Rattle.plan_totals.specs.Totals.{plansNumber}
+use Rattle.profile.specs.Rules.{profileNumber}
 use Rattle.run.specs.declared.Run.{Run}
 
 -- the first of two numbers that isn't 0
@@ -29,10 +30,14 @@ stepOf r = computeDef (r .params) (r .device) (r .logical) (r .physical)
 unfoldable pub timeRefusal : Geometry → Timestamp → ℕ
 timeRefusal g t = timeNumber (g .features .bigtime) (t .secs) (t .nsecs)
 
--- 28, then the geometry step's number, then that of the plans, then that of the time
-unfoldable pub runNumber : Request → ℕ
-runNumber r =
+-- without the profile: 28, then the geometry step's number, then that of the plans, then that of the time
+unfoldable pub bareNumber : Request → ℕ
+bareNumber r =
     orNext (r .number) (orNext (stepOf r .number) (orNext (plansNumber (stepOf r .geometry)) (timeRefusal (stepOf r .geometry) (timeOf (r .params)))))
+
+-- and then, under the profile, 37 where the geometry or the label that was asked for breaks a rule
+unfoldable pub runNumber : Request → ℕ
+runNumber r = orNext (bareNumber r) (profileNumber (r .profile) (stepOf r .geometry) (r .params .label))
 
 abbrev pub noRun : ℕ → Run
 noRun n = record { number = n; geometry = zeroGeometry; uuid = replicate 16 0; time = record { secs = pos 0; nsecs = 0 }; seed = 0 }

@@ -1,4 +1,4 @@
-// A run: what the input records ask for, accepted where its geometry, all its plans and its time are.
+// A run: what the input records ask for, accepted where its geometry, all its plans and its time are, and under the profile its rules hold.
 ghost use mathlib.Core.Path.{_≡_};
 ghost use Rattle.plan_totals.specs.Totals.{plansNumber};
 ghost use Rattle.run.specs.Runs.{orNext, timeRefusal, noRun, runOf, accepted};
@@ -6,6 +6,7 @@ use geometry::Geometry;
 use inode_time::encode_time;
 use params::Timestamp;
 use plan_summary::plans_number;
+use profile::profile_number;
 use request::Request;
 use request::defaults::seed_or_zero;
 use request::defaults::time_or_zero;
@@ -28,6 +29,16 @@ fn time_refusal(g: Geometry, t: Timestamp) -> u32
     let f = g.features;
     let stored = encode_time(t, f.bigtime);
     stored.number
+}
+
+// The first of two numbers that isn't 0.
+fn or_next(a: u32, b: u32) -> u32
+    ensures { λ r. ⌜ r ≡ orNext a b ⌝ }
+{
+    if a != 0 {
+        return a;
+    }
+    b
 }
 
 // The first number that refuses, of the records, the geometry step, the plans and the time.
@@ -70,7 +81,9 @@ pub fn run_of(r: Request) -> Run
     let c = Geometry::compute(p, r.device, r.logical, r.physical);
     let geometry = c.geometry;
     let time = time_or_zero(p);
-    let n = number_of(r.number, c.number, geometry, time);
+    let bare = number_of(r.number, c.number, geometry, time);
+    let label = p.label;
+    let n = or_next(bare, profile_number(r.profile, geometry, label));
     if n != 0 {
         return refused(n);
     }
@@ -85,7 +98,7 @@ pub fn run_of(r: Request) -> Run
     }
 }
 
-// The run that input records ask for: 28, 1 to 26, or 0.
+// The run that input records ask for: 28, 1 to 26, 37, or 0.
 pub fn accept(input: &[u8]) -> Run
     ensures { λ x. ⌜ x ≡ accepted (now (input .entry)) ⌝ }
 {

@@ -38,6 +38,7 @@ pub use Rattle.plan_uses.specs.Uses.{usesOf, usedOf, mappedOf}
 pub use Rattle.request.specs.declared.Request.{Request}
 pub use Rattle.request.specs.Parse.{request, parseDef}
 pub use Rattle.request.specs.Defaults.{timeOf}
+pub use Rattle.profile.specs.Rules.{profileNumber}
 pub use Rattle.run.specs.Runs.{orNext, stepOf, timeRefusal, runOf, accepted}
 pub use Rattle.list_records.specs.Records.{listBytes}
 pub use Rattle.list_read.specs.Whole.{readList, readAs}

@@ -37,7 +37,7 @@ returns c =
     let c12 = c11 .before in
     let c13 = c12 .before in
     let c14 = c13 .before in
-    rw (c .roomy-of .ensures, c1 .option6 .ensures, c2 .features-of .ensures, c3 .option5 .ensures, c4 .option4 .ensures, c5 .time-in .ensures, c6 .uuid-in .ensures, c7 .label-in .ensures, c8 .imaxpct .ensures, c9 .option3 .ensures, c10 .option2 .ensures, c11 .short-option3 .ensures, c12 .short-option2 .ensures, c13 .short-option .ensures, c14 .option .ensures) refl
+    rw (c .turned-on .ensures, c1 .option6 .ensures, c2 .features-of .ensures, c3 .option5 .ensures, c4 .option4 .ensures, c5 .time-in .ensures, c6 .uuid-in .ensures, c7 .label-in .ensures, c8 .imaxpct .ensures, c9 .option3 .ensures, c10 .option2 .ensures, c11 .short-option3 .ensures, c12 .short-option2 .ensures, c13 .short-option .ensures, c14 .option .ensures) refl
 
 pub params-of-spec : {M : Type 1} → statement M
 params-of-spec =
