@@ -2,7 +2,7 @@
 -- Assumes nothing.
 use mathlib.Core.Path.{_≡_, refl, sym, ap, _∙_}
 use mathlib.Core.Bool.{Bool, true, false}
-use mathlib.Core.List.{List, _++_}
+use mathlib.Core.List.{List, [], _∷_, _++_}
 use Prim.Native.Nat.{ℕ, _+_, _≤_}
 use native.Mathlib.Omega.{arith}
 use lib.Dec.{leb}
@@ -37,6 +37,10 @@ word-line at s word bytes old e y l =
 
 pub word-length : (word bytes : List ℕ) (n : ℕ) → n ≡ length bytes → length word + n ≡ length (word ++ bytes)
 word-length word bytes n e = ap (λ (k : ℕ). length word + k) e ∙ sym (length-append word bytes)
+
+-- a number has one byte behind it
+pub number-length : (digits : List ℕ) (b n : ℕ) → n ≡ length digits → n + 1 ≡ length (digits ++ (b ∷ []))
+number-length digits b n e = ap (λ (k : ℕ). k + 1) e ∙ sym (length-append digits (b ∷ []))
 
 -- a line ends inside the buffer
 pub line-inside : {at : ℕ} {bytes old : List ℕ} {number end : ℕ} {left : List ℕ} → PutLine at bytes old number end left → end ≤ length old

@@ -24,7 +24,7 @@ fn short_length(n: u64) -> usize
 }
 
 // How many digits the number has; four are taken at a time.
-pub(crate) fn decimal_length(n: u64) -> usize
+pub fn decimal_length(n: u64) -> usize
     ensures { λ r. ⌜ (r ≡ length (decimal n)) × (r ≤ 20) ⌝ }
 {
     let mut k = 0;

@@ -3,10 +3,11 @@
 pub mod decimal; // numbers in decimal
 
 ghost use mathlib.Core.Path.{_≡_};
-ghost use mathlib.Core.List.{_++_};
+ghost use mathlib.Core.List.{[], _∷_, _++_};
 ghost use Prim.Native.Nat.{_+_, _≤_};
 ghost use lib.ListN.{length};
 ghost use Rattle.endian.specs.Bytes.{patch};
+ghost use Rattle.table_lines.specs.Decimal.{decimal};
 ghost use Rattle.table_lines.specs.Lines.{line, rowBytes, headerBytes, totalBytes, refusedBytes, answerBytes, runBytes, PutLine};
 use decimal::decimal_length;
 use decimal::store_number;
@@ -74,6 +75,19 @@ fn refused() -> Written
         number: refusals::WRONG_LENGTH,
         end: 0,
     }
+}
+
+// A number and the byte behind it, where both fit: what other lines are made of.
+pub fn put_number(number: u64, behind: u8, buf: &mut [u8], at: usize) -> Written
+    ensures { λ r. ⌜ PutLine at (decimal number ++ (behind ∷ [])) (now (buf .entry)) (r .number) (r .end) (now (buf .exit)) ⌝ }
+{
+    let n = decimal_length(number) + 1;
+    if endian::inside(buf.len(), at, n) {
+        let end = at + n;
+        store_number(number, behind, buf, end);
+        return Written { number: 0, end };
+    }
+    refused()
 }
 
 // At most seven numbers, where the line fits.

@@ -1,0 +1,25 @@
+-- What the lines of `inquire` are made of: words and numbers, with one byte behind each.
+-- Assumes nothing.
+use mathlib.Core.List.{List, [], _∷_, _++_}
+use mathlib.Core.Bool.{Bool}
+use Prim.Native.Nat.{ℕ, _+_}
+use lib.ListN.{length}
+use Rattle.seqs.specs.Lists.{choose}
+use Rattle.table_lines.specs.Decimal.{decimal}
+use Rattle.table_lines.specs.Lines.{space, newline}
+
+-- bytes, and one behind them
+abbrev pub followed : List ℕ → ℕ → List ℕ
+followed bytes b = bytes ++ (b ∷ [])
+
+-- a word alone, as a line
+unfoldable pub wordBytes : List ℕ → List ℕ
+wordBytes word = followed word newline
+
+-- a word, a space and a number in decimal; behind it a space, or a newline where the line ends
+unfoldable pub itemBytes : List ℕ → ℕ → Bool → List ℕ
+itemBytes word number last = followed word space ++ followed (decimal number) (choose last newline space)
+
+-- how many bytes that are: the word's, the number's digits, and one behind each
+unfoldable pub itemLength : List ℕ → ℕ → ℕ
+itemLength word number = length word + length (decimal number) + 2
