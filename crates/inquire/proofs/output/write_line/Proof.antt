@@ -1,11 +1,11 @@
--- `inquire::write_line` meets its contract.
+-- `inquire::output::write_line` meets its contract.
 -- Assumes nothing.
 use mathlib.Core.Path.{sym}
 use lib.Seq.{length-take-le}
 use native.Mathlib.Omega.{arith}
 use borrow.Author.Needs.{needs}
-use Rattle.inquire.proofs.write_line.Statement.{statement}
-use Rattle.inquire.proofs.write_line.Tie as tie
+use Rattle.inquire.proofs.output.write_line.Statement.{statement}
+use Rattle.inquire.proofs.output.write_line.Tie as tie
 
 slice-aggregate-write-all : tie.Need-slice-aggregate-write-all
 slice-aggregate-write-all c = sym (length-take-le _ _ (omega arith))

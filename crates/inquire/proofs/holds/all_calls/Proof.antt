@@ -1,9 +1,9 @@
--- `inquire::all_calls` meets its contract.
+-- `inquire::holds::all_calls` meets its contract.
 -- Assumes nothing.
 use Prim.Native.Nat.{_-_, _≤_}
 use native.Mathlib.Omega.{arith}
-use Rattle.inquire.proofs.all_calls.Statement.{statement}
-use Rattle.inquire.proofs.all_calls.Tie as tie
+use Rattle.inquire.proofs.holds.all_calls.Statement.{statement}
+use Rattle.inquire.proofs.holds.all_calls.Tie as tie
 
 abbrev Inv-loop : tie.InvT-loop
 Inv-loop count good₀ i₀ good i = 3 ≤ i

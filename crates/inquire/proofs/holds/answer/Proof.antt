@@ -1,9 +1,9 @@
--- `inquire::answer` meets its contract.
+-- `inquire::holds::answer` meets its contract.
 -- Assumes nothing.
 use Prim.Native.Nat.{_-_, _≤_}
 use native.Mathlib.Omega.{arith}
-use Rattle.inquire.proofs.answer.Statement.{statement}
-use Rattle.inquire.proofs.answer.Tie as tie
+use Rattle.inquire.proofs.holds.answer.Statement.{statement}
+use Rattle.inquire.proofs.holds.answer.Tie as tie
 
 abbrev Inv-loop : tie.InvT-loop
 Inv-loop g s₀ count i₀ s i = 3 ≤ i
