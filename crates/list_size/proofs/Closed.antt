@@ -36,6 +36,15 @@ module _ (g : Geometry) (z : Bounds g) where
 pub bytes-most : (w bs : ℕ) → w ≤ mostBlocks → bs ≤ 16384 → w * (18 + bs) ≤ mostBlocks * 16402
 bytes-most w bs h k = let b : 18 + bs ≤ 16402 = omega arith in mul-le-mul h b
 
+-- ---- what the code puts together
+pub blocks-are : (g : Geometry) {heads chunk header : ℕ} → heads ≡ g .agcount * headBlocks g → chunk ≡ chunkBlocks g → header ≡ headerBlocks g → 1 + heads + chunk + header ≡ blockCount g
+unfolding blockCount
+blocks-are g a b c = rw (a, b, c) refl
+
+pub size-are : (w bs : ℕ) {records bytes payload : ℕ} → records ≡ w + 5 → bytes ≡ 58 + w * (18 + bs) → payload ≡ w * bs
+    → _≡_ {A = ListSize} (record { number = 0; records = records; bytes = bytes; payload = payload }) (closedOf w bs)
+size-are w bs r b p = λ i. record { number = 0; records = r i; bytes = b i; payload = p i }
+
 -- ---- a list of this form
 module _ (run : Run) (device : ℕ) (o : Ordered run device) where
   abbrev g : Geometry
