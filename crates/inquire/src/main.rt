@@ -1,6 +1,7 @@
 // Answers questions about disks; the first word says which one. `inquire --help` has them all. A usage error prints nothing on standard output.
 // What is answered stands in the libraries that each question names; here bytes are only read and written.
 mod holds; // what holding runs of blocks back and giving them back leaves of a group's free records
+mod length; // how much a run sends
 mod output; // lines
 mod words; // the program's words
 
@@ -8,11 +9,15 @@ use libc::STDERR_FILENO;
 use libc::STDOUT_FILENO;
 
 fn usage(fd: i32) {
+    length::usage(fd);
     holds::usage(fd);
 }
 
 // Answers the question that the words ask; false where they ask none.
 fn answered() -> bool {
+    if words::is_word(1, b"length") {
+        return length::answered();
+    }
     if words::is_word(1, b"holds") {
         return holds::answered();
     }
