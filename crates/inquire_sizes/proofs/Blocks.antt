@@ -1,17 +1,14 @@
 -- The geometry step looks at a device's size by its whole blocks alone, and not at all for 1 to 8.
 -- Assumes nothing.
-use mathlib.Core.Path.{_≡_, refl, sym, ap, _∙_}
-use mathlib.Core.Bool.{Bool, not, _&&_}
-use mathlib.Core.List.{List, [], _∷_, _++_, append-assoc}
-use mathlib.Core.Logic.{_⊎_, inl, inr, ⊎-elim}
-use Prim.Native.Nat.{ℕ, _*_, _/_, _≤_, _<_, _^_}
+use mathlib.Core.Path.{_≡_, refl, ap, _∙_}
+use mathlib.Core.Bool.{not, _&&_}
+use mathlib.Core.List.{List, _∷_, _++_, append-assoc}
+use Prim.Native.Nat.{ℕ, _/_, _≤_, _<_, _^_}
 use native.Mathlib.Omega.{arith}
-use native.Mathlib.Nat.{mul-div-cancel, div-mul-le-self, mul-le-mul-left}
-use borrow.Author.Tests.{ltb-false, eq-eqb, ne-eqb}
-use lib.Dec.{eqb}
+use native.Mathlib.Nat.{div-mul-le-self, mul-le-mul-left}
+use borrow.Author.Tests.{ltb-false}
 use Rattle.refusals.specs.Table.{Refusal, _if_, first}
 use Rattle.refusals.proofs.Clear.{clear, passed}
-use Rattle.seqs.specs.Lists.{choose}
 use Rattle.params.specs.declared.OptU64.{OptU64}
 use Rattle.params.specs.declared.OptU64.the-variants.{Absent, Given}
 use Rattle.params.specs.declared.Params.{Params}
@@ -22,15 +19,14 @@ use Rattle.geometry.specs.declared.Chosen.{Chosen}
 use Rattle.geometry.specs.declared.Geometry.{Geometry}
 use Rattle.geometry.specs.declared.Computed.{Computed}
 use Rattle.geometry.specs.Limits.{minGroup}
-use Rattle.geometry.specs.Groups.{askedBlocks, initialGroups, isShort, trim, optionsRefusals, groupsRefusals}
-use Rattle.geometry.specs.Log.{lastRefusals}
+use Rattle.geometry.specs.Groups.{askedBlocks, initialGroups, trim}
 use Rattle.geometry.specs.Compute.{withGroups, withSizes, chosenOf, refusals, refusalOf, geometryOf, answer, computeDef}
 use Rattle.geometry.proofs.Answer.{number-of}
 use Rattle.geometry_answers.proofs.Tests.{sizes-part, options-part, groups-part, last-part}
 use Rattle.plan_totals.specs.Totals.{plansNumber}
 use Rattle.run.specs.Runs.{orNext}
-use Rattle.inquire_sizes.specs.Ranges.{sizeNumber, blockBytes, blocksNumber, optionsNumber}
-use Rattle.inquire_sizes.proofs.Tables.{first-append, first-clear, first-between}
+use Rattle.inquire_sizes.specs.Ranges.{sizeNumber, blockBytes, optionsNumber}
+use Rattle.inquire_sizes.proofs.Tables.{first-append, first-clear}
 
 -- ---- whole blocks
 

@@ -1,7 +1,7 @@
 -- What the answers about a range mean: of every size in bytes, of the smallest refused one, of 1 to 8, and of runs.
 -- Assumes nothing.
 use mathlib.Core.Path.{_≡_, refl, sym, ap, _∙_}
-use mathlib.Core.Bool.{Bool, true, false, not}
+use mathlib.Core.Bool.{Bool, true, false}
 use mathlib.Core.Logic.{_⊎_, inl, inr, ⊎-elim}
 use Prim.Native.Nat.{ℕ, _+_, _*_, _-_, _/_, _≤_, _<_}
 use native.Mathlib.Omega.{arith}
@@ -20,10 +20,9 @@ use Rattle.geometry.specs.Compute.{computeDef}
 use Rattle.plan_totals.specs.Totals.{plansNumber}
 use Rattle.request.specs.declared.Request.{Request}
 use Rattle.request.specs.Defaults.{timeOf}
-use Rattle.run.specs.Runs.{orNext, stepOf, timeRefusal, runNumber}
+use Rattle.run.specs.Runs.{stepOf, timeRefusal, runNumber}
 use Rattle.run.proofs.Accepted.{none}
 use Rattle.inquire_sizes.specs.declared.Range.{Range}
-use Rattle.inquire_sizes.specs.First.{firstFrom}
 use Rattle.inquire_sizes.specs.Ranges.{sizeNumber, blockBytes, blocksNumber, smallestRefused, allFormatted, refusedSize, rangeOf, optionsNumber, noRange, questionNumber, refusedCall, sizesAnswer, FormattedSize, Smallest}
 use Rattle.inquire_sizes.proofs.First.{first-within, first-passes, first-fails}
 use Rattle.inquire_sizes.proofs.Tables.{next-first, first-between}

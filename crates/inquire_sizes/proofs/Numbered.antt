@@ -3,7 +3,7 @@
 use mathlib.Core.Path.{_≡_, refl, sym, ap, _∙_}
 use mathlib.Core.Bool.{Bool, true, false, _&&_}
 use mathlib.Core.List.{List, [], _∷_, _++_}
-use Prim.Native.Nat.{ℕ, _+_, _*_, _-_, _/_, _^_, _≤_, _<_}
+use Prim.Native.Nat.{ℕ, _+_, _*_, _-_, _/_, _^_, _<_}
 use native.Mathlib.Omega.{arith}
 use native.Mathlib.Nat.{mul-div-cancel, le-refl}
 use borrow.Author.Tests.{le-ltb, eqb-true}
@@ -23,8 +23,8 @@ use Rattle.geometry.specs.declared.groups.Groups.{Groups}
 use Rattle.geometry.specs.declared.Geometry.{Geometry}
 use Rattle.geometry.specs.declared.Computed.{Computed}
 use Rattle.geometry.specs.Limits.{minGroup, tib}
-use Rattle.geometry.specs.Groups.{askedBlocks, defaultSize, initialGroups, groupBlocks, trim, optionsRefusals, groupsRefusals}
-use Rattle.geometry.specs.Log.{preallocOf, freelistOf, logBlocks, defaultImaxpct, imaxpctOf, lastRefusals}
+use Rattle.geometry.specs.Groups.{askedBlocks, defaultSize, initialGroups, groupBlocks, optionsRefusals, groupsRefusals}
+use Rattle.geometry.specs.Log.{freelistOf, logBlocks, defaultImaxpct, imaxpctOf, lastRefusals}
 use Rattle.geometry.specs.Compute.{withGroups, withSizes, chosenOf, geometryOf, computeDef}
 use Rattle.geometry_answers.specs.Answers.{Answered}
 use Rattle.geometry_answers.specs.Named.{isAnswer}

@@ -1,17 +1,16 @@
 -- Tables of refusals: one behind another, and the range of what they give.
 -- Assumes nothing.
-use mathlib.Core.Path.{_≡_, refl, sym, _∙_}
+use mathlib.Core.Path.{_≡_, refl}
 use mathlib.Core.Bool.{Bool, true, false, _&&_}
 use mathlib.Core.List.{List, [], _∷_, _++_}
 use mathlib.Core.Logic.{_⊎_, inl, inr}
 use Prim.Native.Nat.{ℕ, _≤_}
 use native.Mathlib.Omega.{arith}
-use borrow.Author.Tests.{ne-eqb, eqb-true, leb-true, ltb-true}
-use lib.Dec.{T, eqb, leb, ltb, ltb→lt}
+use borrow.Author.Tests.{ne-eqb, leb-true}
+use lib.Dec.{T, leb, ltb, ltb→lt}
 use Rattle.arith.specs.Choice.{when}
 use Rattle.refusals.specs.Table.{Refusal, _if_, first}
 use Rattle.refusals.proofs.Clear.{clear, positive}
-use Rattle.seqs.specs.Lists.{choose}
 use Rattle.run.specs.Runs.{orNext}
 
 pub first-append : (a b : List Refusal) (rest : ℕ) → first (a ++ b) rest ≡ first a (first b rest)

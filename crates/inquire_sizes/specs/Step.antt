@@ -1,9 +1,9 @@
 -- One size in plain numbers, as the code works it out: what the size has no part in is worked out once. `step-is` (proofs/Numbered.antt) says
 -- that this is the size's number.
 -- Assumes nothing.
-use mathlib.Core.Bool.{Bool, not, false, _&&_}
+use mathlib.Core.Bool.{not, false, _&&_}
 use mathlib.Core.List.{List, [], _∷_}
-use Prim.Native.Nat.{ℕ, _+_, _*_, _-_, _/_, min, max}
+use Prim.Native.Nat.{ℕ, _-_, _/_, min, max}
 use lib.Dec.{leb, ltb, eqb}
 use Rattle.refusals.specs.Numbers.{sizeAboveDevice, tooFewBlocks, lastGroupShort, groupTooSmall, groupTooLarge, groupAboveDisk, tooManyGroups, imaxpctAbove100, labelTooLong, diskTooSmall, logTooSmall, tooFewGroups, agcountUnlike, freeListShort}
 use Rattle.refusals.specs.Table.{Refusal, _if_, first}
