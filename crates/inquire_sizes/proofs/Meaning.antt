@@ -20,7 +20,8 @@ use Rattle.geometry.specs.Compute.{computeDef}
 use Rattle.plan_totals.specs.Totals.{plansNumber}
 use Rattle.request.specs.declared.Request.{Request}
 use Rattle.request.specs.Defaults.{timeOf}
-use Rattle.run.specs.Runs.{stepOf, timeRefusal, runNumber}
+use Rattle.profile.proofs.Labels.{not-under}
+use Rattle.run.specs.Runs.{stepOf, timeRefusal, bareNumber, runNumber}
 use Rattle.run.proofs.Accepted.{none}
 use Rattle.inquire_sizes.specs.declared.Range.{Range}
 use Rattle.inquire_sizes.specs.Ranges.{sizeNumber, blockBytes, blocksNumber, smallestRefused, allFormatted, refusedSize, rangeOf, optionsNumber, noRange, questionNumber, refusedCall, sizesAnswer, FormattedSize, Smallest}
@@ -165,10 +166,10 @@ module _ (p : Params) (logical physical : ℕ) where
 
 -- ---- runs
 
--- WITH A TIME IN RANGE A RUN ON EACH OF THE SIZES IS ACCEPTED
-pub runs-accepted : (q : Request) (least most : ℕ) → q .number ≡ 0 → sizesAnswer (q .params) (q .logical) (q .physical) least most ≡ allFormatted
+-- WITH A TIME IN RANGE AND NO PROFILE A RUN ON EACH OF THE SIZES IS ACCEPTED
+pub runs-accepted : (q : Request) (least most : ℕ) → q .number ≡ 0 → q .profile ≡ false → sizesAnswer (q .params) (q .logical) (q .physical) least most ≡ allFormatted
     → least ≤ q .device → q .device ≤ most → timeRefusal (stepOf q .geometry) (timeOf (q .params)) ≡ 0 → runNumber q ≡ 0
-unfolding runNumber stepOf
-runs-accepted q least most z f l h t =
+unfolding runNumber bareNumber stepOf
+runs-accepted q least most z w f l h t =
     let e = every-size (q .params) (q .logical) (q .physical) least most (ap (λ (r : Range). r .number) f) (ap (λ (r : Range). r .refusal) f) (q .device) l h in
-    rw (z, e .geometry, e .plans, t)
+    rw (z, e .geometry, e .plans, t, w) (not-under _ _)
