@@ -172,4 +172,4 @@ pub runs-accepted : (q : Request) (least most : ℕ) → q .number ≡ 0 → q .
 unfolding runNumber bareNumber stepOf
 runs-accepted q least most z w f l h t =
     let e = every-size (q .params) (q .logical) (q .physical) least most (ap (λ (r : Range). r .number) f) (ap (λ (r : Range). r .refusal) f) (q .device) l h in
-    rw (z, e .geometry, e .plans, t, w) (not-under _ _)
+    rw (z, e .geometry, e .plans, t, w) (not-under (stepOf q .geometry) (q .params .label))
