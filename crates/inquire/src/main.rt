@@ -3,6 +3,7 @@
 mod holds; // what holding runs of blocks back and giving them back leaves of a group's free records
 mod length; // how much a run sends
 mod output; // lines
+mod sizes; // whether every device size of a range is formatted
 mod words; // the program's words
 
 use libc::STDERR_FILENO;
@@ -11,6 +12,7 @@ use libc::STDOUT_FILENO;
 fn usage(fd: i32) {
     length::usage(fd);
     holds::usage(fd);
+    sizes::usage(fd);
 }
 
 // Answers the question that the words ask; false where they ask none.
@@ -20,6 +22,9 @@ fn answered() -> bool {
     }
     if words::is_word(1, b"holds") {
         return holds::answered();
+    }
+    if words::is_word(1, b"sizes") {
+        return sizes::answered();
     }
     false
 }
