@@ -1,10 +1,9 @@
 -- The question: its own refusals, and the loop's answer is its.
 -- Assumes nothing.
-use mathlib.Core.Path.{_≡_, refl}
-use mathlib.Core.Bool.{Bool, true, false}
+use mathlib.Core.Path.{_≡_}
+use mathlib.Core.Bool.{true, false}
 use Prim.Native.Nat.{ℕ}
-use borrow.Author.Tests.{eq-eqb, ne-eqb}
-use lib.Dec.{eqb}
+use borrow.Author.Tests.{ne-eqb}
 use Rattle.arith.specs.Choice.{when}
 use Rattle.params.specs.declared.Params.{Params}
 use Rattle.inquire_sizes.specs.Ranges.{optionsNumber}

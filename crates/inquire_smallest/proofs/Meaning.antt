@@ -1,11 +1,11 @@
 -- What the answers mean: the smallest candidate that reaches the count, 38 and 39 exactly where, and agsize and agcount without effect.
 -- Assumes nothing.
 use mathlib.Core.Path.{_≡_, refl, sym, ap, _∙_}
-use mathlib.Core.Bool.{Bool, true, false, _&&_, _||_}
+use mathlib.Core.Bool.{Bool, true, false, _||_}
 use mathlib.Core.Logic.{_⊎_, inl, inr, ⊎-elim}
-use Prim.Native.Nat.{ℕ, _+_, _*_, _-_, _^_, _≤_, _<_}
+use Prim.Native.Nat.{ℕ, _-_, _^_, _≤_, _<_}
 use native.Mathlib.Omega.{arith}
-use borrow.Author.Tests.{eq-eqb, ne-eqb, eqb-true, eqb-false, lt-ltb, le-ltb, ltb-true, ltb-false, leb-true, leb-false}
+use borrow.Author.Tests.{eq-eqb, eqb-true, eqb-false, lt-ltb, le-ltb, ltb-true, ltb-false, leb-true, leb-false}
 use lib.Dec.{leb, ltb, eqb}
 use Rattle.arith.specs.Choice.{when}
 use Rattle.arith.proofs.Both.{left-true, right-true}
@@ -16,14 +16,12 @@ use Rattle.params.specs.Params.{withAgcount, withAgsize}
 use Rattle.geometry.specs.declared.Computed.{Computed}
 use Rattle.geometry.specs.Compute.{computeDef}
 use Rattle.plan_totals.specs.Totals.{plansNumber}
-use Rattle.run.specs.Runs.{orNext}
 use Rattle.run.proofs.Accepted.{none}
-use Rattle.inquire_sizes.specs.First.{firstFrom}
 use Rattle.inquire_sizes.specs.Ranges.{sizeNumber, optionsNumber, FormattedSize}
-use Rattle.inquire_sizes.proofs.First.{first-within, first-passes, first-fails}
+use Rattle.inquire_sizes.proofs.First.{first-passes, first-fails}
 use Rattle.inquire_sizes.proofs.Meaning.{early-most}
 use Rattle.inquire_smallest.specs.declared.Found.{Found}
-use Rattle.inquire_smallest.specs.Question.{defaultGroups, freeBlocks, reaches, sizeAt, firstReaching, refusedCall, foundIn, noSizes, questionNumber, smallestAnswer, smallestAsked, NoneBelow, SmallestSize}
+use Rattle.inquire_smallest.specs.Question.{defaultGroups, freeBlocks, reaches, sizeAt, firstReaching, refusedCall, foundIn, noSizes, questionNumber, smallestAnswer, NoneBelow, SmallestSize}
 use Rattle.inquire_smallest.proofs.Rows.{enough}
 
 -- ---- one size

@@ -1,11 +1,11 @@
 -- Whether a size reaches a count, by its geometry and plans; 39 without a sum that wraps.
 -- Assumes nothing.
-use mathlib.Core.Path.{_≡_, refl, sym, ap, _∙_}
+use mathlib.Core.Path.{_≡_, refl, sym, ap}
 use mathlib.Core.Bool.{Bool, true, false, _&&_}
 use mathlib.Core.List.{List}
 use Prim.Native.Nat.{ℕ, _+_, _*_, _-_, _^_, _≤_, _<_}
 use native.Mathlib.Omega.{arith}
-use borrow.Author.Tests.{eq-eqb, ne-eqb, eqb-true, ltb-true, ltb-false, le-leb, lt-leb, lt-ltb, le-ltb, leb-false}
+use borrow.Author.Tests.{eq-eqb, ne-eqb, eqb-true, ltb-true, ltb-false, le-leb, lt-leb, lt-ltb, le-ltb}
 use lib.Dec.{leb, ltb, eqb}
 use Rattle.seqs.specs.Lists.{choose}
 use Rattle.params.specs.declared.Params.{Params}
@@ -15,11 +15,10 @@ use Rattle.geometry.specs.Compute.{computeDef}
 use Rattle.plan_totals.specs.Totals.{plansNumber}
 use Rattle.sb.specs.declared.SbState.{SbState}
 use Rattle.sb_states.specs.declared.Stated.{Stated}
-use Rattle.sb_states.specs.States.{finishedState, noState, statedAs, finished}
+use Rattle.sb_states.specs.States.{finishedState, noState, finished}
 use Rattle.request.specs.Defaults.{uuidOf}
-use Rattle.run.specs.Runs.{orNext}
 use Rattle.inquire_sizes.specs.Ranges.{sizeNumber}
-use Rattle.inquire_smallest.specs.Question.{freeBlocks, reaches, noSizes, sizeAt}
+use Rattle.inquire_smallest.specs.Question.{freeBlocks, reaches, noSizes}
 
 -- the finished state's number is that of the plans
 state-number : (n : ℕ) (s : SbState) (t : Bool) → eqb n 0 ≡ t → choose t (record { number = 0; state = s }) (noState n) .number ≡ n

@@ -1,13 +1,12 @@
 -- What one turn of the loop over the sizes does to what its definition says; what a question that isn't refused by 39 says of its sizes.
 -- Assumes nothing.
-use mathlib.Core.Path.{_≡_, refl, sym, ap, _∙_}
+use mathlib.Core.Path.{_≡_, refl, _∙_}
 use mathlib.Core.Bool.{Bool, true, false, _||_}
 use Prim.Native.Nat.{ℕ, _+_, _*_, _-_, _^_, _≤_, _<_}
 use native.Mathlib.Omega.{arith}
 use native.Mathlib.Nat.{pos-of-ne-zero}
 use borrow.Author.Tests.{lt-ltb, le-ltb, ltb-false, leb-false, eqb-false}
 use lib.Dec.{leb, ltb, eqb}
-use Rattle.seqs.specs.Lists.{choose}
 use Rattle.params.specs.declared.Params.{Params}
 use Rattle.inquire_sizes.specs.First.{firstFrom}
 use Rattle.inquire_sizes.proofs.First.{first-here, first-later, first-past}
