@@ -4,6 +4,7 @@ mod holds; // what holding runs of blocks back and giving them back leaves of a 
 mod length; // how much a run sends
 mod output; // lines
 mod sizes; // whether every device size of a range is formatted
+mod smallest; // the smallest device size that leaves so many free blocks
 mod words; // the program's words
 
 use libc::STDERR_FILENO;
@@ -13,6 +14,7 @@ fn usage(fd: i32) {
     length::usage(fd);
     holds::usage(fd);
     sizes::usage(fd);
+    smallest::usage(fd);
 }
 
 // Answers the question that the words ask; false where they ask none.
@@ -25,6 +27,9 @@ fn answered() -> bool {
     }
     if words::is_word(1, b"sizes") {
         return sizes::answered();
+    }
+    if words::is_word(1, b"smallest") {
+        return smallest::answered();
     }
     false
 }

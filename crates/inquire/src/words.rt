@@ -26,3 +26,10 @@ pub(crate) fn size(i: usize) -> Value {
     let n = take_word(i, &mut word);
     request_texts::number(&word[..n])
 }
+
+// The same without a letter behind it.
+pub(crate) fn number(i: usize) -> Value {
+    let mut word = io::buffer();
+    let n = take_word(i, &mut word);
+    inquire_holds::words::number_alone(&word[..n])
+}

@@ -1,0 +1,4 @@
+pub mod Reaching
+pub mod Rows
+pub mod Asked
+pub mod Meaning
