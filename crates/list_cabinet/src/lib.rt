@@ -64,11 +64,12 @@ fn number_in(c: Cabinet) -> u32
 fn answer_with(left: u64, own: ListSize) -> ListSize
     ensures { λ r. ⌜ r ≡ answerWith left own ⌝ }
 {
+    let short = refused(AREA_TOO_SMALL);
     if own.number != 0 {
         return own;
     }
     if left < own.bytes {
-        return refused(AREA_TOO_SMALL);
+        return short;
     }
     own
 }

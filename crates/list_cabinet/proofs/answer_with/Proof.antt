@@ -11,10 +11,10 @@ returns : tie.Need-returns
 returns c = sym (own-refusal _ _ (c .if1 .taken))
 
 returns-2 : tie.Need-returns-2
-returns-2 c = c .refused .ensures ∙ sym (no-room _ _ (c .before .before .before .if1 .left) (c .before .if2 .taken))
+returns-2 c = c .before .before .before .before .refused .ensures ∙ sym (no-room _ _ (c .before .before .if1 .left) (c .if2 .taken))
 
 returns-3 : tie.Need-returns-3
 returns-3 c = sym (own-size _ _ (c .before .before .if1 .left) (omega arith))
 
 pub answer-with-spec : {M : Type 1} → statement M
-answer-with-spec = tie.close (tie.spec returns (λ c κs. search needs) returns-2 returns-3)
+answer-with-spec = tie.close (tie.spec (λ c κs. search needs) returns returns-2 returns-3)
