@@ -1,5 +1,6 @@
 // Answers questions about disks; the first word says which one. `inquire --help` has them all. A usage error prints nothing on standard output.
 // What is answered stands in the libraries that each question names; here bytes are only read and written.
+mod cabinet; // which disks of a cabinet have lists that fit one area
 mod holds; // what holding runs of blocks back and giving them back leaves of a group's free records
 mod length; // how much a run sends
 mod output; // lines
@@ -12,6 +13,7 @@ use libc::STDOUT_FILENO;
 
 fn usage(fd: i32) {
     length::usage(fd);
+    cabinet::usage(fd);
     holds::usage(fd);
     sizes::usage(fd);
     smallest::usage(fd);
@@ -21,6 +23,9 @@ fn usage(fd: i32) {
 fn answered() -> bool {
     if words::is_word(1, b"length") {
         return length::answered();
+    }
+    if words::is_word(1, b"cabinet") {
+        return cabinet::answered();
     }
     if words::is_word(1, b"holds") {
         return holds::answered();

@@ -1,0 +1,3 @@
+pub mod Cabinet
+pub mod Entering
+pub mod Shares
