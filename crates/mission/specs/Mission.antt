@@ -166,8 +166,10 @@ pub record PowerCut (r : Request) (old : Device) : Type 0 where
   -- A disk's cache may lose any of the records behind the last flush, and write them in any order. Once the first record is kept, or the first
   -- n, group 0 gets 30 whichever of those before the finishing one came besides, in whichever order, and however often.
   pub any-subset : (n : ℕ) → 0 < n → n ≤ beforeFinished (runOf r .geometry) → (rs : List Record)
-      → Among (drop 1 (take (beforeFinished (runOf r .geometry)) (recordsOf r))) rs → (told : Bool) → firstNumber told r (applied rs (stopped r n old)) ≡ notLeft
-  -- To be accepted a disk must have kept all records up to the first flush. Then it isn't while the finishing record is lost,
+      → Among (drop 1 (take (beforeFinished (runOf r .geometry)) (recordsOf r))) rs → (told : Bool)
+      → firstNumber told r (applied rs (stopped r n old)) ≡ notLeft
+  -- Acceptance is promised once all records up to the first flush are kept (a head that was lost is refused: `other-head`). Group 0 still gets 30
+  -- while the finishing record is lost,
   pub finished-lost : (rs : List Record) → Among (drop (beforeFinished (runOf r .geometry) + 1) (recordsOf r)) rs
       → (told : Bool) → firstNumber told r (applied rs (stopped r (beforeFinished (runOf r .geometry)) old)) ≡ notLeft
   -- and all is read back where that record is among those that came, whichever came before it and behind it.
