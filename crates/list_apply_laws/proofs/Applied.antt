@@ -34,11 +34,11 @@ flush-decoded : decodeDef false (0x46 ∷ 0x4c ∷ []) ≡ head flush 0 0 2
 unfolding decodeDef beAt
 flush-decoded = refl
 
-zeros-marked : decodeDef false (0x57 ∷ 0x5a ∷ []) ≡ more
+pub zeros-marked : decodeDef false (0x57 ∷ 0x5a ∷ []) ≡ more
 unfolding decodeDef write beAt
 zeros-marked = refl
 
-bytes-marked : decodeDef false (0x57 ∷ 0x42 ∷ []) ≡ more
+pub bytes-marked : decodeDef false (0x57 ∷ 0x42 ∷ []) ≡ more
 unfolding decodeDef write beAt
 bytes-marked = refl
 
@@ -48,13 +48,13 @@ unfolding decodeDef write
 decode-last xs h = rw (le-leb 2 (length xs) (omega arith), le-leb 18 (length xs) h) refl
 
 module _ (rest : List ℕ) where
-  first-18 : (w : Record) → 18 ≤ length (recordBytes w) → length (take 18 (recordBytes w ++ rest)) ≡ 18
+  pub first-18 : (w : Record) → 18 ≤ length (recordBytes w) → length (take 18 (recordBytes w ++ rest)) ≡ 18
   first-18 w h = let l = length-append (recordBytes w) rest in length-take-le 18 (recordBytes w ++ rest) (omega arith)
 
   short-head : (w : Record) → fits w → length (recordBytes w) ≡ 18 → headOf w ≡ decodeDef false (take 18 (recordBytes w ++ rest))
   short-head w f e = head-back false w [] f ∙ ap (decodeDef false) (append-nil (recordBytes w) ∙ sym (take-at (recordBytes w) rest 18 e))
 
-  block-head : (off : ℕ) (bs : List ℕ) → fits (WB off bs) → headOf (WB off bs) ≡ decodeDef false (take 18 (recordBytes (WB off bs) ++ rest))
+  pub block-head : (off : ℕ) (bs : List ℕ) → fits (WB off bs) → headOf (WB off bs) ≡ decodeDef false (take 18 (recordBytes (WB off bs) ++ rest))
   block-head off [] f = short-head (WB off []) f (block-bytes off [])
   block-head off (c ∷ cs) f =
       let w = WB off (c ∷ cs) in
@@ -84,12 +84,12 @@ module _ (size limit first o flushes kind off : ℕ) (free : eqb first held ≡ 
   unfolding turnOn wantedOf headNext fed fedHead fedDecoded fedRecord acceptedBy takenUp asked recordBytes inLimit withinDef
   flush-turn v rest done = rw (free, flush-decoded, ← one-more flushes flush before refl, le-leb 0 limit (omega arith), v) refl
 
-  mark-turn : (m : ℕ) (ys : List ℕ) (done : List Record) → decodeDef false (0x57 ∷ m ∷ []) ≡ more
+  pub mark-turn : (m : ℕ) (ys : List ℕ) (done : List Record) → decodeDef false (0x57 ∷ m ∷ []) ≡ more
       → turnOn size (point idle (0x57 ∷ m ∷ ys) done) ≡ point marked (0x57 ∷ m ∷ ys) (done ++ [])
   unfolding turnOn wantedOf headNext fed fedHead fedDecoded asked
   mark-turn m ys done e = rw (free, e) refl
 
-  head-turn : (xs : List ℕ) (kd a l : ℕ) (done : List Record) → head kd a l 18 ≡ decodeDef false (take 18 xs) → length (take 18 xs) ≡ 18
+  pub head-turn : (xs : List ℕ) (kd a l : ℕ) (done : List Record) → head kd a l 18 ≡ decodeDef false (take 18 xs) → length (take 18 xs) ≡ 18
       → waitsDef first kd ≡ false → eqb kd 0 ≡ false → eqb kd flush ≡ false → passed flushes ≡ nextDef flushes kd → inLimit limit a l ≡ true
       → turnOn size (point marked xs done) ≡ point (state limit past goesOn false (followingOf o l) flushes kd a l) (drop 18 xs) (done ++ [])
   unfolding turnOn wantedOf headNext fed fedHead fedDecoded fedRecord acceptedBy takenUp asked
@@ -97,7 +97,7 @@ module _ (size limit first o flushes kind off : ℕ) (free : eqb first held ≡ 
 
 -- ---- a record
 module _ (size limit : ℕ) (some : 0 < size) (first o flushes kind off : ℕ) (free : eqb first held ≡ false) (before : flushes < 2) (rest : List ℕ) where
-  record-body : (w : Record) → fits w → Within limit w → waitsDef first (headOf w .kind) ≡ false → Body size limit (flushes + byKind 0 0 1 w) (state limit first goesOn false o flushes kind off 0) (recordBytes w ++ rest) rest w
+  pub record-body : (w : Record) → fits w → Within limit w → waitsDef first (headOf w .kind) ≡ false → Body size limit (flushes + byKind 0 0 1 w) (state limit first goesOn false o flushes kind off 0) (recordBytes w ++ rest) rest w
   unfolding recordBytes
   record-body FL f i v =
       more-pieces size limit (flushes + 1) (state limit first goesOn false o flushes kind off 0) (state limit past goesOn false (followingOf o 0) (flushes + 1) flush 0 0) (recordBytes FL ++ rest) rest rest FL FL FL
@@ -124,7 +124,7 @@ module _ (size limit : ℕ) (some : 0 < size) (first o flushes kind off : ℕ) (
       (bytes-body size limit some n (followingOf o n) flushes a bs rest (omega arith) (omega arith))))
 
 -- ---- a list
-applied-same : (ws : List Record) (d e : Device) → ((x : ℕ) → d x ≡ e x) → (x : ℕ) → applied ws d x ≡ applied ws e x
+pub applied-same : (ws : List Record) (d e : Device) → ((x : ℕ) → d x ≡ e x) → (x : ℕ) → applied ws d x ≡ applied ws e x
 unfolding applied step
 applied-same [] d e h x = h x
 applied-same (w ∷ ws) d e h x =
@@ -173,7 +173,7 @@ module _ (size limit a n : ℕ) (f : fits (WZ a n)) (i : Within limit (WZ a n)) 
   unfolding turnOn wantedOf headNext fed fedHead fedDecoded fedRecord acceptedBy waitsDef heldBack asked
   wait-turn xs done e long p = rw (long, ← e, ← p, i) refl
 
-  waited : (done : List Record) (r : Point) → Reach size (point (state limit held goesOn false (followingOf 1 0) 0 zeros a n) rest done) r
+  pub waited : (done : List Record) (r : Point) → Reach size (point (state limit held goesOn false (followingOf 1 0) 0 zeros a n) rest done) r
       → Reach size (point (begun limit) (recordBytes (WZ a n) ++ rest) done) r
   unfolding recordBytes
   waited done r h =
@@ -194,7 +194,7 @@ module _ (size limit o a n : ℕ) where
   abbrev waiting-marked : State
   waiting-marked = state limit held goesOn true o 0 zeros a n
 
-  held-mark : (m : ℕ) (ys : List ℕ) (done : List Record) → decodeDef false (0x57 ∷ m ∷ []) ≡ more
+  pub held-mark : (m : ℕ) (ys : List ℕ) (done : List Record) → decodeDef false (0x57 ∷ m ∷ []) ≡ more
       → turnOn size (point waiting (0x57 ∷ m ∷ ys) done) ≡ point waiting-marked (0x57 ∷ m ∷ ys) (done ++ [])
   unfolding turnOn wantedOf headNext fed fedHead fedDecoded asked
   held-mark m ys done e = rw e refl
@@ -206,7 +206,7 @@ module _ (size limit o a n : ℕ) where
 
   module _ (xs : List ℕ) (kd b l : ℕ) (done : List Record) (e : head kd b l 18 ≡ decodeDef false (take 18 xs)) (long : length (take 18 xs) ≡ 18) (some : eqb kd 0 ≡ false)
       (p : passed 0 ≡ nextDef 0 kd) where
-    held-head : inLimit limit b l ≡ true → turnOn size (point waiting-marked xs done) ≡ point (state limit past goesOn false (followingOf o l) 0 kd b l) (drop 18 xs) (done ++ (WZ a n ∷ FL ∷ []))
+    pub held-head : inLimit limit b l ≡ true → turnOn size (point waiting-marked xs done) ≡ point (state limit past goesOn false (followingOf o l) 0 kd b l) (drop 18 xs) (done ++ (WZ a n ∷ FL ∷ []))
     unfolding turnOn wantedOf headNext fed fedHead fedDecoded fedRecord acceptedBy released asked
     held-head w = rw (long, ← e, some, ← p, w) refl
 
@@ -215,14 +215,14 @@ module _ (size limit o a n : ℕ) where
     far-head w = rw (long, ← e, some, ← p, w) refl
 
 -- The zeros and a flush are done, and the next record is in hand.
-record Freed (size limit flushes : ℕ) (s : State) (before behind : List ℕ) (z w : Record) : Type 0 where
-  t : State
-  between : List ℕ
-  go : (done : List Record) (r : Point) → Reach size (point t between (done ++ (z ∷ FL ∷ []))) r → Reach size (point s before done) r
-  body : Body size limit flushes t between behind w
+pub record Freed (size limit flushes : ℕ) (s : State) (before behind : List ℕ) (z w : Record) : Type 0 where
+  pub t : State
+  pub between : List ℕ
+  pub go : (done : List Record) (r : Point) → Reach size (point t between (done ++ (z ∷ FL ∷ []))) r → Reach size (point s before done) r
+  pub body : Body size limit flushes t between behind w
 
 module _ (size limit : ℕ) (some : 0 < size) (o a n : ℕ) (rest : List ℕ) where
-  free-by : (w : Record) → fits w → Within limit w → Freed size limit (byKind 0 0 1 w) (waiting size limit o a n) (recordBytes w ++ rest) rest (WZ a n) w
+  pub free-by : (w : Record) → fits w → Within limit w → Freed size limit (byKind 0 0 1 w) (waiting size limit o a n) (recordBytes w ++ rest) rest (WZ a n) w
   unfolding recordBytes
   free-by FL f i =
       record {
@@ -266,7 +266,7 @@ module _ (size limit : ℕ) (some : 0 < size) (o a n : ℕ) (rest : List ℕ) wh
       }
 
 -- a list that is cut before its flushes isn't whole
-no-flush : ruled 0 [] ≡ 0 → ⊥
+pub no-flush : ruled 0 [] ≡ 0 → ⊥
 unfolding ruled
 no-flush z = let e = two-past 0 false refl (ap (λ (k : ℕ). eqb k 0) z) in omega arith
 
@@ -313,7 +313,7 @@ module _ (size limit : ℕ) (some : 0 < size) where
   take-first (WZ a n ∷ []) z f i = absurd (no-flush (went-on 0 (WZ a n) [] false refl z .1))
   take-first (WZ a n ∷ w ∷ ws) z f i = held-first a n w ws z f i
 
-end-turn : (size limit o kind off : ℕ) (done : List Record)
+pub end-turn : (size limit o kind off : ℕ) (done : List Record)
     → turnOn size (point (state limit past goesOn false o 2 kind off 0) [] done) ≡ point (state limit past ended false o 2 kind off 0) [] (done ++ [])
 unfolding turnOn wantedOf headNext fed fedHead endedBy endedDef asked
 end-turn size limit o kind off done = refl

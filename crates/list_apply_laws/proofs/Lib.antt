@@ -2,3 +2,5 @@ pub mod Turns
 pub mod Ended
 pub mod Pieces
 pub mod Applied
+pub mod Halts
+pub mod Fronts

@@ -3,16 +3,17 @@
 use mathlib.Core.Path.{_≡_}
 use mathlib.Core.Bool.{true}
 use mathlib.Core.List.{List, [], _∷_, _++_}
-use Prim.Native.Nat.{ℕ}
+use mathlib.Core.Logic.{_⊎_}
+use Prim.Native.Nat.{ℕ, _≤_}
 use lib.Dec.{eqb}
-use lib.ListN.{take, drop}
+use lib.ListN.{length, take, drop}
 use Rattle.seqs.specs.Lists.{choose, turns}
-use Rattle.list_records.specs.Records.{Record, WZ, WB, FL, All, listBytes}
+use Rattle.list_records.specs.Records.{Record, WZ, WB, FL, listBytes, carried}
 use Rattle.list_records.specs.Device.{Device, applied}
 use Rattle.list_read.specs.Records.{flush, zeros, bytes, headOf}
 use Rattle.list_apply.specs.declared.Applying.{Applying as State}
 use Rattle.list_apply.specs.declared.Step.{Step}
-use Rattle.list_apply.specs.Applying.{ended, tooFar, firstDone, begun, inLimit, wantedOf, fed}
+use Rattle.list_apply.specs.Applying.{goesOn, ended, tooFar, firstDone, begun, inLimit, wantedOf, fed}
 
 -- the state, the bytes that are still to come, and what was done so far
 pub record Point : Type 0 where
@@ -60,3 +61,29 @@ pub record Untouched (size limit : ℕ) (ws : List Record) : Type 0 where
   pub reached : Reach size (point (begun limit) (listBytes ws) []) last
   pub stopped : last .applying .stop ≡ tooFar
   pub nothing : last .done ≡ []
+
+-- ---- a list of which only the first bytes come
+
+-- a block comes in one piece
+abbrev pub InOne : ℕ → Record → Type 0
+InOne size w = carried w ≤ size
+
+-- Zeros at a list's start are done before anything else, and flushed.
+abbrev pub FlushedFirst : List Record → List Record → Type 0
+FlushedFirst [] done = Unit {0}
+FlushedFirst (FL ∷ ws) done = Unit {0}
+FlushedFirst (WB at bs ∷ ws) done = Unit {0}
+FlushedFirst (WZ at n ∷ ws) done = (done ≡ []) ⊎ ((more : List Record) × (done ≡ WZ at n ∷ FL ∷ more))
+
+-- The turns over the first i bytes of a list stop, and what was done leaves on every device what the list's first records leave.
+pub record AppliesFront (size limit : ℕ) (ws : List Record) (i : ℕ) : Type 0 where
+  pub last : Point
+  pub reached : Reach size (point (begun limit) (take i (listBytes ws)) []) last
+  pub stops : last .applying .stop ≡ goesOn → ⊥
+  -- so many of them, whole records alone
+  pub records : ℕ
+  pub left : (d : Device) → applied (last .done) d ≡ applied (take records ws) d
+  -- none of which a byte is missing, and no fewer: but the first record alone waits for the next one's head
+  pub here : length (listBytes (take records ws)) ≤ i
+  pub no-fewer : (m : ℕ) → 2 ≤ m → m ≤ length ws → length (listBytes (take m ws)) ≤ i → m ≤ records
+  pub flushed : FlushedFirst ws (last .done)

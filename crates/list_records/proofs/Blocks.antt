@@ -1,11 +1,13 @@
 -- Facts of all records of a list, and that each of a write split into blocks is one block.
 -- Assumes nothing.
+use mathlib.Core.Path.{sym, subst}
 use mathlib.Core.List.{List, [], _∷_, _++_}
+use mathlib.Core.Logic.{inl, inr}
 use Prim.Native.Nat.{ℕ, zero, suc, _+_, _*_, _≤_}
 use native.Mathlib.Omega.{arith}
 use lib.ListN.{length, drop, length-drop}
 use lib.Seq.{length-take-le}
-use Rattle.list_records.specs.Records.{Record, OneBlock, All, blocks}
+use Rattle.list_records.specs.Records.{Record, OneBlock, All, Member, Among, blocks}
 
 -- ---- all of a list
 
@@ -21,6 +23,15 @@ all-map p q (x ∷ xs) f a = (f x (a .0), all-map p q xs f (a .1))
 pub all-prefix : (q : Record → Type 0) (xs ys : List Record) → All q (xs ++ ys) → All q xs
 all-prefix q [] ys a = tt
 all-prefix q (x ∷ xs) ys a = (a .0, all-prefix q xs ys (a .1))
+
+-- of a list, one, and some in any order
+one-all : (q : Record → Type 0) (ws : List Record) (r : Record) → All q ws → Member ws r → q r
+one-all q [] r a m = absurd m
+one-all q (w ∷ ws) r a (inl e) = subst q (sym e) (a .0)
+one-all q (w ∷ ws) r a (inr m) = one-all q ws r (a .1) m
+
+pub among-all : (q : Record → Type 0) (ws rs : List Record) → All q ws → Among ws rs → All q rs
+among-all q ws rs a m = all-map (Member ws) q rs (λ r. one-all q ws r a) m
 
 -- ---- a write split into n blocks, with bytes enough for them
 

@@ -2,6 +2,7 @@
 -- Assumes nothing.
 use mathlib.Core.Path.{_≡_}
 use mathlib.Core.List.{List, [], _∷_, _++_}
+use mathlib.Core.Logic.{_⊎_}
 use Prim.Native.Nat.{ℕ, zero, suc, _+_}
 use lib.ListN.{length, take, drop}
 use Rattle.endian.specs.Bytes.{beBytes}
@@ -39,6 +40,15 @@ OneBlock bs FL = Unit {0}
 abbrev pub All : (Record → Type 0) → List Record → Type 0
 All q [] = Unit {0}
 All q (r ∷ rs) = q r × All q rs
+
+-- one of a list's records
+abbrev pub Member : List Record → Record → Type 0
+Member [] r = ⊥
+Member (w ∷ ws) r = (r ≡ w) ⊎ Member ws r
+
+-- some of a list's records, in any order, each once, several times or not at all
+abbrev pub Among : List Record → List Record → Type 0
+Among ws rs = All (Member ws) rs
 
 -- ---- how many records of each kind, and how many bytes stand in blocks: sums over a list
 

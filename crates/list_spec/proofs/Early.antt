@@ -1,4 +1,5 @@
--- Until the finished superblock is written, group 0's first block is zeros or the unfinished one.
+-- Until the finished superblock is written, group 0's first block is zeros or the unfinished one, also where a cache lost some of the records
+-- behind the first or wrote them in another order.
 -- Assumes nothing.
 use mathlib.Core.Path.{_≡_, sym, subst, _∙_}
 use mathlib.Core.List.{List, [], _∷_, _++_}
@@ -8,8 +9,8 @@ use native.Mathlib.Omega.{arith}
 use lib.ListN.{length, take, drop}
 use lib.Seq.{length-take-le}
 use Rattle.run.specs.declared.Run.{Run}
-use Rattle.list_records.specs.Records.{Record, FL, All, blocks}
-use Rattle.list_records.proofs.Blocks.{all-append, all-prefix, all-map}
+use Rattle.list_records.specs.Records.{Record, FL, All, Among, blocks}
+use Rattle.list_records.proofs.Blocks.{all-append, all-prefix, all-map, among-all}
 use Rattle.list_records.specs.Device.{Device, step, applied, Misses}
 use Rattle.list_records.proofs.Applying.{step-missed, zeros-left, bytes-left, blocks-miss, Keeps, kept}
 use Rattle.list_spec.specs.Listing.{headBlocks, headWritten, opening, headRecords, headsTo, chunkRecords}
@@ -75,3 +76,8 @@ module _ (run : Run) (device : ℕ) (s : Sound run device) where
       let first : r ∷ [] ≡ take 1 (opening run device) = cc in
       let same : cut ++ rest ≡ drop 1 (opening run device) ++ ((headsTo run (run .geometry .agcount) ++ chunkRecords run) ++ (FL ∷ [])) = cc in
       kept (Early run) cut (step r d) (all-prefix (Keeps (Early run)) cut rest (rw same rest-keep)) (subst (λ (rs : List Record). Early run (applied rs d)) (sym first) (first-early d))
+
+  -- AND WHICHEVER OF THEM COME THEN, IN WHICHEVER ORDER
+  pub early-any : (rs : List Record) → Among (drop 1 (unfinished run device ++ (FL ∷ []))) rs → (d : Device) → Early run d → Early run (applied rs d)
+  unfolding unfinished opening
+  early-any rs m d e = kept (Early run) rs d (among-all (Keeps (Early run)) (drop 1 (unfinished run device ++ (FL ∷ []))) rs rest-keep m) e

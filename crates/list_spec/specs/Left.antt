@@ -10,9 +10,9 @@ use Rattle.geometry_places.specs.Answers.{rootChunk}
 use Rattle.head_bytes.specs.Head.{zeros}
 use Rattle.chunk.specs.Chunk.{chunkBytes}
 use Rattle.run.specs.declared.Run.{Run}
-use Rattle.list_records.specs.Records.{Record, All}
+use Rattle.list_records.specs.Records.{Record, WB, All}
 use Rattle.list_records.specs.Device.{Device, read, Misses}
-use Rattle.list_spec.specs.Listing.{whackSize, blocksEnd, tailStart, headBlocks, headerBlocks, chunkBlocks, logOffset, logBlock, headWritten, headLeft, opening, headRecords, headsTo, chunkRecords, closing}
+use Rattle.list_spec.specs.Listing.{whackSize, blocksEnd, tailStart, headBlocks, headerBlocks, chunkBlocks, logOffset, logBlock, headWritten, headFinished, headLeft, opening, headRecords, headsTo, chunkRecords, closing}
 
 -- ---- where the parts lie, in bytes
 
@@ -61,6 +61,10 @@ pub record Alone (run : Run) (device k : ℕ) : Type 0 where
 -- the records before the first flush
 unfoldable pub unfinished : Run → ℕ → List Record
 unfinished run device = opening run device ++ (headsTo run (run .geometry .agcount) ++ chunkRecords run)
+
+-- the record that finishes a run: group 0's first block, with the finished superblock
+abbrev pub finishingRecord : Run → Record
+finishingRecord run = WB 0 (take (run .geometry .blocksize) (headFinished (run .geometry) (run .uuid)))
 
 -- group 0's first block is zeros, or the unfinished one
 abbrev pub Early : Run → Device → Type 0

@@ -47,7 +47,7 @@ use Rattle.mission.specs.Mission.{Demand1, Demand2, Demand3}
 use Rattle.mission.specs.Mission.Words.{OneForm}
 use Rattle.mission.proofs.Checks.{heads-checked}
 use Rattle.mission.proofs.Geometries.{own-sectors, is-answer, label-size, refused-plans}
-use Rattle.mission.proofs.Stopped.{read-back, its-refused, its-accepted}
+use Rattle.mission.proofs.Stopped.{read-back, power-cut}
 use Rattle.mission.proofs.Tables.{first-least, steps-rise}
 use Rattle.mission.proofs.Totals.{used-once, all-totals}
 
@@ -146,6 +146,6 @@ demand3 =
       no-such-group = λ g u k xs a h. past-refused g u xs k a h;
       one-use = used-once;
       totals = all-totals;
-      interrupted = λ r a old n. (its-refused r a old n, its-accepted r a old n);
+      power-cut = power-cut;
       some-disk = k1-accepted;
     }

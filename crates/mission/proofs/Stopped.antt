@@ -1,32 +1,51 @@
--- What the reader says of a device whose formatting was stopped between two records.
+-- POWER LOST WHILE FORMATTING: what the reader says of a device on which only some of a run's records came.
 -- Assumes nothing.
-use mathlib.Core.Path.{_≡_, sym, ap, _∙_}
+use mathlib.Core.Path.{_≡_, refl, sym, ap, subst, _∙_}
+use mathlib.Core.Bool.{Bool, true, not, _&&_}
 use mathlib.Core.List.{List, [], _∷_, _++_, append-assoc}
-use Prim.Native.Nat.{ℕ, _+_, _-_, _≤_, _<_}
+use Prim.Native.Nat.{ℕ, suc, _+_, _-_, _≤_, _<_}
 use native.Mathlib.Omega.{arith}
 use lib.ListN.{length, take, drop, length-append, length-take, take-append-drop}
-use lib.Seq.{take-append-le}
+use lib.Seq.{take-append-le, take-at, drop-at, drop-append-add}
+use Rattle.arith.specs.Choice.{when}
+use Rattle.refusals.specs.Numbers.{notInProfile}
+use Rattle.seqs.specs.Lists.{total}
+use Rattle.seqs.proofs.Laws.{total-append}
+use Rattle.geometry.specs.declared.Geometry.{Geometry}
+use Rattle.plan.specs.declared.Planned.{Planned}
 use Rattle.request.specs.declared.Request.{Request}
+use Rattle.profile.specs.Rules.{profileNumber, labelOn}
+use Rattle.profile.proofs.Labels.{allowed-number}
 use Rattle.run.specs.declared.Run.{Run}
 use Rattle.run.specs.Runs.{runOf}
-use Rattle.list_records.specs.Records.{Record, FL}
+use Rattle.list_records.specs.Records.{Record, FL, Among, byKind, blocks}
 use Rattle.list_records.proofs.Sums.{count-total}
 use Rattle.list_records.specs.Device.{Device, applied}
-use Rattle.list_spec.specs.Listing.{headerRecords, closing, listOf, recordCount}
-use Rattle.list_spec.specs.Left.{unfinished}
-use Rattle.list_spec.proofs.Counts.{list-count, closing-total}
+use Rattle.list_spec.specs.Listing.{headerBlocks, headFinished, headerRecords, closing, listOf, recordCount}
+use Rattle.list_spec.specs.Left.{unfinished, finishingRecord, Early}
+use Rattle.list_spec.proofs.Counts.{list-count, list-flushes, closing-total}
 use Rattle.list_spec.proofs.Parts.{list-parts}
+use Rattle.list_spec.proofs.Early.{early-any}
+use Rattle.list_spec.proofs.After.{idle-any, after-any}
+use Rattle.list_read.specs.Whole.{readList}
 use Rattle.list_accepted.specs.Accepted.{AcceptedRun}
 use Rattle.list_accepted.proofs.Runs.{source-of}
 use Rattle.list_accepted.proofs.Sound.{sound}
-use Rattle.list_accepted.proofs.Heads.{run-finished}
+use Rattle.list_accepted.proofs.Heads.{run-early, run-finished}
+use Rattle.list_laws.proofs.Whole.{written-whole}
+use Rattle.list_laws.proofs.Applied.{run-front}
+use Rattle.reader_exact.specs.declared.Found.{Found}
 use Rattle.reader_exact.specs.Read.{readGroup0, readGroup, readLog}
 use Rattle.reader_exact.specs.Left.{reported}
 use Rattle.reader_exact.specs.Disk.{headOn, formatted}
 use Rattle.reader_exact.proofs.Heads.{some-group}
-use Rattle.reader_exact.proofs.Disk.{head-formatted, log-formatted, cut-refused}
+use Rattle.reader_exact.proofs.Disk.{head-formatted, log-formatted, early-refused}
 use Rattle.reader_exact.proofs.Recovery.{recovered}
-use Rattle.mission.specs.Mission.Words.{beforeFinished, stopped, ReadBack}
+use Rattle.reader_admit.specs.Admit.{admitted}
+use Rattle.reader_admit.proofs.Within.{source-within, reported-within}
+use Rattle.reader_admit.proofs.Admitted.{refused-kept}
+use Rattle.mission.specs.Mission.Words.{beforeFinished, recordsOf, stopped, Finishing, firstNumber, Admits, ReadBack}
+use Rattle.mission.specs.Mission.{PowerCut}
 
 module _ (run : Run) (device : ℕ) where
   unfinished-length : length (unfinished run device) + 1 ≡ beforeFinished (run .geometry)
@@ -53,18 +72,52 @@ module _ (run : Run) (device : ℕ) where
   unfolding prefix
   prefix-length = omega (arith, length-append (unfinished run device) (FL ∷ []), unfinished-length)
 
+  -- so these are its first records, and those are the later ones
+  prefix-taken : take (beforeFinished (run .geometry)) (listOf run device) ≡ prefix
+  prefix-taken = ap (take (beforeFinished (run .geometry))) list-prefix ∙ take-at prefix _ (beforeFinished (run .geometry)) prefix-length
+
+  closing-left : drop (beforeFinished (run .geometry)) (listOf run device) ≡ headerRecords run ++ (FL ∷ [])
+  closing-left = ap (drop (beforeFinished (run .geometry))) list-prefix ∙ drop-at prefix _ (beforeFinished (run .geometry)) prefix-length
+
+  behind-left : drop (beforeFinished (run .geometry) + 1) (listOf run device) ≡ drop 1 (headerRecords run ++ (FL ∷ []))
+  behind-left =
+      ap (λ (n : ℕ). drop (n + 1) (listOf run device)) (sym prefix-length) ∙ ap (drop (length prefix + 1)) list-prefix ∙ drop-append-add prefix _ 1
+
+  no-flush-before : total (byKind 0 0 1) (unfinished run device) ≡ 0
+  no-flush-before =
+      omega (
+        arith,
+        list-flushes run device,
+        ap (total (byKind 0 0 1)) (list-parts run device),
+        total-append (byKind 0 0 1) (unfinished run device) (closing run),
+        closing-total 0 0 1 run,
+      )
+
+-- what is accepted gets the profile's number, which doesn't look at the sizing
+admits-reported : (g : Geometry) → admitted true (reported g) 0 ≡ profileNumber true g (labelOn g)
+unfolding admitted
+admits-reported g = ap (λ (b : Bool). when (true && not b) notInProfile 0) (reported-within g)
+
 module _ (r : Request) (a : AcceptedRun r) (old : Device) where
   abbrev run : Run
   run = runOf r
 
-  pub its-refused : (n : ℕ) → 0 < n → n ≤ beforeFinished (run .geometry) → readGroup0 (headOn (run .geometry) (stopped r n old) 0) .number ≡ 30
+  -- up to the finishing record group 0's first block is zeros, or the unfinished one
+  its-early : (n : ℕ) → 0 < n → n ≤ beforeFinished (run .geometry) → Early run (stopped r n old)
   unfolding prefix
-  its-refused n o h =
+  its-early n o h =
       let l = prefix-length run (r .device) in
       let cut = take n (prefix run (r .device)) in
-      ap (λ (rs : List Record). readGroup0 (headOn (run .geometry) (applied rs old) 0) .number)
-      (ap (take n) (list-prefix run (r .device)) ∙ take-append-le n (prefix run (r .device)) _ (omega arith))
-      ∙ cut-refused r a old cut (drop n (prefix run (r .device))) (take-append-drop n (prefix run (r .device))) (omega (arith, length-take n (prefix run (r .device))))
+      subst (λ (rs : List Record). Early run (applied rs old))
+      (sym (ap (take n) (list-prefix run (r .device)) ∙ take-append-le n (prefix run (r .device)) _ (omega arith)))
+      (run-early r a cut (drop n (prefix run (r .device))) (take-append-drop n (prefix run (r .device))) (omega (arith, length-take n (prefix run (r .device)))) old)
+
+  -- and the reader refuses it, whether or not it is told to admit profile disks only
+  early-number : (d : Device) → Early run d → (told : Bool) → firstNumber told r d ≡ 30
+  early-number d e told =
+      let f = readGroup0 (headOn (run .geometry) d 0) in
+      let n : f .number ≡ 30 = early-refused r a d e in
+      refused-kept told (f .geometry) (f .number) (λ z. omega (arith, n, z)) ∙ n
 
   finished : (n : ℕ) → beforeFinished (run .geometry) < n → stopped r n old ≡ formatted r old
   unfolding formatted beforeFinished recordCount
@@ -84,5 +137,87 @@ module _ (r : Request) (a : AcceptedRun r) (old : Device) where
         log-block = ap (readLog (reported g) u) (log-formatted r a old) ∙ z .log-block;
       }
 
-  pub its-accepted : (n : ℕ) → beforeFinished (run .geometry) < n → ReadBack r (stopped r n old)
-  its-accepted n h = rw (finished n h) read-back
+  its-recovered : (n : ℕ) → beforeFinished (run .geometry) < n → ReadBack r (stopped r n old)
+  its-recovered n h = rw (finished n h) read-back
+
+  -- ---- the finishing record
+
+  its-finishing : Finishing r
+  unfolding closing blocks
+  its-finishing =
+      let bs = run .geometry .blocksize in
+      let bytes = headFinished (run .geometry) (run .uuid) in
+      let n = headerBlocks (run .geometry) - 1 in
+      let e : headerBlocks (run .geometry) ≡ suc n = omega (arith, sound r a .header-some) in
+      record {
+        before = unfinished run (r .device);
+        behind = blocks bs (0 + bs) n (drop bs bytes) ++ (FL ∷ []);
+        list = list-parts run (r .device) ∙ ap (λ (m : ℕ). unfinished run (r .device) ++ (FL ∷ (blocks bs 0 m bytes ++ (FL ∷ [])))) e;
+        no-flush = no-flush-before run (r .device);
+        place = unfinished-length run (r .device);
+      }
+
+  -- ---- records that a cache lost, or wrote in another order
+
+  abbrev least : ℕ
+  least = beforeFinished (run .geometry)
+
+  -- the device once all up to the first flush are kept
+  flushed : stopped r least old ≡ applied (prefix run (r .device)) old
+  flushed = ap (λ (rs : List Record). applied rs old) (prefix-taken run (r .device))
+
+  its-subset : (n : ℕ) → 0 < n → n ≤ least → (rs : List Record) → Among (drop 1 (take least (recordsOf r))) rs → Early run (applied rs (stopped r n old))
+  unfolding prefix
+  its-subset n o h rs m =
+      early-any run (r .device) (sound r a) rs (subst (λ (ws : List Record). Among (drop 1 ws) rs) (prefix-taken run (r .device)) m) (stopped r n old) (its-early n o h)
+
+  its-lost : (rs : List Record) → Among (drop (least + 1) (recordsOf r)) rs → Early run (applied rs (stopped r least old))
+  unfolding prefix beforeFinished
+  its-lost rs m =
+      let i = idle-any run (r .device) (sound r a) rs (subst (λ (ws : List Record). Among ws rs) (behind-left run (r .device)) m) old in
+      subst (Early run) (sym (ap (applied rs) flushed ∙ i ∙ sym flushed)) (its-early least (omega arith) (omega arith))
+
+  its-closing : (rs : List Record) → Among (drop least (recordsOf r)) rs → Among (headerRecords run ++ (FL ∷ [])) rs
+  its-closing rs m = subst (λ (ws : List Record). Among ws rs) (closing-left run (r .device)) m
+
+  its-kept : (xs ys : List Record) → Among (drop least (recordsOf r)) xs → Among (drop least (recordsOf r)) ys
+      → ReadBack r (applied (xs ++ (finishingRecord run ∷ ys)) (stopped r least old))
+  unfolding prefix formatted
+  its-kept xs ys mx my =
+      let all = xs ++ (finishingRecord run ∷ ys) in
+      subst (ReadBack r)
+      (sym (ap (applied all) flushed ∙ after-any run (r .device) (sound r a) xs ys (its-closing xs mx) (its-closing ys my) old)) read-back
+
+  -- ---- a reader that admits profile disks only
+
+  its-admitted : (d : Device) → ReadBack r d → Admits (profileNumber true (run .geometry) (labelOn (run .geometry))) r d
+  its-admitted d b =
+      let g = run .geometry in
+      record {
+        first =
+            ap (λ (f : Found). admitted true (f .geometry) (f .number)) (b .first) ∙ admits-reported g;
+        group = λ k h. ap (λ (p : Planned). admitted true (reported g) (p .number)) (b .group k h) ∙ admits-reported g;
+        log-block = ap (admitted true (reported g)) (b .log-block) ∙ admits-reported g;
+      }
+
+  its-profile : r .profile ≡ true → profileNumber true (run .geometry) (labelOn (run .geometry)) ≡ 0
+  its-profile t =
+      allowed-number true (run .geometry) (labelOn (run .geometry)) (source-within (run .geometry) (run .uuid) (record { run = record { request = r; accepted = a; geometry = refl; uuid = refl }; profile = t }))
+
+  -- EVERY SENTENCE OF IT
+  pub power-cut : PowerCut r old
+  unfolding applied
+  power-cut =
+      record {
+        old-contents = refl;
+        refused = λ n o h. early-number (stopped r n old) (its-early n (omega arith) (omega arith));
+        finishing = its-finishing;
+        recovered = λ n h. its-recovered n (omega arith);
+        admitted-then = λ n h. its-admitted (stopped r n old) (its-recovered n (omega arith));
+        profile-run = its-profile;
+        sent = ap readList (sym (written-whole r a .whole)) ∙ written-whole r a .back;
+        received = λ size limit i hold h k. run-front r a k size limit hold h i;
+        any-subset = λ n o h rs m. early-number (applied rs (stopped r n old)) (its-subset n (omega arith) (omega arith) rs m);
+        finished-lost = λ rs m. early-number (applied rs (stopped r (beforeFinished (run .geometry)) old)) (its-lost rs m);
+        finished-kept = its-kept;
+      }

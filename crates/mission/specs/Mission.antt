@@ -14,16 +14,18 @@
 --   reported g     what the reader reports of a run with geometry g: g with plain sizing of the log where that gives the same log, else g
 --                  itself. `plain g` is g with plain sizing.
 --   heads k        whatever bytes stand where the head of group k should be; `log` what stands in the log's first block.
+--   recordsOf r    the run's written records, in order; `stopped r n old` a device that held `old`, after the first n of them. The finishing one,
+--                  with the finished superblock, stands behind `beforeFinished` others.
 -- A name such as `readGroup0` is a definition, and the contract of the function `read_group0` says that this is its answer, on every input.
 -- Assumes nothing.
 pub mod Words
 use mathlib.Core.Path.{_≡_}
-use mathlib.Core.Bool.{true, false}
-use mathlib.Core.List.{List, [], _∷_}
+use mathlib.Core.Bool.{Bool, true, false}
+use mathlib.Core.List.{List, [], _∷_, _++_}
 use mathlib.Core.Logic.{_↔_}
 use Prim.Native.Nat.{ℕ, _+_, _*_, _-_, _<_, _≤_}
 use lib.Dec.{T, eqb, ltb}
-use lib.ListN.{length}
+use lib.ListN.{length, take, drop}
 use Words.*
 
 -- ==== DEMAND 1: every input is answered, a bad one by its number, and a refused call changes no lent byte
@@ -138,6 +140,43 @@ pub record Demand2 : Type 0 where
   pub directory-left : (r : Request) → AcceptedRun r → (old : Device)
       → DirectoryAt (runOf r .geometry) (runOf r .time) (inodeIn (runOf r .geometry) 0 (chunkOn (runOf r .geometry) (formatted r old)))
 
+-- ==== POWER LOST WHILE FORMATTING, a part of demand 3: of an accepted run r, in either sizing, under the profile or not, on a device that held
+-- `old`; by a reader that is told to admit profile disks only, or not. Nothing is said of a block that was written in part, nor of records in
+-- another order than theirs but by the last three sentences.
+
+pub record PowerCut (r : Request) (old : Device) : Type 0 where
+  -- Before the first record the old contents stand there.
+  pub old-contents : stopped r 0 old ≡ old
+  -- From the first record on, and until the finishing one has been applied, group 0 gets 30.
+  pub refused : (n : ℕ) → 0 < n → n ≤ beforeFinished (runOf r .geometry) → (told : Bool) → firstNumber told r (stopped r n old) ≡ notLeft
+  -- The finishing record is the one behind the first flush, and `beforeFinished` counts those before it.
+  pub finishing : Finishing r
+  -- From it on all is read back, whatever of the later records is missing.
+  pub recovered : (n : ℕ) → beforeFinished (runOf r .geometry) < n → ReadBack r (stopped r n old)
+  -- A reader that admits profile disks only then gives every place 0, or 37 where the disk breaks a rule of the profile;
+  pub admitted-then : (n : ℕ) → beforeFinished (runOf r .geometry) < n
+      → Admits (profileNumber true (runOf r .geometry) (labelOn (runOf r .geometry))) r (stopped r n old)
+  -- 0 of every run under the profile.
+  pub profile-run : r .profile ≡ true → profileNumber true (runOf r .geometry) (labelOn (runOf r .geometry)) ≡ 0
+  -- These records are those of the bytes that are sent for the run (`sent-and-read`).
+  pub sent : readList (listBytes (recordsOf r)) ≡ readAs (recordsOf r)
+  -- Taken up from an input that ends after any number i of these bytes, they leave the device as it is after some of the first: whole records
+  -- alone, and the first one is flushed before anything else is done. The buffer holds a block.
+  pub received : (size limit i : ℕ) → maxSupportedBlock ≤ size → r .device ≤ limit → r .device ≤ largest → AppliesFront size limit (recordsOf r) i
+  -- A disk's cache may lose any of the records behind the last flush, and write them in any order. Once the first record is kept, or the first
+  -- n, group 0 gets 30 whichever of those before the finishing one came besides, in whichever order, and however often.
+  pub any-subset : (n : ℕ) → 0 < n → n ≤ beforeFinished (runOf r .geometry) → (rs : List Record)
+      → Among (drop 1 (take (beforeFinished (runOf r .geometry)) (recordsOf r))) rs → (told : Bool)
+      → firstNumber told r (applied rs (stopped r n old)) ≡ notLeft
+  -- Acceptance is promised once all records up to the first flush are kept (a head that was lost is refused: `other-head`). Group 0 still gets 30
+  -- while the finishing record is lost,
+  pub finished-lost : (rs : List Record) → Among (drop (beforeFinished (runOf r .geometry) + 1) (recordsOf r)) rs
+      → (told : Bool) → firstNumber told r (applied rs (stopped r (beforeFinished (runOf r .geometry)) old)) ≡ notLeft
+  -- and all is read back where that record is among those that came, whichever came before it and behind it.
+  pub finished-kept : (xs ys : List Record) → Among (drop (beforeFinished (runOf r .geometry)) (recordsOf r)) xs
+      → Among (drop (beforeFinished (runOf r .geometry)) (recordsOf r)) ys
+      → ReadBack r (applied (xs ++ (finishingRecord (runOf r) ∷ ys)) (stopped r (beforeFinished (runOf r .geometry)) old))
+
 -- ==== DEMAND 3: a reader that sees only the heads and the first log block, and what it vouches for
 
 pub record Demand3 : Type 0 where
@@ -183,10 +222,7 @@ pub record Demand3 : Type 0 where
   pub totals : (heads : ℕ → List ℕ) (log : List ℕ) → Octets (heads 0) → ReadWhole heads log → (g : Geometry) → readGroup0 (heads 0) .geometry ≡ g
       → (freeTotal g heads + listTotal g heads ≡ countIn (heads 0))
       × (countIn (heads 0) + g .agcount * headBlocks g + logIn g (heads 0) .blocks + chunkTotal g heads ≡ g .dblocks)
-  -- Power lost: once the first record is written and until the finished superblock is, group 0 gets 30; from that record on all is read
-  -- back.
-  pub interrupted : (r : Request) → AcceptedRun r → (old : Device) (n : ℕ)
-      → (0 < n → n ≤ beforeFinished (runOf r .geometry) → readGroup0 (headOn (runOf r .geometry) (stopped r n old) 0) .number ≡ notLeft)
-      × (beforeFinished (runOf r .geometry) < n → ReadBack r (stopped r n old))
+  -- Wherever power is lost while an accepted run formats a device, and whatever that held: the sentences of `PowerCut`, above.
+  pub power-cut : (r : Request) → AcceptedRun r → (old : Device) → PowerCut r old
   -- None of this is said of nothing: with no option at all, a device of 1 GiB with sectors of 512 bytes is accepted.
   pub some-disk : AcceptedRun (request 0 noOptions (1024 * mib) 512 512)

@@ -28,17 +28,9 @@ use Rattle.reader_exact.proofs.Heads.{sector-most, head-block, head-lea
 use Rattle.reader_exact.proofs.Zeros.{zeros-named}
 use Rattle.reader_exact.proofs.Refused.{unnamed-refused, begun-refused}
 
-module _ (r : Request) (a : AcceptedRun r) (old : Device) where
-  pub head-formatted : (k : ℕ) → k < runOf r .geometry .agcount → headOn (runOf r .geometry) (formatted r old) k ≡ headLeft (runOf r .geometry) (runOf r .uuid) k
-  unfolding headOn formatted headLength
-  head-formatted k h = run-left r a old .head k h
+-- ---- until the finished superblock
 
-  pub log-formatted : logOn (runOf r .geometry) (formatted r old) ≡ logBlock (runOf r .geometry) (runOf r .uuid)
-  unfolding logOn formatted
-  log-formatted = run-left r a old .log
-
-  -- ---- until the finished superblock
-
+module _ (r : Request) (a : AcceptedRun r) where
   -- group 0's head begins with group 0's first block
   first-block : (d : Device) → take (runOf r .geometry .blocksize) (headOn (runOf r .geometry) d 0) ≡ read d 0 (runOf r .geometry .blocksize)
   unfolding headOn byteOf before
@@ -47,7 +39,8 @@ module _ (r : Request) (a : AcceptedRun r) (old : Device) where
       let z : (0 * g .agsize + 0) * g .blocksize ≡ 0 = omega arith in
       ap (λ (off : ℕ). take (g .blocksize) (read d off (headLength g))) z ∙ sym (read-first d 0 (g .blocksize) (headLength g) (head-block g))
 
-  early-refused : (d : Device) → Early (runOf r) d → readGroup0 (headOn (runOf r .geometry) d 0) .number ≡ 30
+  -- where group 0's first block is zeros or the unfinished one, its head is refused
+  pub early-refused : (d : Device) → Early (runOf r) d → readGroup0 (headOn (runOf r .geometry) d 0) .number ≡ 30
   unfolding headOn
   early-refused d (inl e) =
       let g = runOf r .geometry in
@@ -66,7 +59,18 @@ module _ (r : Request) (a : AcceptedRun r) (old : Device) where
       (sym (take-take (g .sectsize) (g .blocksize) xs m) ∙ ap (take (g .sectsize)) (first-block d ∙ e) ∙ take-take (g .sectsize) (g .blocksize) h m)
       (length-read d _ (headLength g))
 
+-- ---- what a run's records leave
+
+module _ (r : Request) (a : AcceptedRun r) (old : Device) where
+  pub head-formatted : (k : ℕ) → k < runOf r .geometry .agcount → headOn (runOf r .geometry) (formatted r old) k ≡ headLeft (runOf r .geometry) (runOf r .uuid) k
+  unfolding headOn formatted headLength
+  head-formatted k h = run-left r a old .head k h
+
+  pub log-formatted : logOn (runOf r .geometry) (formatted r old) ≡ logBlock (runOf r .geometry) (runOf r .uuid)
+  unfolding logOn formatted
+  log-formatted = run-left r a old .log
+
   -- after every cut of the list up to its first flush, group 0's head is refused
   pub cut-refused : (cut rest : List Record) → cut ++ rest ≡ unfinished (runOf r) (r .device) ++ (FL ∷ []) → 0 < length cut
       → readGroup0 (headOn (runOf r .geometry) (applied cut old) 0) .number ≡ 30
-  cut-refused cut rest e h = early-refused (applied cut old) (early (runOf r) (r .device) (sound r a) cut rest e h old)
+  cut-refused cut rest e h = early-refused r a (applied cut old) (early (runOf r) (r .device) (sound r a) cut rest e h old)

@@ -8,6 +8,7 @@ pub mod cabinets;
 pub mod chunk;
 pub mod corners;
 pub mod crc;
+pub mod cuts;
 pub mod damage;
 pub mod geometry;
 pub mod hold_states;
@@ -162,6 +163,7 @@ pub fn named(name: &str) -> Option<Box<dyn Mode + Sync>> {
         "profile_length" => Box::new(profiles::Profiles::lengths()),
         "profile_disks" => Box::new(profiles::Disks),
         "sizings" => Box::new(sizings::Sizings),
+        "cuts" => Box::new(cuts::Cuts),
         _ => return None,
     })
 }

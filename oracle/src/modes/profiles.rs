@@ -42,7 +42,7 @@ fn groups(r: &mut Random, q: &mut Request, n: u64) {
 }
 
 /// A request within the profile, its options given or left to default.
-fn within(r: &mut Random) -> Request {
+pub fn within(r: &mut Random) -> Request {
     let mut q = Request { logical: 512, physical: r.pick(&[512, 4096]), ..Request::default() };
     let n = if r.one_in(2) { r.pick(&[2, 3, 63, 64]) } else { 2 + r.below(63) };
     if r.one_in(3) {

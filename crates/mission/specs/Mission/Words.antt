@@ -3,7 +3,7 @@
 -- Assumes nothing.
 use mathlib.Core.Path.{_≡_}
 use mathlib.Core.Bool.{Bool, true, false, _||_}
-use mathlib.Core.List.{List, [], _∷_}
+use mathlib.Core.List.{List, [], _∷_, _++_}
 use mathlib.Core.Logic.{_⊎_}
 use Prim.Native.Nat.{ℕ, _+_, _*_, _<_}
 use lib.Dec.{eqb}
@@ -19,6 +19,7 @@ pub use Rattle.refusals.specs.Numbers.{freeListShort, wrongLength, noPlace, not
 pub use Rattle.refusals.specs.Table.{Refusal, _if_, first}
 pub use Rattle.params.specs.declared.Params.{Params}
 pub use Rattle.params.specs.Params.{noOptions, withRoomy}
+pub use Rattle.geometry_sizes.specs.Limits.{maxSupportedBlock}
 pub use Rattle.geometry.specs.Limits.{mib}
 pub use Rattle.geometry.specs.declared.Geometry.{Geometry}
 pub use Rattle.geometry.specs.Compute.{chosenOf, refusals, computeDef}
@@ -38,16 +39,18 @@ pub use Rattle.plan_uses.specs.Uses.{usesOf, usedOf, mappedOf}
 pub use Rattle.request.specs.declared.Request.{Request}
 pub use Rattle.request.specs.Parse.{request, parseDef}
 pub use Rattle.request.specs.Defaults.{timeOf}
-pub use Rattle.profile.specs.Rules.{profileNumber}
+pub use Rattle.profile.specs.Rules.{profileNumber, labelOn}
 pub use Rattle.run.specs.Runs.{orNext, stepOf, timeRefusal, runOf, accepted}
-pub use Rattle.list_records.specs.Records.{listBytes}
+pub use Rattle.list_records.specs.Records.{Record, Among, listBytes}
+use Rattle.list_records.specs.Records.{FL, flushes}
+pub use Rattle.list_read.specs.Records.{largest}
 pub use Rattle.list_read.specs.Whole.{readList, readAs}
-pub use Rattle.list_records.specs.Device.{Device}
-use Rattle.list_records.specs.Device.{applied}
+pub use Rattle.list_records.specs.Device.{Device, applied}
+pub use Rattle.list_apply_laws.specs.Lists.{AppliesFront}
 pub use Rattle.list_spec.specs.Listing.{headBlocks, listOf}
 use Rattle.list_spec.specs.Listing.{chunkBlocks}
 pub use Rattle.list_spec.specs.Order.{Ordered}
-pub use Rattle.list_spec.specs.Left.{Left}
+pub use Rattle.list_spec.specs.Left.{Left, finishingRecord}
 pub use Rattle.list_accepted.specs.Accepted.{AcceptedRun}
 pub use Rattle.list_send.specs.Sending.{begun, longestOf, handed}
 pub use Rattle.reader_exact.specs.Read.{readGroup0, readGroup, readLog}
@@ -65,6 +68,7 @@ pub use Rattle.reader_decoded.specs.Decoded.{sectorAt, logIn, countIn}
 pub use Rattle.reader_decoded.specs.Checks.{Checked}
 pub use Rattle.reader_layout.specs.Layouts.{SuperblockAt, AgfAt, AgiAt, FreeListAt, RootsAt}
 pub use Rattle.reader_layout.specs.Chunk.{chunkOn, inodeIn, Inodes, DirectoryAt}
+pub use Rattle.reader_admit.specs.Admit.{admitted}
 pub use Rattle.reader_uses.specs.ByUse.{usesIn, Once, freeTotal, listTotal, chunkTotal}
 
 -- Each promise on a lent buffer is `Written`, of its own test's number and its own bytes: of a write that asks for `m` bytes, of one by a table
@@ -85,13 +89,36 @@ pub record ReadBack (r : Request) (d : Device) : Type 0 where
       → readGroup (reported (runOf r .geometry)) (runOf r .uuid) k (headOn (runOf r .geometry) d k) ≡ record { number = 0; plan = planned (runOf r .geometry) k .plan }
   pub log-block : readLog (reported (runOf r .geometry)) (runOf r .uuid) (logOn (runOf r .geometry) d) ≡ 0
 
--- The device when only the first n of the run's written records have been applied.
+-- The run's written records.
+abbrev pub recordsOf : Request → List Record
+recordsOf r = listOf (runOf r) (r .device)
+
+-- The device when only the first n of them have been applied.
 abbrev pub stopped : Request → ℕ → Device → Device
-stopped r n old = applied (take n (listOf (runOf r) (r .device))) old
+stopped r n old = applied (take n (recordsOf r)) old
 
 -- How many records come before the one with the finished superblock: three of zeros, the log block, the heads, the root chunk, a flush.
 unfoldable pub beforeFinished : Geometry → ℕ
 beforeFinished g = 5 + g .agcount * headBlocks g + chunkBlocks g
+
+-- The finishing record has that place: at once behind the first flush.
+pub record Finishing (r : Request) : Type 0 where
+  pub before : List Record
+  pub behind : List Record
+  pub list : recordsOf r ≡ before ++ (FL ∷ finishingRecord (runOf r) ∷ behind)
+  pub no-flush : flushes before ≡ 0
+  pub place : length before + 1 ≡ beforeFinished (runOf r .geometry)
+
+-- What the reader answers to group 0's head on a device, handed as many bytes as this run's head has; told to admit profile disks only, or not.
+abbrev pub firstNumber : Bool → Request → Device → ℕ
+firstNumber told r d = admitted told (readGroup0 (headOn (runOf r .geometry) d 0) .geometry) (readGroup0 (headOn (runOf r .geometry) d 0) .number)
+
+-- Told so, it gives one number to every head and to the log block.
+pub record Admits (number : ℕ) (r : Request) (d : Device) : Type 0 where
+  pub first : firstNumber true r d ≡ number
+  pub group : (k : ℕ) → k < runOf r .geometry .agcount
+      → admitted true (reported (runOf r .geometry)) (readGroup (reported (runOf r .geometry)) (runOf r .uuid) k (headOn (runOf r .geometry) d k) .number) ≡ number
+  pub log-block : admitted true (reported (runOf r .geometry)) (readLog (reported (runOf r .geometry)) (runOf r .uuid) (logOn (runOf r .geometry) d)) ≡ number
 
 -- n is one of these numbers.
 abbrev pub oneOf : List ℕ → ℕ → Bool
