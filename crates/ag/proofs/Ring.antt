@@ -6,18 +6,21 @@ use mathlib.Core.Bool.{Bool, true, false}
 use Prim.Native.Nat.{ℕ, zero, suc, _+_, _*_, _-_, _/_, _%_, _≤_, _<_, _^_}
 use native.Mathlib.Nat.{div-add-mod', add-mul-mod-self-right, mod-eq-of-lt, mod-lt, one-mul, add-zero}
 use native.Mathlib.Omega.{arith}
-use lib.Dec.{ltb, lit<}
+use lib.Dec.{T, ltb, lit<}
 use lib.ListN.{length, getD, set, replicate, length-replicate, length-set}
 use lib.Seq.{getD-set-same, getD-set-other}
 use borrow.Author.Tests.{ltb-true, ltb-false}
 use Rattle.endian.specs.Bytes.{beBytes, below, runBytes, numbersAt}
-use Rattle.endian.specs.Fields.{part, spans}
+use Rattle.endian.specs.Fields.{part, write, spans, clear}
+use Rattle.endian.proofs.Fields.{write-length}
 use Rattle.endian.proofs.Consecutive.{run-back}
-use Rattle.crc.proofs.Laws.{read-stamped}
+use Rattle.crc.specs.Crc.{stamped}
+use Rattle.crc.proofs.Laws.{read-stamped, length-stamped}
 use Rattle.structs.specs.Holds.{Holds}
 use Rattle.structs.specs.Written.{null32}
 use Rattle.structs.proofs.Rising.{rises-tidy}
-use Rattle.ag.specs.Agfl.{slotsOf, placed, agflHeader, agflSlots, agflFields, agflBytes}
+use Rattle.structs.proofs.Encoded.{encoded-again}
+use Rattle.ag.specs.Agfl.{agflCrcAt, slotsOf, placed, agflHeader, agflSlots, agflFields, agflBytes}
 use Rattle.ag.proofs.Slots.{length-run, length-placed}
 
 -- ---- a ring of `n` slots
@@ -82,9 +85,14 @@ module _ (seqno : ℕ) (uuid : List ℕ) (first : ℕ) (list xs : List ℕ) (u :
   unfolding slots
   slots-size = length-placed (slotsOf (length xs)) first list (replicate (slotsOf (length xs)) null32) ∙ length-replicate (slotsOf (length xs)) null32
 
-  agfl-stands : spans (agflFields (length xs) seqno uuid first list) ≡ spans (agflFields (length xs) 0 (replicate 16 0) first list)
+  pub agfl-stands : spans (agflFields (length xs) seqno uuid first list) ≡ spans (agflFields (length xs) 0 (replicate 16 0) first list)
   unfolding agflFields agflHeader agflSlots beBytes
   agfl-stands = rw u refl
+
+  -- clear of the checksum
+  pub agfl-clear : T (clear agflCrcAt 4 (spans (agflFields (length xs) 0 (replicate 16 0) first list)))
+  unfolding agflFields agflHeader agflSlots beBytes
+  agfl-clear = tt
 
   pub agfl-holds : Holds (agflFields (length xs) seqno uuid first list) (agflBytes seqno uuid first list xs)
   unfolding agflBytes agflFields agflHeader agflSlots beBytes slots
@@ -102,3 +110,17 @@ module _ (seqno : ℕ) (uuid : List ℕ) (first : ℕ) (list xs : List ℕ) (u :
       ap (λ (k : ℕ). numbersAt 4 k 36 (agflBytes seqno uuid first list xs)) (sym slots-size)
       ∙ run-back 4 slots 36 (agflBytes seqno uuid first list xs) (below-placed (2 ^ 32) (slotsOf (length xs)) first list (replicate (slotsOf (length xs)) null32) b (below-same (2 ^ 32) (slotsOf (length xs)) null32 (lit< tt)))
       (ap (λ (k : ℕ). part 36 k (agflBytes seqno uuid first list xs)) (sym (length-run slots)) ∙ p)
+
+  -- encoded twice it is encoded once
+  same-length : length (agflBytes seqno uuid first list xs) ≡ length xs
+  unfolding agflBytes
+  same-length = length-stamped agflCrcAt (write (agflFields (length xs) seqno uuid first list) xs) ∙ write-length (agflFields (length xs) seqno uuid first list) xs
+
+  pub agfl-again : agflBytes seqno uuid first list (agflBytes seqno uuid first list xs) ≡ agflBytes seqno uuid first list xs
+  unfolding agflBytes agflFields agflHeader agflSlots beBytes slots
+  agfl-again =
+      let ss = spans (agflFields (length xs) 0 (replicate 16 0) first list) in
+      let m = 36 + length (runBytes 4 slots) in
+      let ys = agflBytes seqno uuid first list xs in
+      ap (λ (n : ℕ). stamped agflCrcAt (write (agflFields n seqno uuid first list) ys)) same-length
+      ∙ encoded-again ss m agflCrcAt (rises-tidy 0 m ss tt (omega arith)) tt (agflFields (length xs) seqno uuid first list) agfl-stands xs

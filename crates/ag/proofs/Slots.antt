@@ -14,8 +14,7 @@ use Rattle.endian.proofs.Order.{patch-over}
 use Rattle.endian.specs.Fields.{run, write}
 use Rattle.structs.specs.Written.{null32}
 use Rattle.structs.proofs.Reading.{patch-apart, write-append}
-use Rattle.ag.specs.Agfl.{placed, slotsOf, agflHeader, agflSlots, agflFields, agflBytes}
-use Rattle.crc.specs.Crc.{stamped}
+use Rattle.ag.specs.Agfl.{placed, slotsOf, agflHeader, agflSlots, agflFields}
 
 -- every slot null, as 0xff bytes
 pub nulls : (n : ℕ) → runBytes 4 (replicate n null32) ≡ replicate (4 * n) 255
@@ -98,12 +97,12 @@ slot-end n first bs xs ys zs e d =
     let p = runBytes 4 (placed n first bs (replicate n null32)) in
     d ∙ ap (patch 36 p) e ∙ patch-over 36 p (replicate (4 * n) 255) xs (same-size n first bs)
 
--- header, slots, checksum
-pub agfl-written : (seqno : ℕ) (uuid : List ℕ) (first : ℕ) (list xs ys zs ws : List ℕ) → length ys ≡ length xs → ys ≡ write (agflHeader seqno uuid) xs
-    → zs ≡ patch 36 (runBytes 4 (placed (slotsOf (length ys)) first list (replicate (slotsOf (length ys)) null32))) ys → ws ≡ stamped 32 zs
-    → ws ≡ agflBytes seqno uuid first list xs
-unfolding agflBytes agflFields agflSlots
-agfl-written seqno uuid first list xs ys zs ws l a b c =
+-- header and slots
+pub agfl-written : (seqno : ℕ) (uuid : List ℕ) (first : ℕ) (list xs ys zs : List ℕ) → length ys ≡ length xs → ys ≡ write (agflHeader seqno uuid) xs
+    → zs ≡ patch 36 (runBytes 4 (placed (slotsOf (length ys)) first list (replicate (slotsOf (length ys)) null32))) ys
+    → zs ≡ write (agflFields (length xs) seqno uuid first list) xs
+unfolding agflFields agflSlots
+agfl-written seqno uuid first list xs ys zs l a b =
     let s = run 36 (runBytes 4 (placed (slotsOf (length xs)) first list (replicate (slotsOf (length xs)) null32))) in
-    c ∙ ap (stamped 32) (b ∙ ap (λ (k : ℕ). patch 36 (runBytes 4 (placed (slotsOf k) first list (replicate (slotsOf k) null32))) ys) l
-    ∙ ap (patch 36 (s .bytes)) a ∙ sym (write-append (agflHeader seqno uuid) (s ∷ []) xs))
+    b ∙ ap (λ (k : ℕ). patch 36 (runBytes 4 (placed (slotsOf k) first list (replicate (slotsOf k) null32))) ys) l
+    ∙ ap (patch 36 (s .bytes)) a ∙ sym (write-append (agflHeader seqno uuid) (s ∷ []) xs)

@@ -1,4 +1,4 @@
--- `struct xfs_agf`, field by field in the order on disk. The checksum, agf_crc, is the four bytes at 216.
+-- `struct xfs_agf`, field by field in the order on disk.
 -- Assumes nothing.
 use mathlib.Core.List.{List, [], _∷_}
 use Prim.Native.Nat.{ℕ}
@@ -10,6 +10,10 @@ use Rattle.ag.specs.Sector.{agVersion}
 -- "XAGF"
 abbrev pub agfMagic : ℕ
 agfMagic = 0x5841_4746
+
+-- where the checksum, agf_crc, stands
+abbrev pub agfCrcAt : ℕ
+agfCrcAt = 216
 
 -- the roots and levels by block, by size and of reverse mappings are the entries of agf_roots and agf_levels in older headers
 unfoldable pub agfFields : Agf → List ℕ → List Field
@@ -40,4 +44,4 @@ agfFields a uuid =
 
 -- the fields over the old bytes, and then the checksum
 unfoldable pub agfBytes : Agf → List ℕ → List ℕ → List ℕ
-agfBytes a uuid xs = stamped 216 (write (agfFields a uuid) xs)
+agfBytes a uuid xs = stamped agfCrcAt (write (agfFields a uuid) xs)

@@ -1,4 +1,4 @@
--- `struct xfs_agfl`: a header, and behind it a ring of slots up to the end of the sector. The checksum, agfl_crc, is the four bytes at 32.
+-- `struct xfs_agfl`: a header, and behind it a ring of slots up to the end of the sector.
 -- Assumes nothing.
 use mathlib.Core.List.{List, [], _∷_, _++_}
 use Prim.Native.Nat.{ℕ, suc, _-_, _/_, _%_}
@@ -14,6 +14,10 @@ use Rattle.structs.specs.Written.{null32, require}
 -- "XAFL"
 abbrev pub agflMagic : ℕ
 agflMagic = 0x5841_464c
+
+-- where the checksum, agfl_crc, stands
+abbrev pub agflCrcAt : ℕ
+agflCrcAt = 32
 
 unfoldable pub agflNumber : ℕ → ℕ → ℕ
 agflNumber count len = require wrongLength (isSector len) (require tooManyRecords (leb count 64) 0)
@@ -44,4 +48,4 @@ agflFields len seqno uuid first list = agflHeader seqno uuid ++ agflSlots len fi
 
 -- the fields over the old bytes, and then the checksum
 unfoldable pub agflBytes : ℕ → List ℕ → ℕ → List ℕ → List ℕ → List ℕ
-agflBytes seqno uuid first list xs = stamped 32 (write (agflFields (length xs) seqno uuid first list) xs)
+agflBytes seqno uuid first list xs = stamped agflCrcAt (write (agflFields (length xs) seqno uuid first list) xs)

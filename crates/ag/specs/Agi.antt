@@ -1,4 +1,4 @@
--- `struct xfs_agi`, field by field in the order on disk. The checksum, agi_crc, is the four bytes at 312.
+-- `struct xfs_agi`, field by field in the order on disk.
 -- Assumes nothing.
 use mathlib.Core.List.{List, [], _∷_, _++_}
 use Prim.Native.Nat.{ℕ}
@@ -14,6 +14,10 @@ use Rattle.ag.specs.Sector.{agVersion}
 -- "XAGI"
 abbrev pub agiMagic : ℕ
 agiMagic = 0x5841_4749
+
+-- where the checksum, agi_crc, stands
+abbrev pub agiCrcAt : ℕ
+agiCrcAt = 312
 
 -- XFS_AGI_UNLINKED_BUCKETS
 abbrev pub unlinkedBuckets : ℕ
@@ -50,4 +54,4 @@ agiFields a uuid =
 
 -- the fields over the old bytes, and then the checksum
 unfoldable pub agiBytes : Agi → List ℕ → List ℕ → List ℕ
-agiBytes a uuid xs = stamped 312 (write (agiFields a uuid) xs)
+agiBytes a uuid xs = stamped agiCrcAt (write (agiFields a uuid) xs)

@@ -1,8 +1,10 @@
 // The free space header of a group.
+ghost use mathlib.Core.List.{[], _∷_};
 ghost use lib.ListN.{length};
-ghost use Rattle.structs.specs.Written.{Written};
+ghost use Rattle.structs.specs.Encoded.{Encoded};
 ghost use Rattle.ag.specs.Sector.{sectorNumber};
-ghost use Rattle.ag.specs.Agf.{agfBytes};
+ghost use Rattle.ag.specs.Agf.{agfCrcAt, agfBytes};
+use crc::Stamped;
 use structs::is_sector;
 
 // "XAGF"
@@ -41,12 +43,16 @@ pub struct Agf {
 }
 
 impl Agf {
-    // The named bytes, and the checksum over the sector; every other byte stays. 27 unless the sector is one.
-    pub fn encode(self, uuid: &[u8; 16], sector: &mut [u8]) -> u32
-        ensures { λ r. ⌜ Written (sectorNumber (length (now (sector .entry)))) (agfBytes self (now (uuid .entry)) (now (sector .entry))) (now (sector .entry)) r (now (sector .exit)) ⌝ }
+    // The named bytes, and the checksum over the sector, and whether that stood there already; every other byte stays. 27 unless the
+    // sector is one.
+    pub fn encode(self, uuid: &[u8; 16], sector: &mut [u8]) -> Stamped
+        ensures { λ r. ⌜ Encoded (sectorNumber (length (now (sector .entry)))) (agfCrcAt ∷ []) (agfBytes self (now (uuid .entry)) (now (sector .entry))) (now (sector .entry)) (r .number) (r .right) (now (sector .exit)) ⌝ }
     {
         if !is_sector(sector.len()) {
-            return refusals::WRONG_LENGTH;
+            return Stamped {
+                number: refusals::WRONG_LENGTH,
+                right: false,
+            };
         }
         let prefix: [u32; 16] = [
             AGF_MAGIC, // agf_magicnum
@@ -76,7 +82,6 @@ impl Agf {
         endian::put_bytes(sector, UUID, uuid); // agf_uuid
         endian::put32_run(sector, RMAP_BLOCKS, &back);
         endian::put64(sector, LSN, 0); // agf_lsn
-        crc::stamp(sector, CRC); // agf_crc
-        0
+        crc::stamp(sector, CRC) // agf_crc
     }
 }

@@ -1,11 +1,14 @@
 // The free list of a group.
 ghost use mathlib.Core.Path.{_≡_};
+ghost use mathlib.Core.List.{[], _∷_};
 ghost use Prim.Native.Nat.{_≤_};
 ghost use lib.ListN.{length, take, replicate};
 ghost use Rattle.endian.specs.Bytes.{patch, runBytes};
 ghost use Rattle.endian.specs.Fields.{write};
-ghost use Rattle.structs.specs.Written.{Written, null32};
-ghost use Rattle.ag.specs.Agfl.{placed, slotsOf, agflNumber, agflBytes, agflHeader};
+ghost use Rattle.structs.specs.Written.{null32};
+ghost use Rattle.structs.specs.Encoded.{Encoded};
+ghost use Rattle.ag.specs.Agfl.{agflCrcAt, placed, slotsOf, agflNumber, agflBytes, agflHeader};
+use crc::Stamped;
 use structs::is_sector;
 
 // "XAFL"
@@ -43,7 +46,7 @@ fn put_slots(sector: &mut [u8], first: u32, list: [u32; 64], count: usize)
 
 fn put_header(sector: &mut [u8], seqno: u32, uuid: &[u8; 16])
     requires { ⌜ 512 ≤ length (now sector) ⌝ }
-    ensures { λ _. ⌜ now (sector .exit) ≡ write (agflHeader seqno (now (uuid .entry))) (now (sector .entry)) ⌝ }
+    ensures { λ _. ⌜ (now (sector .exit) ≡ write (agflHeader seqno (now (uuid .entry))) (now (sector .entry))) × (length (now (uuid .entry)) ≡ 16) ⌝ }
 {
     let at: [usize; 6] = [off::MAGICNUM, 4, off::SEQNO, 4, off::LSN, 8];
     let v: [u64; 3] = [AGFL_MAGIC, seqno as u64, 0]; // agfl_magicnum, agfl_seqno, agfl_lsn
@@ -51,7 +54,8 @@ fn put_header(sector: &mut [u8], seqno: u32, uuid: &[u8; 16])
     endian::put_bytes(sector, off::UUID, uuid);
 }
 
-// The header, the first `count` blocks of `list` from slot `first` on, and every other slot null. 27 unless the sector is one, 34 above 64.
+// The header, the first `count` blocks of `list` from slot `first` on, and every other slot null, and whether the checksum stood there
+// already. 27 unless the sector is one, 34 above 64.
 pub fn encode_agfl(
     seqno: u32,
     uuid: &[u8; 16],
@@ -59,17 +63,22 @@ pub fn encode_agfl(
     list: [u32; 64],
     count: usize,
     sector: &mut [u8],
-) -> u32
-    ensures { λ r. ⌜ Written (agflNumber count (length (now (sector .entry)))) (agflBytes seqno (now (uuid .entry)) first (take count list) (now (sector .entry))) (now (sector .entry)) r (now (sector .exit)) ⌝ }
+) -> Stamped
+    ensures { λ r. ⌜ Encoded (agflNumber count (length (now (sector .entry)))) (agflCrcAt ∷ []) (agflBytes seqno (now (uuid .entry)) first (take count list) (now (sector .entry))) (now (sector .entry)) (r .number) (r .right) (now (sector .exit)) ⌝ }
 {
     if !is_sector(sector.len()) {
-        return refusals::WRONG_LENGTH;
+        return Stamped {
+            number: refusals::WRONG_LENGTH,
+            right: false,
+        };
     }
     if 64 < count {
-        return refusals::TOO_MANY_RECORDS;
+        return Stamped {
+            number: refusals::TOO_MANY_RECORDS,
+            right: false,
+        };
     }
     put_header(sector, seqno, uuid);
     put_slots(sector, first, list, count);
-    crc::stamp(sector, off::CRC);
-    0
+    crc::stamp(sector, off::CRC)
 }

@@ -1,11 +1,13 @@
 // The inode header of a group.
 ghost use mathlib.Core.Path.{_≡_};
+ghost use mathlib.Core.List.{[], _∷_};
 ghost use Prim.Native.Nat.{_≤_};
 ghost use lib.ListN.{length};
 ghost use Rattle.endian.specs.Fields.{write};
-ghost use Rattle.structs.specs.Written.{Written};
+ghost use Rattle.structs.specs.Encoded.{Encoded};
 ghost use Rattle.ag.specs.Sector.{sectorNumber};
-ghost use Rattle.ag.specs.Agi.{agiPrefix, agiBytes};
+ghost use Rattle.ag.specs.Agi.{agiCrcAt, agiPrefix, agiBytes};
+use crc::Stamped;
 use structs::is_sector;
 
 // "XAGI"
@@ -43,7 +45,7 @@ pub struct Agi {
 // What stands before the checksum: numbers, lists of unlinked inodes, all empty, and UUID.
 fn put_prefix(sector: &mut [u8], prefix: [u32; 10], uuid: &[u8; 16])
     requires { ⌜ 512 ≤ length (now sector) ⌝ }
-    ensures { λ _. ⌜ now (sector .exit) ≡ write (agiPrefix prefix (now (uuid .entry))) (now (sector .entry)) ⌝ }
+    ensures { λ _. ⌜ (now (sector .exit) ≡ write (agiPrefix prefix (now (uuid .entry))) (now (sector .entry))) × (length (now (uuid .entry)) ≡ 16) ⌝ }
 {
     endian::put32_run(sector, 0, &prefix);
     endian::put_same(sector, UNLINKED, 4 * UNLINKED_BUCKETS, 255); // agi_unlinked
@@ -51,12 +53,16 @@ fn put_prefix(sector: &mut [u8], prefix: [u32; 10], uuid: &[u8; 16])
 }
 
 impl Agi {
-    // The named bytes, and the checksum over the sector; every other byte stays. 27 unless the sector is one.
-    pub fn encode(self, uuid: &[u8; 16], sector: &mut [u8]) -> u32
-        ensures { λ r. ⌜ Written (sectorNumber (length (now (sector .entry)))) (agiBytes self (now (uuid .entry)) (now (sector .entry))) (now (sector .entry)) r (now (sector .exit)) ⌝ }
+    // The named bytes, and the checksum over the sector, and whether that stood there already; every other byte stays. 27 unless the
+    // sector is one.
+    pub fn encode(self, uuid: &[u8; 16], sector: &mut [u8]) -> Stamped
+        ensures { λ r. ⌜ Encoded (sectorNumber (length (now (sector .entry)))) (agiCrcAt ∷ []) (agiBytes self (now (uuid .entry)) (now (sector .entry))) (now (sector .entry)) (r .number) (r .right) (now (sector .exit)) ⌝ }
     {
         if !is_sector(sector.len()) {
-            return refusals::WRONG_LENGTH;
+            return Stamped {
+                number: refusals::WRONG_LENGTH,
+                right: false,
+            };
         }
         let prefix: [u32; 10] = [
             AGI_MAGIC, // agi_magicnum
@@ -75,7 +81,6 @@ impl Agi {
         put_prefix(sector, prefix, uuid);
         endian::put64(sector, LSN, 0); // agi_lsn
         endian::put32_run(sector, FREE_ROOT, &back);
-        crc::stamp(sector, CRC); // agi_crc
-        0
+        crc::stamp(sector, CRC) // agi_crc
     }
 }

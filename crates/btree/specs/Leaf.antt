@@ -1,5 +1,4 @@
--- A leaf block that is the root of its tree: `struct xfs_btree_block` with the short header of version 5, and the records behind it. The checksum,
--- bb_crc, is the four bytes at 52.
+-- A leaf block that is the root of its tree: `struct xfs_btree_block` with the short header of version 5, and the records behind it.
 -- Assumes nothing.
 use mathlib.Core.List.{List, [], _∷_, _++_}
 use Prim.Native.Nat.{ℕ, _+_}
@@ -11,7 +10,10 @@ use Rattle.crc.specs.Crc.{stamped}
 use Rattle.structs.specs.Sizes.{isBlock}
 use Rattle.structs.specs.Written.{null32, require}
 
--- where the records begin
+-- where the checksum, bb_crc, stands, and where the records begin
+abbrev pub leafCrcAt : ℕ
+leafCrcAt = 52
+
 abbrev pub headerSize : ℕ
 headerSize = 56
 
@@ -39,4 +41,4 @@ leafFields magic daddr agno uuid recs numrecs = leafHeader magic daddr agno uuid
 
 -- every byte that no field names is zero; then the checksum
 unfoldable pub leafBytes : ℕ → ℕ → ℕ → List ℕ → List ℕ → ℕ → ℕ → List ℕ
-leafBytes magic daddr agno uuid recs numrecs len = stamped 52 (write (leafFields magic daddr agno uuid recs numrecs) (replicate len 0))
+leafBytes magic daddr agno uuid recs numrecs len = stamped leafCrcAt (write (leafFields magic daddr agno uuid recs numrecs) (replicate len 0))

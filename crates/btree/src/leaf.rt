@@ -1,10 +1,12 @@
 // A leaf block that is the root of its tree.
 ghost use mathlib.Core.Path.{_≡_};
-ghost use Prim.Native.Nat.{_≤_};
+ghost use mathlib.Core.List.{[], _∷_};
+ghost use Prim.Native.Nat.{_+_, _≤_};
 ghost use lib.ListN.{length};
 ghost use Rattle.endian.specs.Fields.{write};
-ghost use Rattle.structs.specs.Written.{Written};
-ghost use Rattle.btree.specs.Leaf.{leafNumber, leafHeader, leafBytes};
+ghost use Rattle.structs.specs.Encoded.{Encoded};
+ghost use Rattle.btree.specs.Leaf.{leafCrcAt, leafNumber, leafHeader, leafBytes};
+use crc::Stamped;
 use structs::is_block;
 
 // Offsets in the header of a leaf block, each under its field's name without bb_; the records start at the last.
@@ -68,8 +70,27 @@ fn put_header(magic: u32, daddr: u64, agno: u32, uuid: &[u8; 16], numrecs: u16, 
     endian::put_bytes(block, off::UUID, uuid);
 }
 
-// The header, the records, which are encoded already, zeros behind them, and the checksum over the block. 27 unless the block is one,
-// 34 where the records don't fit.
+// The whole block: zeros, the header, the records and the checksum.
+fn fill(
+    magic: u32,
+    daddr: u64,
+    agno: u32,
+    uuid: &[u8; 16],
+    recs: &[u8],
+    numrecs: u16,
+    block: &mut [u8],
+)
+    requires { ⌜ (1024 ≤ length (now block)) × (56 + length (now recs) ≤ length (now block)) ⌝ }
+    ensures { λ _. ⌜ now (block .exit) ≡ leafBytes magic daddr agno (now (uuid .entry)) (now (recs .entry)) numrecs (length (now (block .entry))) ⌝ }
+{
+    endian::put_same(block, 0, block.len(), 0);
+    put_header(magic, daddr, agno, uuid, numrecs, block);
+    endian::put_bytes(block, off::RECS, recs);
+    crc::stamp(block, off::CRC);
+}
+
+// The header, the records, which are encoded already, zeros behind them, and the checksum over the block, and whether that stood there
+// already. 27 unless the block is one, 34 where the records don't fit.
 pub fn leaf_block(
     magic: u32,
     daddr: u64,
@@ -78,18 +99,26 @@ pub fn leaf_block(
     recs: &[u8],
     numrecs: u16,
     block: &mut [u8],
-) -> u32
-    ensures { λ r. ⌜ Written (leafNumber (length (now (recs .entry))) (length (now (block .entry)))) (leafBytes magic daddr agno (now (uuid .entry)) (now (recs .entry)) numrecs (length (now (block .entry)))) (now (block .entry)) r (now (block .exit)) ⌝ }
+) -> Stamped
+    ensures { λ r. ⌜ Encoded (leafNumber (length (now (recs .entry))) (length (now (block .entry)))) (leafCrcAt ∷ []) (leafBytes magic daddr agno (now (uuid .entry)) (now (recs .entry)) numrecs (length (now (block .entry)))) (now (block .entry)) (r .number) (r .right) (now (block .exit)) ⌝ }
 {
     if !is_block(block.len()) {
-        return refusals::WRONG_LENGTH;
+        return Stamped {
+            number: refusals::WRONG_LENGTH,
+            right: false,
+        };
     }
     if !endian::inside(block.len(), off::RECS, recs.len()) {
-        return refusals::TOO_MANY_RECORDS;
+        return Stamped {
+            number: refusals::TOO_MANY_RECORDS,
+            right: false,
+        };
     }
-    endian::put_same(block, 0, block.len(), 0);
-    put_header(magic, daddr, agno, uuid, numrecs, block);
-    endian::put_bytes(block, off::RECS, recs);
-    crc::stamp(block, off::CRC);
-    0
+    let before = crc::stored(block, off::CRC);
+    fill(magic, daddr, agno, uuid, recs, numrecs, block);
+    let after = crc::stored(block, off::CRC);
+    Stamped {
+        number: 0,
+        right: before == after,
+    }
 }

@@ -15,7 +15,9 @@ use Rattle.refusals.specs.Table.{_if_}
 use Rattle.refusals.proofs.Clear.{passed}
 use Rattle.structs.specs.Sizes.{isInode}
 use Rattle.structs.specs.Written.{require}
-use Rattle.structs.proofs.Written.{refused, done, written-in}
+use Rattle.crc.specs.Right.{alreadyRight}
+use Rattle.structs.proofs.Written.{written-in}
+use Rattle.structs.proofs.Encoded.{not-encoded, encoded}
 use Rattle.params.specs.declared.Features.{Features}
 use Rattle.params.specs.declared.Timestamp.{Timestamp}
 use Rattle.inode.specs.Dinode.{isBig, inside}
@@ -165,12 +167,13 @@ flags-inside f time e = ap (λ (b : Bool). timeInside b (time .secs) (time .nsec
 
 -- ---- what `root_chunk` answers
 
-pub chunk-refused : {n r next : ℕ} {new old : List ℕ} → r ≡ n → (r ≡ 0 → ⊥) → ChunkMade n next new old r 0 old
+pub chunk-refused : {n r next : ℕ} {sums new old : List ℕ} → r ≡ n → (r ≡ 0 → ⊥) → ChunkMade n next sums new old r 0 false old
 chunk-refused {r = r} e h =
-    record { written = refused (sym e) (ne-eqb r 0 h); state-is = rw (← e, ne-eqb r 0 h) refl }
+    record { encoded = not-encoded (sym e) (ne-eqb r 0 h); state-is = rw (← e, ne-eqb r 0 h) refl }
 
-pub chunk-made : {n next state : ℕ} {new old left : List ℕ} → n ≡ 0 → left ≡ new → state ≡ next → ChunkMade n next new old 0 state left
-chunk-made e d s = record { written = done e d; state-is = s ∙ rw e refl }
+pub chunk-made : {n next state : ℕ} {right : Bool} {sums new old left : List ℕ} → n ≡ 0 → left ≡ new → right ≡ alreadyRight sums old new → state ≡ next
+    → ChunkMade n next sums new old 0 state right left
+chunk-made e d w s = record { encoded = encoded e d w; state-is = s ∙ rw e refl }
 
 module _ (g : Geometry) (z : Bounds g) (agbno : ℕ) (uuid : List ℕ) (time : Timestamp) (seed : ℕ) where
   pub chunk-bytes : (flags2 : ℕ) (left : List ℕ) → flags2 ≡ flagsOf (g .features) → left ≡ contents (agbno * g .inopblock) (g .inodesize) flags2 time uuid seed → left ≡ chunkBytes g agbno uuid time seed
@@ -185,8 +188,8 @@ module _ (g : Geometry) (z : Bounds g) (agbno : ℕ) (uuid : List ℕ) (time : T
 -- ---- for callers
 
 -- an accepted call leaves the chunk, and answers the state after the draws
-pub chunk-in : {n next number state : ℕ} {new old left : List ℕ} → ChunkMade n next new old number state left → n ≡ 0 → (left ≡ new) × (state ≡ next)
-chunk-in m e = (written-in (m .written) e, m .state-is ∙ rw e refl)
+pub chunk-in : {n next number state : ℕ} {right : Bool} {sums new old left : List ℕ} → ChunkMade n next sums new old number state right left → n ≡ 0 → (left ≡ new) × (state ≡ next)
+chunk-in m e = (written-in (m .encoded .written) e, m .state-is ∙ rw e refl)
 
 -- inode i of a chunk is the inode of its block and slot
 pub slot-number : (log inolog agbno i : ℕ) → inoOf log inolog 0 agbno 0 + i ≡ inoOf log inolog 0 (agbno + i / 2 ^ inolog) (i % 2 ^ inolog)

@@ -2,3 +2,4 @@ pub mod Pieces
 pub mod Values
 pub mod Filled
 pub mod Chunks
+pub mod Asked

@@ -1,16 +1,17 @@
 -- The bytes of the root chunk, and the numbers of its refusals.
 -- Assumes nothing.
 use mathlib.Core.Path.{_≡_}
-use mathlib.Core.Bool.{not}
+use mathlib.Core.Bool.{Bool, not}
 use mathlib.Core.List.{List, [], _∷_, _++_}
 use Prim.Native.Nat.{ℕ, _+_, _*_}
 use lib.Dec.{leb, eqb}
 use Rattle.refusals.specs.Numbers.{noAnswer, timeOutOfRange, wrongLength, noPlace}
 use Rattle.refusals.specs.Table.{_if_}
 use Rattle.refusals.specs.Table as table
-use Rattle.structs.specs.Written.{Written}
+use Rattle.crc.specs.Right.{spaced}
+use Rattle.structs.specs.Encoded.{Encoded}
 use Rattle.params.specs.declared.Timestamp.{Timestamp}
-use Rattle.inode.specs.Dinode.{dinodeBytes}
+use Rattle.inode.specs.Dinode.{inodeCrcAt, dinodeBytes}
 use Rattle.inode.specs.Directory.{emptyDir}
 use Rattle.inode_time.specs.Time.{timeInside, accepted}
 use Rattle.geometry.specs.declared.Geometry.{Geometry}
@@ -81,7 +82,12 @@ chunkNumber g agbno time len =
     ∷ noPlace if not (leb (agbno + chunkOf (g .inodesize) (g .blocksize)) (groupBlocks (g .dblocks) (g .agsize) (g .agcount) 0))
     ∷ []) 0
 
--- What `root_chunk` answers and leaves: the number and the bytes, and the state after the draws, 0 beside a refusal.
-pub record ChunkMade (n next : ℕ) (new old : List ℕ) (number state : ℕ) (left : List ℕ) : Type 0 where
-  pub written : Written n new old number left
+-- where the checksums of the chunk's 64 inodes stand
+unfoldable pub chunkPlaces : ℕ → List ℕ
+chunkPlaces size = spaced inodeCrcAt size 64
+
+-- What `root_chunk` answers and leaves: the number and the bytes, whether its checksums, at the places `sums`, stood there already, and the
+-- state after the draws, 0 beside a refusal.
+pub record ChunkMade (n next : ℕ) (sums new old : List ℕ) (number state : ℕ) (right : Bool) (left : List ℕ) : Type 0 where
+  pub encoded : Encoded n sums new old number right left
   pub state-is : state ≡ accepted (eqb n 0) next

@@ -2,7 +2,7 @@
 // format.rs.
 ghost use mathlib.Core.Path.{_≡_};
 ghost use lib.ListN.{length};
-ghost use Rattle.chunk.specs.Chunk.{summaryDraw, chunkNumber, chunkBytes, ChunkMade};
+ghost use Rattle.chunk.specs.Chunk.{summaryDraw, chunkNumber, chunkBytes, chunkPlaces, ChunkMade};
 
 pub mod slots; // slots.rt: one slot of the chunk, and all of them free
 pub mod inodes; // inodes.rt: the three inodes in use
@@ -20,6 +20,7 @@ use params::Timestamp;
 pub struct Chunked {
     pub number: u32,
     pub state: u64, // the generator's, after the draws
+    pub right: bool, // every checksum stood there already; not so beside a refusal
 }
 
 // 31, 26, 27, 29, or 0.
@@ -47,7 +48,7 @@ fn refusal(g: Geometry, agbno: u64, time: Timestamp, len: usize) -> u32
 }
 
 // The chunk of inodes that starts at block `agbno` of group 0: all of its bytes. `seed` is the generator's state; the answer has the
-// state after the draws for chunk, bitmap inode and summary inode.
+// state after the draws for chunk, bitmap inode and summary inode, and says whether the checksums of all 64 inodes stood there already.
 pub fn root_chunk(
     g: Geometry,
     agbno: u64,
@@ -56,18 +57,23 @@ pub fn root_chunk(
     seed: u64,
     buf: &mut [u8],
 ) -> Chunked
-    ensures { λ r. ⌜ ChunkMade (chunkNumber g agbno time (length (now (buf .entry)))) (summaryDraw seed .state) (chunkBytes g agbno (now (uuid .entry)) time seed) (now (buf .entry)) (r .number) (r .state) (now (buf .exit)) ⌝ }
+    ensures { λ r. ⌜ ChunkMade (chunkNumber g agbno time (length (now (buf .entry)))) (summaryDraw seed .state) (chunkPlaces (g .inodesize)) (chunkBytes g agbno (now (uuid .entry)) time seed) (now (buf .entry)) (r .number) (r .state) (r .right) (now (buf .exit)) ⌝ }
 {
     let n = refusal(g, agbno, time, buf.len());
     if n != 0 {
         return Chunked {
             number: n,
             state: 0,
+            right: false,
         };
     }
     let f = g.features;
     let first = agbno * (g.inopblock as u64);
     let size = g.inodesize as usize;
-    let state = fill_chunk(first, size, flags_of(f), time, uuid, seed, buf);
-    Chunked { number: 0, state }
+    let made = fill_chunk(first, size, flags_of(f), time, uuid, seed, buf);
+    Chunked {
+        number: 0,
+        state: made.state,
+        right: made.right,
+    }
 }

@@ -8,7 +8,7 @@ use native.Mathlib.Omega.{arith}
 use lib.Dec.{T, eqb, leb}
 use lib.ListN.{length}
 use borrow.Author.Tests.{le-leb, lt-leb, eq-eqb, leb-true}
-use Rattle.endian.specs.Answer.{room, answer, chosen, valued, Put, Got}
+use Rattle.endian.specs.Answer.{room, Put}
 use Rattle.endian.specs.Bytes.{patch}
 use Rattle.endian_little.specs.Bytes.{leBytes, leAt}
 use Rattle.endian.specs.Fields.{Field, Span, write, part, nth, spans, clear, tidy}
@@ -76,21 +76,6 @@ stamped-verifies off xs h =
     (sym (cksum-over off (leBytes 4 v) xs b)))
     ∙ eq-eqb v v refl
 
--- ---- `stamp`
-chosen-over : (b : Bool) (new other old left : List ℕ) → (b ≡ true → other ≡ new) → left ≡ chosen b other old → left ≡ chosen b new old
-chosen-over true new other old left e l = l ∙ e refl
-chosen-over false new other old left e l = l
-
-pub stamp-puts : (off w n r : ℕ) (old left : List ℕ) → Got (off + 4) (cksumOf off old) old n w → Put (off + 4) (patch off (leBytes 4 w) old) old r left
-    → Put (off + 4) (stamped off old) old r left
-unfolding stamped
-stamp-puts off w n r old left g p =
-    record {
-      number = p .number;
-      bytes = chosen-over (room (off + 4) old) (patch off (leBytes 4 (cksumOf off old)) old) (patch off (leBytes 4 w) old) old left
-          (λ t. ap (λ (k : ℕ). patch off (leBytes 4 k) old) (g .read ∙ rw t refl)) (p .bytes);
-    }
-
 -- ---- encoders
 -- A field of a structure that was encoded and stamped is read back. The two tests on the spans `ss` are computed.
 pub read-stamped : (ss : List Span) (m off : ℕ) → T (tidy m ss) → T (clear off 4 ss) → (fs : List Field) → spans fs ≡ ss → (xs : List ℕ) → m ≤ length xs
@@ -100,8 +85,14 @@ read-stamped ss m off t u fs e xs l k h =
     patch-clear fs off 4 _ (write fs xs) (subst (λ (s : List Span). T (clear off 4 s)) (sym e) u) (length-le 4 _) k h
     ∙ read-field ss m t fs e xs l k h
 
--- An encoder of a structure with its checksum at `off`: `ys` are the fields, written over `xs`; `r` and `zs` are what `stamp` answered and left.
-pub stamp-in : (off : ℕ) {r : ℕ} {ys zs : List ℕ} → Put (off + 4) (stamped off ys) ys r zs → off + 4 ≤ length ys → (r ≡ 0) × (zs ≡ stamped off ys)
-stamp-in off {r} {ys} {zs} p h =
-    let e = le-leb (off + 4) (length ys) h in
-    (p .number ∙ rw e refl, p .bytes ∙ rw e refl)
+-- the checksum that a stamped structure has
+pub sum-stands : (off : ℕ) (xs : List ℕ) → off + 4 ≤ length xs → leAt 4 off (stamped off xs) ≡ cksumOf off xs
+unfolding stamped
+sum-stands off xs h =
+    let v = cksumOf off xs in
+    let b = length-le 4 v in
+    le-written 4 v off (patch off (leBytes 4 v) xs) (cksum-fits off xs) (rw b at (patch-same off (leBytes 4 v) xs (rw b h)))
+
+-- `r` and `zs` are what `stamp` answered and left of `ys`
+pub stamp-in : (off : ℕ) {r : ℕ} {ys zs : List ℕ} → Put (off + 4) (stamped off ys) ys r zs → off + 4 ≤ length ys → zs ≡ stamped off ys
+stamp-in off {r} {ys} {zs} p h = p .bytes ∙ rw (le-leb (off + 4) (length ys) h) refl

@@ -12,16 +12,16 @@ use Rattle.inode_time.specs.Time.{accepted}
 use Rattle.chunk.specs.Chunk.{ChunkMade}
 use Rattle.ffi_chunk.specs.Lent.{ChunkLent}
 
-module _ {n next number state was : ℕ} {new old left : List ℕ} (m : ChunkMade n next new old number state left) where
+module _ {n next number state was : ℕ} {right : Bool} {sums new old left : List ℕ} (m : ChunkMade n next sums new old number state right left) where
   -- accepted: the new state stands there
   pub lent-done : number ≡ 0 → ChunkLent n next new old was 0 state left
   lent-done z =
-      let e : n ≡ 0 = sym (m .written .number) ∙ z in
+      let e : n ≡ 0 = sym (m .encoded .written .number) ∙ z in
       record {
-        written = record { number = sym e; bytes = m .written .bytes };
+        written = record { number = sym e; bytes = m .encoded .written .bytes };
         state-is = m .state-is ∙ rw (eq-eqb n 0 e) refl;
       }
 
   -- refused: the old one does
   pub lent-not : (number ≡ 0 → ⊥) → ChunkLent n next new old was number was left
-  lent-not z = record { written = m .written; state-is = rw (ne-eqb n 0 (λ e. z (m .written .number ∙ e))) refl }
+  lent-not z = record { written = m .encoded .written; state-is = rw (ne-eqb n 0 (λ e. z (m .encoded .written .number ∙ e))) refl }

@@ -29,11 +29,13 @@ pub extern "C" fn zq_cksum(buf: &[u8], off: usize) -> u32
     r.value
 }
 
+// The number of `stamp`.
 #[no_mangle]
 pub extern "C" fn zq_stamp(buf: &mut [u8], off: usize) -> u32
     ensures { λ r. ⌜ Put (off + 4) (stamped off (now (buf .entry))) (now (buf .entry)) r (now (buf .exit)) ⌝ }
 {
-    crc::stamp(buf, off)
+    let made = crc::stamp(buf, off);
+    made.number
 }
 
 #[no_mangle]

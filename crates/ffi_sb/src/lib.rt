@@ -95,5 +95,6 @@ pub extern "C" fn zq_sb(
         fdblocks,
         inprogress,
     };
-    sb::encode(g, s, sector)
+    let made = sb::encode(g, s, sector);
+    made.number
 }

@@ -97,7 +97,8 @@ pub extern "C" fn zq_agf(
         longest,
         btreeblks,
     };
-    a.encode(uuid, sector)
+    let made = a.encode(uuid, sector);
+    made.number
 }
 
 #[no_mangle]
@@ -131,7 +132,8 @@ pub extern "C" fn zq_agi(
         iblocks,
         fblocks,
     };
-    a.encode(uuid, sector)
+    let made = a.encode(uuid, sector);
+    made.number
 }
 
 #[no_mangle]
@@ -146,7 +148,8 @@ pub extern "C" fn zq_agfl(
     ensures { λ r. ⌜ Written (agflNumber count (length (now (sector .entry)))) (agflBytes seqno (now (uuid .entry)) first (take count (now (list .entry))) (now (sector .entry))) (now (sector .entry)) r (now (sector .exit)) ⌝ }
 {
     let blocks = *list;
-    ag::encode_agfl(seqno, uuid, first, blocks, count, sector)
+    let made = ag::encode_agfl(seqno, uuid, first, blocks, count, sector);
+    made.number
 }
 
 #[no_mangle]
@@ -161,7 +164,8 @@ pub extern "C" fn zq_leaf_block(
 ) -> u32
     ensures { λ r. ⌜ Written (leafNumber (length (now (recs .entry))) (length (now (block .entry)))) (leafBytes magic daddr agno (now (uuid .entry)) (now (recs .entry)) numrecs (length (now (block .entry)))) (now (block .entry)) r (now (block .exit)) ⌝ }
 {
-    btree::leaf_block(magic, daddr, agno, uuid, recs, numrecs, block)
+    let made = btree::leaf_block(magic, daddr, agno, uuid, recs, numrecs, block);
+    made.number
 }
 
 #[no_mangle]
@@ -220,14 +224,16 @@ pub extern "C" fn zq_dinode(
         ctime,
         crtime,
     };
-    d.encode(data, uuid, slot)
+    let made = d.encode(data, uuid, slot);
+    made.number
 }
 
 #[no_mangle]
 pub extern "C" fn zq_encode_free(ino: u64, generation: u32, uuid: &[u8; 16], slot: &mut [u8]) -> u32
     ensures { λ r. ⌜ Written (freeNumber (length (now (slot .entry)))) (freeBytes ino generation (now (uuid .entry)) (now (slot .entry))) (now (slot .entry)) r (now (slot .exit)) ⌝ }
 {
-    inode::encode_free(ino, generation, uuid, slot)
+    let made = inode::encode_free(ino, generation, uuid, slot);
+    made.number
 }
 
 // The number of `encode_time`.

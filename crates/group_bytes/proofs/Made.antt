@@ -10,7 +10,9 @@ use lib.Dec.{eqb, ltb}
 use lib.ListN.{length}
 use Rattle.arith.specs.Choice.{when}
 use Rattle.seqs.specs.Lists.{choose}
-use Rattle.structs.specs.Written.{Written, require}
+use Rattle.crc.specs.Right.{alreadyRight}
+use Rattle.structs.specs.Written.{require}
+use Rattle.structs.specs.Encoded.{Encoded}
 use Rattle.structs.proofs.Written.{passed, written-in}
 use Rattle.geometry.specs.declared.Geometry.{Geometry}
 use Rattle.plan.specs.declared.Planned.{Planned}
@@ -18,6 +20,7 @@ use Rattle.plan.specs.Plan.{planned}
 use Rattle.plan_same.proofs.Planners.{planned-is-plan}
 use Rattle.plan_totals.specs.Totals.{plansNumber}
 use Rattle.head_bytes.specs.Head.{headBytes, headLength, headNumber}
+use Rattle.head_bytes.specs.Places.{headPlaces}
 use Rattle.head_bytes.proofs.Ready.{head-accepted}
 use Rattle.sb.specs.declared.SbState.{SbState}
 use Rattle.sb_states.specs.declared.Stated.{Stated}
@@ -55,12 +58,15 @@ module _ (g : Geometry) (k n : ℕ) where
 
 module _ (g : Geometry) (uuid : List ℕ) (k : ℕ) (xs : List ℕ) (z : headRefusal g k (length xs) ≡ 0) where
   -- with any state
-  pub filled : {r : ℕ} (q : Planned) (s : SbState) (ys : List ℕ) → length (g .label) ≡ 12 → q ≡ planned g k
-      → Written (headNumber g (q .plan) (length xs)) (headBytes g (q .plan) uuid s) xs r ys → ys ≡ headBytes g (planned g k .plan) uuid s
+  pub filled : {r : ℕ} {right : Bool} (q : Planned) (s : SbState) (ys : List ℕ) → length (g .label) ≡ 12 → q ≡ planned g k
+      → Encoded (headNumber g (q .plan) (length xs)) (headPlaces g) (headBytes g (q .plan) uuid s) xs r right ys
+      → (right ≡ alreadyRight (headPlaces g) xs (headBytes g (planned g k .plan) uuid s)) × (ys ≡ headBytes g (planned g k .plan) uuid s)
   filled q s ys l a w =
       let h = head-zero g k (length xs) z in
       let e = head-accepted g (planned g k .plan) (length xs) (planned-is-plan g k (group-planned g l (h .0) k (h .2))) (h .1) in
-      written-in w (ap (λ (x : Planned). headNumber g (x .plan) (length xs)) a ∙ e) ∙ ap (λ (x : Planned). headBytes g (x .plan) uuid s) a
+      let n = ap (λ (x : Planned). headNumber g (x .plan) (length xs)) a ∙ e in
+      let m = ap (λ (x : Planned). headBytes g (x .plan) uuid s) a in
+      (w .right-is ∙ rw n (ap (alreadyRight (headPlaces g) xs) m), written-in (w .written) n ∙ m)
 
   state-there : stated g uuid k .state ≡ stateOf g uuid k
   unfolding stated stateNumber when

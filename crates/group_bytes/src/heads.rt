@@ -1,8 +1,10 @@
 // A head with a state of its superblock.
 ghost use mathlib.Core.Path.{_≡_};
 ghost use lib.ListN.{length};
+ghost use Rattle.crc.specs.Right.{alreadyRight};
 ghost use Rattle.plan.specs.Plan.{planned as planned·of};
 ghost use Rattle.head_bytes.specs.Head.{headBytes};
+ghost use Rattle.head_bytes.specs.Places.{headPlaces};
 ghost use Rattle.group_bytes.specs.Answers.{headRefusal, leftState};
 use crate::head_length;
 use geometry::Geometry;
@@ -43,12 +45,19 @@ pub(crate) fn left_state(g: Geometry, uuid: [u8; 16], k: u64) -> Stated
     state_of(g, uuid, k)
 }
 
-// Group k's head with this state.
-pub(crate) fn fill_head(g: Geometry, uuid: [u8; 16], k: u64, state: SbState, head: &mut [u8])
+// Group k's head with this state, and whether its checksums stood there already.
+pub(crate) fn fill_head(
+    g: Geometry,
+    uuid: [u8; 16],
+    k: u64,
+    state: SbState,
+    head: &mut [u8],
+) -> bool
     requires { ⌜ headRefusal g k (length (now head)) ≡ 0 ⌝ }
-    ensures { λ _. ⌜ now (head .exit) ≡ headBytes g (planned·of g k .plan) uuid state ⌝ }
+    ensures { λ r. ⌜ (r ≡ alreadyRight (headPlaces g) (now (head .entry)) (headBytes g (planned·of g k .plan) uuid state)) × (now (head .exit) ≡ headBytes g (planned·of g k .plan) uuid state) ⌝ }
 {
     let planned = plan_ag(g, k);
     let plan = planned.plan;
-    ag_head(g, plan, &uuid, state, head);
+    let made = ag_head(g, plan, &uuid, state, head);
+    made.right
 }

@@ -3,7 +3,9 @@ ghost use mathlib.Core.Path.{_≡_};
 ghost use Prim.Native.Nat.{_*_};
 ghost use lib.ListN.{length};
 ghost use Rattle.structs.specs.Written.{Written};
+ghost use Rattle.structs.specs.Encoded.{Encoded};
 ghost use Rattle.geometry.specs.Log.{preallocOf};
+ghost use Rattle.head_bytes.specs.Places.{headPlaces};
 ghost use Rattle.list_spec.specs.Listing.{headWritten, headLeft, logBlock};
 ghost use Rattle.group_bytes.specs.Answers.{headRefusal, logRefusal};
 
@@ -15,6 +17,7 @@ use crate::heads::head_number;
 use crate::heads::left_state;
 use crate::logs::fill_log;
 use crate::logs::log_number;
+use crc::Stamped;
 use geometry::Geometry;
 use geometry::log_size::prealloc_of;
 use params::Features;
@@ -31,33 +34,40 @@ pub fn head_length(f: Features, sector: u32, bs: u32) -> usize
     blocks * (bs as usize)
 }
 
-// The head of group k as it is written first: group 0's superblock is unfinished. 31, 25 where a plan is refused, 27 for another length
-// than the head's, 29.
-pub fn head_written(g: Geometry, uuid: [u8; 16], k: u64, head: &mut [u8]) -> u32
-    ensures { λ r. ⌜ Written (headRefusal g k (length (now (head .entry)))) (headWritten g uuid k) (now (head .entry)) r (now (head .exit)) ⌝ }
+// The head of group k as it is written first: group 0's superblock is unfinished; and whether its checksums stood there already. 31, 25
+// where a plan is refused, 27 for another length than the head's, 29.
+pub fn head_written(g: Geometry, uuid: [u8; 16], k: u64, head: &mut [u8]) -> Stamped
+    ensures { λ r. ⌜ Encoded (headRefusal g k (length (now (head .entry)))) (headPlaces g) (headWritten g uuid k) (now (head .entry)) (r .number) (r .right) (now (head .exit)) ⌝ }
 {
     let n = head_number(g, k, head.len());
     if n != 0 {
-        return n;
+        return Stamped {
+            number: n,
+            right: false,
+        };
     }
     let stated = state_of(g, uuid, k);
     let state = stated.state;
-    fill_head(g, uuid, k, state, head);
-    0
+    let right = fill_head(g, uuid, k, state, head);
+    Stamped { number: 0, right }
 }
 
-// The head of group k as a run leaves it: group 0's has the finished superblock. 31, 25, 27, 29.
-pub fn head_left(g: Geometry, uuid: [u8; 16], k: u64, head: &mut [u8]) -> u32
-    ensures { λ r. ⌜ Written (headRefusal g k (length (now (head .entry)))) (headLeft g uuid k) (now (head .entry)) r (now (head .exit)) ⌝ }
+// The head of group k as a run leaves it: group 0's has the finished superblock; and whether its checksums stood there already. 31, 25,
+// 27, 29.
+pub fn head_left(g: Geometry, uuid: [u8; 16], k: u64, head: &mut [u8]) -> Stamped
+    ensures { λ r. ⌜ Encoded (headRefusal g k (length (now (head .entry)))) (headPlaces g) (headLeft g uuid k) (now (head .entry)) (r .number) (r .right) (now (head .exit)) ⌝ }
 {
     let n = head_number(g, k, head.len());
     if n != 0 {
-        return n;
+        return Stamped {
+            number: n,
+            right: false,
+        };
     }
     let stated = left_state(g, uuid, k);
     let state = stated.state;
-    fill_head(g, uuid, k, state, head);
-    0
+    let right = fill_head(g, uuid, k, state, head);
+    Stamped { number: 0, right }
 }
 
 // The log's first block: 31, 25 where a plan is refused, 27 for another length than a block's.

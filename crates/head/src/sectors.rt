@@ -25,7 +25,7 @@ use plan::Agfl;
 use sb::SbState;
 
 // 1 where the feature is on.
-fn flag(on: bool) -> u32
+pub(crate) fn flag(on: bool) -> u32
     ensures { λ r. ⌜ (r ≡ bit on) × (r ≤ 1) ⌝ }
 {
     if on { 1 } else { 0 }

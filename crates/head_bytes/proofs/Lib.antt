@@ -7,3 +7,4 @@ pub mod Bytes
 pub mod Below
 pub mod Heads
 pub mod BySize
+pub mod Asked

@@ -1,4 +1,5 @@
 pub mod Sorting
 pub mod Head
+pub mod Places
 pub mod Parts
 pub mod Sorted

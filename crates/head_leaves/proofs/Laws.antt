@@ -1,7 +1,7 @@
 -- A leaf whose records were written into a lent buffer before.
 -- Assumes nothing.
 use mathlib.Core.Path.{_≡_, refl, ap, sym, _∙_}
-use mathlib.Core.List.{List, _++_}
+use mathlib.Core.List.{List, [], _∷_, _++_}
 use Prim.Native.Nat.{ℕ, _+_, _*_, _-_, _≤_}
 use native.Mathlib.Omega.{arith}
 use lib.ListN.{length, take, drop, replicate, length-replicate, replicate-append-replicate}
@@ -9,13 +9,12 @@ use lib.Seq.{take-at, length-take-le}
 use mathlib.Core.Bool.{Bool}
 use borrow.Author.Tests.{eq-eqb, le-leb}
 use borrow.Rule.Slice.PartMut.{postOf}
-use Rattle.structs.specs.Written.{Written}
-use Rattle.structs.proofs.Written.{written-in}
+use Rattle.structs.specs.Encoded.{Encoded}
 use Rattle.btree.specs.Records.{listed, inobtBytes, recsNumber}
 use Rattle.btree.specs.declared.records.InobtRec.{InobtRec}
 use Rattle.btree.proofs.Laws.{length-listed, inobt-size}
 use Rattle.head_leaves.specs.Leaves.{few}
-use Rattle.btree.specs.Leaf.{leafNumber, leafBytes}
+use Rattle.btree.specs.Leaf.{leafCrcAt, leafNumber, leafBytes}
 
 -- the list's own number is 0
 pub list-fits : (size count len : ℕ) → len ≡ size * count → count ≤ 64 → recsNumber size count len ≡ 0
@@ -35,9 +34,9 @@ pub listed-length : {A : Type 0} (f : A → List ℕ) (size : ℕ) → ((a : A) 
 listed-length f size s n m xs e h = length-listed f size s (take n xs) ∙ ap (λ (k : ℕ). size * k) (length-take-le n xs (rw e h))
 
 -- a leaf of the records that were lent
-pub leaf-of : (magic daddr agno : ℕ) (uuid : List ℕ) (count len used : ℕ) {r : ℕ} {got recs old left : List ℕ} → got ≡ recs → length recs ≡ used
-    → Written (leafNumber (length got) len) (leafBytes magic daddr agno uuid got count len) old r left
-    → Written (leafNumber used len) (leafBytes magic daddr agno uuid recs count len) old r left
+pub leaf-of : (magic daddr agno : ℕ) (uuid : List ℕ) (count len used : ℕ) {r : ℕ} {right : Bool} {got recs old left : List ℕ} → got ≡ recs → length recs ≡ used
+    → Encoded (leafNumber (length got) len) (leafCrcAt ∷ []) (leafBytes magic daddr agno uuid got count len) old r right left
+    → Encoded (leafNumber used len) (leafCrcAt ∷ []) (leafBytes magic daddr agno uuid recs count len) old r right left
 leaf-of magic daddr agno uuid count len used e l w = rw (← l, ← e) w
 
 -- the first n of 64 alike

@@ -1,12 +1,14 @@
 // The root blocks of a group's trees, each one leaf with its records: free space, inodes, reverse mappings.
-// 27 unless the block is one; 34 for a list of more than 64 records, or for records that don't fit.
+// Each says whether its checksum stood there already. 27 unless the block is one; 34 for a list of more than 64 records, or for records
+// that don't fit.
 ghost use mathlib.Core.Path.{_≡_};
+ghost use mathlib.Core.List.{[], _∷_};
 ghost use Prim.Native.Nat.{_*_, _≤_};
 ghost use lib.ListN.{length, take};
 ghost use Rattle.arith.specs.Choice.{bit};
-ghost use Rattle.structs.specs.Written.{Written};
+ghost use Rattle.structs.specs.Encoded.{Encoded};
 ghost use Rattle.btree.specs.Records.{listed, allocBytes, inobtBytes, rmapBytes};
-ghost use Rattle.btree.specs.Leaf.{leafNumber, leafBytes};
+ghost use Rattle.btree.specs.Leaf.{leafCrcAt, leafNumber, leafBytes};
 ghost use Rattle.head_leaves.specs.Leaves.{listNumber, few, chunkRec};
 use arith::choice::bit_of;
 use btree::InobtRec;
@@ -14,6 +16,7 @@ use btree::leaf_block;
 use btree::records::ALLOC_REC;
 use btree::records::INOBT_REC;
 use btree::records::RMAP_REC;
+use crc::Stamped;
 use plan_free::FreeList;
 use plan_rmap::RmapList;
 use refusals::TOO_MANY_RECORDS;
@@ -34,9 +37,9 @@ fn put_free(
     l: FreeList,
     work: &mut [u8],
     block: &mut [u8],
-) -> u32
+) -> Stamped
     requires { ⌜ (l .len ≤ 64) × (length (now work) ≡ 1536) ⌝ }
-    ensures { λ r. ⌜ Written (leafNumber (8 * l .len) (length (now (block .entry)))) (leafBytes magic daddr agno (now (uuid .entry)) (listed allocBytes (take (l .len) (l .recs))) (l .len) (length (now (block .entry)))) (now (block .entry)) r (now (block .exit)) ⌝ }
+    ensures { λ r. ⌜ Encoded (leafNumber (8 * l .len) (length (now (block .entry)))) (leafCrcAt ∷ []) (leafBytes magic daddr agno (now (uuid .entry)) (listed allocBytes (take (l .len) (l .recs))) (l .len) (length (now (block .entry)))) (now (block .entry)) (r .number) (r .right) (now (block .exit)) ⌝ }
 {
     let n = l.len;
     let used = ALLOC_REC * n;
@@ -53,14 +56,20 @@ pub fn free_leaf(
     uuid: &[u8; 16],
     l: FreeList,
     block: &mut [u8],
-) -> u32
-    ensures { λ r. ⌜ Written (listNumber 8 (l .len) (length (now (block .entry)))) (leafBytes magic daddr agno (now (uuid .entry)) (listed allocBytes (take (l .len) (l .recs))) (l .len) (length (now (block .entry)))) (now (block .entry)) r (now (block .exit)) ⌝ }
+) -> Stamped
+    ensures { λ r. ⌜ Encoded (listNumber 8 (l .len) (length (now (block .entry)))) (leafCrcAt ∷ []) (leafBytes magic daddr agno (now (uuid .entry)) (listed allocBytes (take (l .len) (l .recs))) (l .len) (length (now (block .entry)))) (now (block .entry)) (r .number) (r .right) (now (block .exit)) ⌝ }
 {
     if !is_block(block.len()) {
-        return refusals::WRONG_LENGTH;
+        return Stamped {
+            number: refusals::WRONG_LENGTH,
+            right: false,
+        };
     }
     if 64 < l.len {
-        return TOO_MANY_RECORDS;
+        return Stamped {
+            number: TOO_MANY_RECORDS,
+            right: false,
+        };
     }
     let mut work = record_buffer();
     put_free(magic, daddr, agno, uuid, l, &mut work, block)
@@ -74,9 +83,9 @@ fn put_maps(
     l: RmapList,
     work: &mut [u8],
     block: &mut [u8],
-) -> u32
+) -> Stamped
     requires { ⌜ (l .len ≤ 64) × (length (now work) ≡ 1536) ⌝ }
-    ensures { λ r. ⌜ Written (leafNumber (24 * l .len) (length (now (block .entry)))) (leafBytes magic daddr agno (now (uuid .entry)) (listed rmapBytes (take (l .len) (l .recs))) (l .len) (length (now (block .entry)))) (now (block .entry)) r (now (block .exit)) ⌝ }
+    ensures { λ r. ⌜ Encoded (leafNumber (24 * l .len) (length (now (block .entry)))) (leafCrcAt ∷ []) (leafBytes magic daddr agno (now (uuid .entry)) (listed rmapBytes (take (l .len) (l .recs))) (l .len) (length (now (block .entry)))) (now (block .entry)) (r .number) (r .right) (now (block .exit)) ⌝ }
 {
     let n = l.len;
     let used = RMAP_REC * n;
@@ -93,14 +102,20 @@ pub fn rmap_leaf(
     uuid: &[u8; 16],
     l: RmapList,
     block: &mut [u8],
-) -> u32
-    ensures { λ r. ⌜ Written (listNumber 24 (l .len) (length (now (block .entry)))) (leafBytes magic daddr agno (now (uuid .entry)) (listed rmapBytes (take (l .len) (l .recs))) (l .len) (length (now (block .entry)))) (now (block .entry)) r (now (block .exit)) ⌝ }
+) -> Stamped
+    ensures { λ r. ⌜ Encoded (listNumber 24 (l .len) (length (now (block .entry)))) (leafCrcAt ∷ []) (leafBytes magic daddr agno (now (uuid .entry)) (listed rmapBytes (take (l .len) (l .recs))) (l .len) (length (now (block .entry)))) (now (block .entry)) (r .number) (r .right) (now (block .exit)) ⌝ }
 {
     if !is_block(block.len()) {
-        return refusals::WRONG_LENGTH;
+        return Stamped {
+            number: refusals::WRONG_LENGTH,
+            right: false,
+        };
     }
     if 64 < l.len {
-        return TOO_MANY_RECORDS;
+        return Stamped {
+            number: TOO_MANY_RECORDS,
+            right: false,
+        };
     }
     let mut work = record_buffer();
     put_maps(magic, daddr, agno, uuid, l, &mut work, block)
@@ -129,9 +144,9 @@ fn put_chunk(
     sparse: bool,
     work: &mut [u8],
     block: &mut [u8],
-) -> u32
+) -> Stamped
     requires { ⌜ (n ≤ 64) × (length (now work) ≡ 1536) ⌝ }
-    ensures { λ r. ⌜ Written (leafNumber (16 * n) (length (now (block .entry)))) (leafBytes magic daddr agno (now (uuid .entry)) (listed (inobtBytes sparse) (few n (chunkRec startino))) n (length (now (block .entry)))) (now (block .entry)) r (now (block .exit)) ⌝ }
+    ensures { λ r. ⌜ Encoded (leafNumber (16 * n) (length (now (block .entry)))) (leafCrcAt ∷ []) (leafBytes magic daddr agno (now (uuid .entry)) (listed (inobtBytes sparse) (few n (chunkRec startino))) n (length (now (block .entry)))) (now (block .entry)) (r .number) (r .right) (now (block .exit)) ⌝ }
 {
     let used = INOBT_REC * n;
     let rec = chunk_rec(startino);
@@ -150,8 +165,8 @@ pub fn chunk_leaf(
     there: bool,
     sparse: bool,
     block: &mut [u8],
-) -> u32
-    ensures { λ r. ⌜ Written (leafNumber (16 * bit there) (length (now (block .entry)))) (leafBytes magic daddr agno (now (uuid .entry)) (listed (inobtBytes sparse) (few (bit there) (chunkRec startino))) (bit there) (length (now (block .entry)))) (now (block .entry)) r (now (block .exit)) ⌝ }
+) -> Stamped
+    ensures { λ r. ⌜ Encoded (leafNumber (16 * bit there) (length (now (block .entry)))) (leafCrcAt ∷ []) (leafBytes magic daddr agno (now (uuid .entry)) (listed (inobtBytes sparse) (few (bit there) (chunkRec startino))) (bit there) (length (now (block .entry)))) (now (block .entry)) (r .number) (r .right) (now (block .exit)) ⌝ }
 {
     let n = bit_of(there) as usize;
     let mut work = record_buffer();

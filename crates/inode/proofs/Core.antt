@@ -9,13 +9,12 @@ use lib.Dec.{eqb, lit<}
 use borrow.Author.Tests.{lt-ltb, le-ltb}
 use Rattle.endian.specs.Bytes.{beBytes, patch}
 use Rattle.endian.specs.Fields.{write}
-use Rattle.crc.specs.Crc.{stamped}
 use Rattle.structs.specs.Written.{require}
 use Rattle.structs.proofs.Written.{passed}
 use Rattle.params.specs.declared.Timestamp.{Timestamp}
 use Rattle.inode.specs.declared.dinode.Dinode.{Dinode}
 use Rattle.inode_time.specs.Time.{timeInside, accepted, StoredAs}
-use Rattle.inode.specs.Dinode.{isBig, inside, raw, orElse, timesNumber, TimesAs, coreFields, dinodeFields, dinodeBytes}
+use Rattle.inode.specs.Dinode.{isBig, inside, raw, orElse, timesNumber, TimesAs, coreFields, dinodeFields}
 use Rattle.inode.specs.Directory.{emptyDir, EmptyDir}
 
 -- ---- the number of the times
@@ -73,18 +72,18 @@ pub times-pass : (flags2 : ℕ) (a m c r : Timestamp) (x : ℕ) → Fit flags2 a
 unfolding timesNumber
 times-pass flags2 a m c r x f = rw (f .a-fits, f .m-fits, f .c-fits, f .r-fits) refl
 
--- ---- core, UUID, data fork, checksum
-pub dinode-written : (d : Dinode) (forkData uuid : List ℕ) (n at mt ct rt : ℕ) (xs ys zs ws vs : List ℕ)
+-- ---- core, UUID, data fork
+pub dinode-written : (d : Dinode) (forkData uuid : List ℕ) (n at mt ct rt : ℕ) (xs ys zs ws : List ℕ)
     → TimesAs (d .flags2) (d .atime) (d .mtime) (d .ctime) (d .crtime) n at mt ct rt → Fit (d .flags2) (d .atime) (d .mtime) (d .ctime) (d .crtime)
     → ys ≡ write (coreFields (d .mode) (d .format) (d .nlink) at mt ct (d .size) (d .flags) (d .generation) (d .changecount) (d .flags2) rt (d .ino)) xs
-    → zs ≡ patch 160 uuid ys → ws ≡ patch 176 forkData zs → vs ≡ stamped 100 ws → vs ≡ dinodeBytes d forkData uuid xs
-unfolding dinodeBytes dinodeFields
-dinode-written d forkData uuid n at mt ct rt xs ys zs ws vs t f a b c e =
+    → zs ≡ patch 160 uuid ys → ws ≡ patch 176 forkData zs → ws ≡ write (dinodeFields d forkData uuid) xs
+unfolding dinodeFields
+dinode-written d forkData uuid n at mt ct rt xs ys zs ws t f a b c =
     let ea : at ≡ raw (d .flags2) (d .atime) = t .atime-is ∙ ap (λ (x : Bool). accepted x (raw (d .flags2) (d .atime))) (f .a-fits) in
     let em : mt ≡ raw (d .flags2) (d .mtime) = t .mtime-is ∙ ap (λ (x : Bool). accepted x (raw (d .flags2) (d .mtime))) (f .m-fits) in
     let ec : ct ≡ raw (d .flags2) (d .ctime) = t .ctime-is ∙ ap (λ (x : Bool). accepted x (raw (d .flags2) (d .ctime))) (f .c-fits) in
     let er : rt ≡ raw (d .flags2) (d .crtime) = t .crtime-is ∙ ap (λ (x : Bool). accepted x (raw (d .flags2) (d .crtime))) (f .r-fits) in
-    e ∙ ap (stamped 100) (c ∙ ap (patch 176 forkData) (b ∙ ap (patch 160 uuid) (rw (ea, em, ec, er) at a)))
+    c ∙ ap (patch 176 forkData) (b ∙ ap (patch 160 uuid) (rw (ea, em, ec, er) at a))
 
 -- ---- an empty directory
 pub dir-short : (parent : ℕ) (bytes : List ℕ) (len : ℕ) → parent ≤ 0xffff_ffff → (bytes ≡ 0 ∷ (0 ∷ (beBytes 4 parent ++ (0 ∷ (0 ∷ (0 ∷ (0 ∷ []))))))) × (len ≡ 6) → EmptyDir parent bytes len

@@ -1,4 +1,4 @@
--- `struct xfs_dinode` of version 3, field by field in the order on disk, and the data fork behind it. The checksum, di_crc, is the four bytes at 100.
+-- `struct xfs_dinode` of version 3, field by field in the order on disk, and the data fork behind it.
 -- Assumes nothing.
 use mathlib.Core.Path.{_≡_}
 use mathlib.Core.List.{List, [], _∷_, _++_}
@@ -17,6 +17,10 @@ use Rattle.inode_time.specs.Time.{timeInside, timeRaw, accepted}
 -- "IN"
 abbrev pub inodeMagic : ℕ
 inodeMagic = 0x494e
+
+-- where the checksum, di_crc, stands
+abbrev pub inodeCrcAt : ℕ
+inodeCrcAt = 100
 
 -- the version, and the format of a fork of extents
 abbrev pub version : ℕ
@@ -96,7 +100,7 @@ dinodeFields d forkData uuid =
 
 -- the fields over the old bytes, and then the checksum
 unfoldable pub dinodeBytes : Dinode → List ℕ → List ℕ → List ℕ → List ℕ
-dinodeBytes d forkData uuid xs = stamped 100 (write (dinodeFields d forkData uuid) xs)
+dinodeBytes d forkData uuid xs = stamped inodeCrcAt (write (dinodeFields d forkData uuid) xs)
 
 -- an inode that was never allocated
 abbrev pub freeNumber : ℕ → ℕ
@@ -113,4 +117,4 @@ freeFields ino generation uuid =
     ∷ []
 
 unfoldable pub freeBytes : ℕ → ℕ → List ℕ → List ℕ → List ℕ
-freeBytes ino generation uuid xs = stamped 100 (write (freeFields ino generation uuid) xs)
+freeBytes ino generation uuid xs = stamped inodeCrcAt (write (freeFields ino generation uuid) xs)

@@ -1,13 +1,15 @@
 // An inode on disk: `struct xfs_dinode` of version 3, and the data fork behind it.
 ghost use mathlib.Core.Path.{_≡_};
 ghost use mathlib.Core.Bool.{_&&_};
+ghost use mathlib.Core.List.{[], _∷_};
 ghost use Prim.Native.Nat.{_+_, _≤_};
 ghost use lib.Dec.{leb, eqb};
 ghost use lib.ListN.{length};
 ghost use Rattle.endian.specs.Fields.{write};
 ghost use Rattle.structs.specs.Sizes.{isInode};
-ghost use Rattle.structs.specs.Written.{Written};
-ghost use Rattle.inode.specs.Dinode.{isBig, orElse, TimesAs, coreFields, dinodeNumber, dinodeBytes, freeNumber, freeBytes};
+ghost use Rattle.structs.specs.Encoded.{Encoded};
+ghost use Rattle.inode.specs.Dinode.{inodeCrcAt, isBig, orElse, TimesAs, coreFields, dinodeNumber, dinodeBytes, freeNumber, freeBytes};
+use crc::Stamped;
 use inode_time::encode_time;
 use params::Timestamp;
 use structs::is_inode;
@@ -238,10 +240,10 @@ fn put_core(
 }
 
 impl Dinode {
-    // The named bytes, the data fork, and the checksum over the slot; every other byte stays. 26 where a time is out of range, 27 unless
-    // the slot is an inode with room for the data.
-    pub fn encode(self, data: &[u8], uuid: &[u8; 16], slot: &mut [u8]) -> u32
-        ensures { λ r. ⌜ Written (dinodeNumber self (length (now («data» .entry))) (length (now (slot .entry)))) (dinodeBytes self (now («data» .entry)) (now (uuid .entry)) (now (slot .entry))) (now (slot .entry)) r (now (slot .exit)) ⌝ }
+    // The named bytes, the data fork, and the checksum over the slot, and whether that stood there already; every other byte stays. 26
+    // where a time is out of range, 27 unless the slot is an inode with room for the data.
+    pub fn encode(self, data: &[u8], uuid: &[u8; 16], slot: &mut [u8]) -> Stamped
+        ensures { λ r. ⌜ Encoded (dinodeNumber self (length (now («data» .entry))) (length (now (slot .entry)))) (inodeCrcAt ∷ []) (dinodeBytes self (now («data» .entry)) (now (uuid .entry)) (now (slot .entry))) (now (slot .entry)) (r .number) (r .right) (now (slot .exit)) ⌝ }
     {
         let atime = self.atime;
         let mtime = self.mtime;
@@ -250,10 +252,16 @@ impl Dinode {
         let t = encode_times(self.flags2, atime, mtime, ctime, crtime);
         let n = t.number;
         if n != 0 {
-            return n;
+            return Stamped {
+                number: n,
+                right: false,
+            };
         }
         if !has_room(slot.len(), data.len()) {
-            return refusals::WRONG_LENGTH;
+            return Stamped {
+                number: refusals::WRONG_LENGTH,
+                right: false,
+            };
         }
         put_core(
             slot,
@@ -270,17 +278,20 @@ impl Dinode {
         );
         endian::put_bytes(slot, off::UUID, uuid);
         endian::put_bytes(slot, CORE_SIZE, data);
-        crc::stamp(slot, off::CRC);
-        0
+        crc::stamp(slot, off::CRC)
     }
 }
 
-// An inode that was never allocated: magic, version, generation, no next unlinked inode, its number and the UUID.
-pub fn encode_free(ino: u64, generation: u32, uuid: &[u8; 16], slot: &mut [u8]) -> u32
-    ensures { λ r. ⌜ Written (freeNumber (length (now (slot .entry)))) (freeBytes ino generation (now (uuid .entry)) (now (slot .entry))) (now (slot .entry)) r (now (slot .exit)) ⌝ }
+// An inode that was never allocated: magic, version, generation, no next unlinked inode, its number and the UUID, and whether the
+// checksum stood there already.
+pub fn encode_free(ino: u64, generation: u32, uuid: &[u8; 16], slot: &mut [u8]) -> Stamped
+    ensures { λ r. ⌜ Encoded (freeNumber (length (now (slot .entry)))) (inodeCrcAt ∷ []) (freeBytes ino generation (now (uuid .entry)) (now (slot .entry))) (now (slot .entry)) (r .number) (r .right) (now (slot .exit)) ⌝ }
 {
     if !is_inode(slot.len()) {
-        return refusals::WRONG_LENGTH;
+        return Stamped {
+            number: refusals::WRONG_LENGTH,
+            right: false,
+        };
     }
     let at: [usize; 10] = [
         off::MAGIC,
@@ -298,6 +309,5 @@ pub fn encode_free(ino: u64, generation: u32, uuid: &[u8; 16], slot: &mut [u8]) 
     let v: [u64; 5] = [MAGIC, VERSION, generation as u64, NO_INODE, ino];
     endian::put_all(slot, &at, &v);
     endian::put_bytes(slot, off::UUID, uuid);
-    crc::stamp(slot, off::CRC);
-    0
+    crc::stamp(slot, off::CRC)
 }

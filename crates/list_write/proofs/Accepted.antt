@@ -1,7 +1,7 @@
 -- What an accepted run gives: every part is accepted, and its place fits 64 bits.
 -- Assumes nothing.
 use mathlib.Core.Path.{_≡_, refl, sym, ap, _∙_}
-use mathlib.Core.Bool.{true}
+use mathlib.Core.Bool.{Bool, true}
 use mathlib.Core.List.{List}
 use Prim.Native.Nat.{ℕ, _+_, _*_, _<_, _≤_, _^_}
 use native.Mathlib.Omega.{arith}
@@ -56,8 +56,8 @@ module _ (g : Geometry) (l : length (g .label) ≡ 12) (p : plansNumber g ≡ 0)
   root-accepted time len z e =
       sym (a-place g (rootChunk g) time len true (chunkBlocks g) (sym (le-leb (rootChunk g + chunkBlocks g) (g .agsize) chunk-there)) refl (first-group g (bounded g l p)) (answered g l p) (stored time z) e refl)
 
-  pub root-made : {number state next : ℕ} (at : ℕ) (uuid : List ℕ) (time : Timestamp) (seed : ℕ) (xs ys : List ℕ) → timeRefusal g time ≡ 0 → length xs ≡ chunkBlocks g * g .blocksize
-      → at ≡ rootChunk g → ChunkMade (chunkNumber g at time (length xs)) next (chunkBytes g at uuid time seed) xs number state ys
+  pub root-made : {number state next : ℕ} {right : Bool} {sums : List ℕ} (at : ℕ) (uuid : List ℕ) (time : Timestamp) (seed : ℕ) (xs ys : List ℕ) → timeRefusal g time ≡ 0 → length xs ≡ chunkBlocks g * g .blocksize
+      → at ≡ rootChunk g → ChunkMade (chunkNumber g at time (length xs)) next sums (chunkBytes g at uuid time seed) xs number state right ys
       → ys ≡ chunkBytes g (rootChunk g) uuid time seed
   root-made at uuid time seed xs ys z e a w =
       chunk-in w (ap (λ (x : ℕ). chunkNumber g x time (length xs)) a ∙ root-accepted time (length xs) z e) .0

@@ -72,7 +72,8 @@ one-form =
       of-a-line =
           λ at r end bytes old left p.
           record { number = p .number-is; bytes = p .bytes-are ∙ same-choice (room (at + length bytes) old) (patch at bytes old) old };
-      of-a-chunk = λ n next r state new old left p. p .written;
+      encoded = λ n r right sums new old left p. p .written;
+      of-a-chunk = λ n next r state right sums new old left p. p .encoded .written;
     }
 
 number-is : (r : Request) → runOf r .number ≡ runNumber r

@@ -73,7 +73,7 @@ pub record Demand1 : Type 0 where
   -- A function that fills a lent buffer promises `Written` of its answer r and of the bytes before and after the call: where r isn't 0, no
   -- byte has changed.
   pub untouched : (n r : ℕ) (new old left : List ℕ) → Written n new old r left → (r ≡ 0 → ⊥) → left ≡ old
-  -- So do those whose promise has a name of its own (`Put`, `PutAll`, `PutLine`, `ChunkMade`): each is `Written`.
+  -- So do those whose promise has a name of its own (`Put`, `PutAll`, `PutLine`, `Encoded`, `ChunkMade`): each is `Written`.
   pub one-form : OneForm
 
 -- ==== DEMAND 2: checksums by the RFC, the source's plans, and what is written for a run (that the Rust answers the same is tested, not

@@ -53,7 +53,8 @@ fn with_head(g: Geometry, uuid: [u8; 16], k: u64, head: &[u8], work: &mut [u8]) 
     requires { ⌜ (length (now work) ≡ length (now head)) × (length (now head) ≤ 163840) ⌝ }
     ensures { λ r. ⌜ r ≡ headAgreed g uuid k (now (head .entry)) ⌝ }
 {
-    if head_left(g, uuid, k, work) != 0 {
+    let made = head_left(g, uuid, k, work);
+    if made.number != 0 {
         return unknown();
     }
     Agreement {

@@ -70,7 +70,8 @@ pub fn group_number(g: Geometry, uuid: [u8; 16], k: u64, head: &[u8]) -> u32
 pub fn group_number_in(g: Geometry, uuid: [u8; 16], agno: u64, head: &[u8], work: &mut [u8]) -> u32
     ensures { λ r. ⌜ (r ≡ groupNumber g uuid agno (now (head .entry))) × (now (work .exit) ≡ madeIn g uuid agno (now (work .entry))) ⌝ }
 {
-    if head_left(g, uuid, agno, work) != 0 {
+    let made = head_left(g, uuid, agno, work);
+    if made.number != 0 {
         return group_number(g, uuid, agno, head);
     }
     compare_head(g, agno, work, head)

@@ -9,10 +9,9 @@ use lib.ListN.{length}
 use Rattle.endian.specs.Bytes.{beBytes}
 use Rattle.endian.specs.Fields.{Field, Span, field, run, write, table, spans, tidy, clear}
 use Rattle.endian.proofs.Order.{any-order}
-use Rattle.crc.specs.Crc.{stamped}
 use Rattle.geometry.specs.declared.Geometry.{Geometry}
 use Rattle.sb.specs.declared.SbState.{SbState}
-use Rattle.sb.specs.Superblock.{crcAt, largeSector, logSector, fieldsWith, sbFields, sbBytes}
+use Rattle.sb.specs.Superblock.{largeSector, logSector, fieldsWith, sbFields}
 use Rattle.sb.specs.Numbers.{places, numbers}
 
 -- where the numbers of a table stand
@@ -44,14 +43,13 @@ module _ (g : Geometry) (s : SbState) (xs : List ℕ) (u : length (s .uuid) ≡ 
   ordered true = sym (any-order (codePlaces true) 264 tt (codeFields true g s) (stand true) xs)
   ordered false = sym (any-order (codePlaces false) 264 tt (codeFields false g s) (stand false) xs)
 
--- the writes one after the other, and the checksum
-pub all-written : (g : Geometry) (s : SbState) (xs ws ys zs us v : List ℕ) (large : Bool) → length (s .uuid) ≡ 16 → length (g .label) ≡ 12
+-- the writes one after the other
+pub all-written : (g : Geometry) (s : SbState) (xs ws ys zs v : List ℕ) (large : Bool) → length (s .uuid) ≡ 16 → length (g .label) ≡ 12
     → v ≡ numbers g s → large ≡ (ltb 512 (g .sectsize) || ltb 512 (g .lsectsize))
     → ws ≡ write (table places v) xs → ys ≡ write (run 32 (s .uuid) ∷ run 108 (g .label) ∷ []) ws → zs ≡ write (logSector large (g .lsectlog) (g .lsectsize)) ys
-    → us ≡ stamped crcAt zs → us ≡ sbBytes g s xs
-unfolding sbBytes sbFields largeSector
-all-written g s xs ws ys zs us v large u l ev el ew ey ez eu =
-    eu ∙ ap (stamped crcAt)
-    (ez ∙ ap (write (logSector large (g .lsectlog) (g .lsectsize)))
+    → zs ≡ write (sbFields g s) xs
+unfolding sbFields largeSector
+all-written g s xs ws ys zs v large u l ev el ew ey ez =
+    ez ∙ ap (write (logSector large (g .lsectlog) (g .lsectsize)))
     (ey ∙ ap (write (run 32 (s .uuid) ∷ run 108 (g .label) ∷ [])) (ew ∙ ap (λ (w : List ℕ). write (table places w) xs) ev))
-    ∙ ordered g s xs u l large ∙ ap (λ (b : Bool). write (fieldsWith b g s) xs) el)
+    ∙ ordered g s xs u l large ∙ ap (λ (b : Bool). write (fieldsWith b g s) xs) el

@@ -12,6 +12,7 @@ use Rattle.crc.specs.Crc.{stamped}
 use Rattle.crc.proofs.Laws.{read-stamped}
 use Rattle.structs.specs.Holds.{Holds}
 use Rattle.structs.proofs.Reading.{one-reading, read-number}
+use Rattle.structs.proofs.Encoded.{encoded-again}
 use Rattle.arith.specs.Choice.{bit}
 use Rattle.geometry.specs.declared.Geometry.{Geometry}
 use Rattle.sb.specs.declared.SbState.{SbState}
@@ -23,7 +24,7 @@ logPlaces true = 193 ∷ 1 ∷ 194 ∷ 2 ∷ []
 logPlaces false = []
 
 -- where the fields stand, in disk order
-diskPlaces : Bool → List Span
+pub diskPlaces : Bool → List Span
 diskPlaces large =
     standing (0 ∷ 4 ∷ 4 ∷ 4 ∷ 8 ∷ 8 ∷ 16 ∷ 8 ∷ 24 ∷ 8 ∷ 32 ∷ 16 ∷ 48 ∷ 8 ∷ 56 ∷ 8 ∷ 64 ∷ 8 ∷ 72 ∷ 8 ∷ 80 ∷ 4 ∷ 84 ∷ 4 ∷ 88 ∷ 4 ∷ 92 ∷ 4 ∷ 96 ∷ 4 ∷ 100 ∷ 2 ∷ 102 ∷ 2 ∷ 104 ∷ 2 ∷ 106 ∷ 2 ∷ 108 ∷ 12 ∷ 120 ∷ 1 ∷ 121 ∷ 1 ∷ 122 ∷ 1 ∷ 123 ∷ 1 ∷ 124 ∷ 1 ∷ 125 ∷ 1 ∷ 126 ∷ 1 ∷ 127 ∷ 1 ∷ 128 ∷ 8 ∷ 136 ∷ 8 ∷ 144 ∷ 8 ∷ 152 ∷ 8 ∷ 160 ∷ 8 ∷ 168 ∷ 8 ∷ 180 ∷ 4 ∷ 184 ∷ 4 ∷ 188 ∷ 4 ∷ 192 ∷ 1 ∷ [])
     ++ (standing (logPlaces large) ++ standing (196 ∷ 4 ∷ 200 ∷ 4 ∷ 204 ∷ 4 ∷ 208 ∷ 4 ∷ 212 ∷ 4 ∷ 216 ∷ 4 ∷ 220 ∷ 4 ∷ 228 ∷ 4 ∷ 232 ∷ 8 ∷ 240 ∷ 8 ∷ []))
@@ -33,7 +34,7 @@ unfolding diskPlaces logPlaces
 tidied true = tt
 tidied false = tt
 
-apart : (large : Bool) → T (clear crcAt 4 (diskPlaces large))
+pub apart : (large : Bool) → T (clear crcAt 4 (diskPlaces large))
 unfolding diskPlaces logPlaces
 apart true = tt
 apart false = tt
@@ -47,6 +48,15 @@ module _ (g : Geometry) (s : SbState) (u : length (s .uuid) ≡ 16) (l : length 
   unfolding fieldsWith diskPlaces logPlaces beBytes
   stand true = rw (u, l) refl
   stand false = rw (u, l) refl
+
+  pub sb-stands : spans (sbFields g s) ≡ diskPlaces (largeSector g)
+  unfolding sbFields
+  sb-stands = stand (largeSector g)
+
+  -- encoded twice it is encoded once
+  pub sb-again : (xs : List ℕ) → sbBytes g s (sbBytes g s xs) ≡ sbBytes g s xs
+  unfolding sbBytes
+  sb-again xs = encoded-again (diskPlaces (largeSector g)) 264 crcAt (tidied (largeSector g)) (apart (largeSector g)) (sbFields g s) sb-stands xs
 
   -- every field stands in the sector after encoding, with the log's sector or without
   module _ (xs : List ℕ) (h : 264 ≤ length xs) where

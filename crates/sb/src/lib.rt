@@ -1,21 +1,23 @@
 // The superblock, `struct xfs_dsb`. The Rust's structs/sb.rs.
 ghost use mathlib.Core.Path.{_≡_};
 ghost use mathlib.Core.Bool.{_||_};
+ghost use mathlib.Core.List.{[], _∷_};
 ghost use Prim.Native.Nat.{_+_, _*_, _^_, _≤_, _<_};
 ghost use lib.Dec.{ltb};
 ghost use Rattle.arith.specs.Choice.{bit};
 ghost use Rattle.geometry_layout.specs.Places.{fsbOf};
 ghost use lib.ListN.{length};
-ghost use Rattle.structs.specs.Written.{Written};
+ghost use Rattle.structs.specs.Encoded.{Encoded};
 ghost use Rattle.geometry_answers.specs.Named.{isAnswer};
 ghost use Rattle.geometry_counts.specs.Known.{known64};
-ghost use Rattle.sb.specs.Superblock.{features2Bits, fixedVersion, largeSector, versionOf, roCompat, inCompat, logstartOf, logSector, sbNumber, sbBytes};
+ghost use Rattle.sb.specs.Superblock.{features2Bits, fixedVersion, largeSector, versionOf, roCompat, inCompat, logstartOf, logSector, crcAt, sbNumber, sbBytes};
 ghost use Rattle.sb.specs.Numbers.{numbers};
 use crate::put::put_log_sector;
 use crate::put::put_names;
 use crate::put::put_numbers;
 use arith::choice::bit_of;
 use arith::numbers::minus_u8;
+use crc::Stamped;
 use geometry::Geometry;
 use geometry_answers::is_answer;
 use geometry_counts::Value64;
@@ -33,7 +35,7 @@ pub mod put; // the parts at their places
 pub const MAGIC: u64 = 0x5846_5342;
 
 // The offset of sb_crc.
-const CRC: usize = 224;
+pub const CRC: usize = 224;
 
 // Version 5 with NLINKBIT, ALIGNBIT, LOGV2BIT, EXTFLGBIT, DIRV2BIT and MOREBITSBIT.
 const VERSION: u64 = 0xb4a5;
@@ -181,9 +183,9 @@ fn all_numbers(g: Geometry, s: SbState, start: u64) -> [u64; 46]
 }
 
 // The superblock in a sector that is long enough.
-fn fill(g: Geometry, s: SbState, sector: &mut [u8])
+fn fill(g: Geometry, s: SbState, sector: &mut [u8]) -> Stamped
     requires { ⌜ (264 ≤ length (now sector)) × ((g .agblklog < 64) × (g .logagno * 2 ^ g .agblklog + g .«log_agbno» < 2 ^ 64)) × (g .lsectsize < 2 ^ 16) ⌝ }
-    ensures { λ r. ⌜ now (sector .exit) ≡ sbBytes g s (now (sector .entry)) ⌝ }
+    ensures { λ r. ⌜ Encoded 0 (crcAt ∷ []) (sbBytes g s (now (sector .entry))) (now (sector .entry)) (r .number) (r .right) (now (sector .exit)) ⌝ }
 {
     let start = log_start(g.agblklog, g.logagno, g.log_agbno);
     let v = all_numbers(g, s, start);
@@ -193,22 +195,27 @@ fn fill(g: Geometry, s: SbState, sector: &mut [u8])
     put_numbers(sector, &v);
     put_names(sector, &uuid, &label);
     put_log_sector(sector, large, g.lsectlog, g.lsectsize as u16);
-    crc::stamp(sector, CRC);
+    crc::stamp(sector, CRC)
 }
 
-// One superblock: its named bytes and its checksum; every other byte of the sector stays. 31 for a geometry that is no answer of the
-// geometry step, 27 unless the sector has its length.
-pub fn encode(g: Geometry, s: SbState, sector: &mut [u8]) -> u32
-    ensures { λ r. ⌜ Written (sbNumber g (length (now (sector .entry)))) (sbBytes g s (now (sector .entry))) (now (sector .entry)) r (now (sector .exit)) ⌝ }
+// One superblock: its named bytes and its checksum, and whether that stood there already; every other byte of the sector stays. 31 for a
+// geometry that is no answer of the geometry step, 27 unless the sector has its length.
+pub fn encode(g: Geometry, s: SbState, sector: &mut [u8]) -> Stamped
+    ensures { λ r. ⌜ Encoded (sbNumber g (length (now (sector .entry)))) (crcAt ∷ []) (sbBytes g s (now (sector .entry))) (now (sector .entry)) (r .number) (r .right) (now (sector .exit)) ⌝ }
 {
     if is_answer(g) {
         if sector.len() == (g.sectsize as usize) {
-            fill(g, s, sector);
-            return 0;
+            return fill(g, s, sector);
         }
-        return refusals::WRONG_LENGTH;
+        return Stamped {
+            number: refusals::WRONG_LENGTH,
+            right: false,
+        };
     }
-    refusals::NO_ANSWER
+    Stamped {
+        number: refusals::NO_ANSWER,
+        right: false,
+    }
 }
 
 // sb_versionnum of a geometry; 31 for one that is no answer of the geometry step, here and in the next three.

@@ -2,8 +2,8 @@
 -- Assumes nothing.
 use mathlib.Core.Path.{_≡_, sym, subst}
 use mathlib.Core.Bool.{Bool, true}
-use Prim.Native.Nat.{ℕ, zero, suc, _^_, _≤_}
-use native.Mathlib.Nat.{le-trans, pow-le-pow-right}
+use Prim.Native.Nat.{ℕ, zero, suc, _+_, _^_, _≤_}
+use native.Mathlib.Nat.{le-trans, le-refl, add-zero, pow-le-pow-right}
 use native.Mathlib.Omega.{arith}
 use lib.Dec.{T, eqb, eqb→eq, lit<}
 use Rattle.endian.proofs.Fields.{either}
@@ -15,6 +15,13 @@ least-power k (suc c) n t =
     either (2 ^ k ≤ n) (eqb n (2 ^ k)) (isPower (suc k) c n) t
     (λ e. let g : n ≡ 2 ^ k = eqb→eq n (2 ^ k) e in omega arith)
     (λ r. le-trans (pow-le-pow-right (lit< tt) (let g : k ≤ suc k = omega arith in g)) (least-power (suc k) c n r))
+
+most-power : (k c n : ℕ) → T (isPower k c n) → n ≤ 2 ^ (k + c)
+most-power k zero n t = let g : n ≡ 2 ^ k = eqb→eq n (2 ^ k) t in rw (add-zero, g) (le-refl (2 ^ k))
+most-power k (suc c) n t =
+    either (n ≤ 2 ^ (k + suc c)) (eqb n (2 ^ k)) (isPower (suc k) c n) t
+    (λ e. let g : n ≡ 2 ^ k = eqb→eq n (2 ^ k) e in rw g (pow-le-pow-right (lit< tt) (let h : k ≤ k + suc c = omega arith in h)))
+    (λ r. let h : suc k + c ≡ k + suc c = omega arith in subst (λ (m : ℕ). n ≤ 2 ^ m) h (most-power (suc k) c n r))
 
 holds : {b : Bool} → b ≡ true → T b
 holds e = subst T (sym e) tt
@@ -30,3 +37,7 @@ block-least n e = least-power 10 4 n (holds e)
 pub inode-least : (n : ℕ) → isInode n ≡ true → 512 ≤ n
 unfolding isInode
 inode-least n e = least-power 9 2 n (holds e)
+
+pub inode-most : (n : ℕ) → isInode n ≡ true → n ≤ 2048
+unfolding isInode
+inode-most n e = most-power 9 2 n (holds e)

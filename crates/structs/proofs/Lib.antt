@@ -1,4 +1,5 @@
 pub mod Lengths
 pub mod Written
+pub mod Encoded
 pub mod Reading
 pub mod Rising

@@ -1,3 +1,4 @@
 pub mod Sizes
 pub mod Written
+pub mod Encoded
 pub mod Holds

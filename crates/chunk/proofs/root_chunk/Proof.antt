@@ -2,7 +2,9 @@
 -- Assumes nothing.
 use Rattle.chunk.proofs.Chunks.{accepted, size-inode, whole-chunk, first-fits, flags-inside, chunk-refused, chunk-made, chunk-bytes}
 use Rattle.geometry_layout.proofs.Bounding.{answer-bounds}
-use mathlib.Core.Path.{_≡_, sym, _∙_}
+use Rattle.crc.specs.Right.{alreadyRight}
+use Rattle.chunk.specs.Chunk.{chunkPlaces}
+use mathlib.Core.Path.{_≡_, refl, ap, sym, _∙_}
 use lib.ListN.{length}
 use native.Mathlib.Omega.{arith}
 use borrow.Author.Needs.{needs}
@@ -39,7 +41,8 @@ returns-2 c =
     let a = accepted (s .args .g) (s .args .agbno) (s .args .time) _ (sym (c .before .before .before .before .before .before .before .before .before .refusal .ensures) ∙ c .before .before .before .before .before .before .before .before .if1 .left) in
     let z = answer-bounds (s .args .g) l (a .answer) in
     let w = c .before .before .fill-chunk .ensures in
-    chunk-made (sym (c .before .before .before .before .before .before .before .before .before .refusal .ensures) ∙ c .before .before .before .before .before .before .before .before .if1 .left) (chunk-bytes (s .args .g) z (s .args .agbno) _ (s .args .time) _ _ _ (c .before .before .before .before .flags-of .ensures) (w .1)) (w .0)
+    let q = chunk-bytes (s .args .g) z (s .args .agbno) _ (s .args .time) _ _ _ (c .before .before .before .before .flags-of .ensures) refl in
+    chunk-made (sym (c .before .before .before .before .before .before .before .before .before .refusal .ensures) ∙ c .before .before .before .before .before .before .before .before .if1 .left) (w .2 ∙ q) (w .0 ∙ ap (alreadyRight (chunkPlaces (s .args .g .inodesize)) (s .args .buf .now)) q) (w .1)
 
 pub root-chunk-spec : {M : Type 1} → statement M
 root-chunk-spec =

@@ -1,7 +1,7 @@
 -- `head_leaves::rmap_leaf` meets its contract.
 -- Assumes nothing.
 use Rattle.head_leaves.specs.Leaves.{listNumber}
-use Rattle.structs.proofs.Written.{refused}
+use Rattle.structs.proofs.Encoded.{not-encoded}
 use Rattle.structs.specs.Sizes.{isBlock}
 use borrow.Author.Tests.{not-true, not-false, le-leb, lt-leb}
 use lib.ListN.{length}
@@ -13,11 +13,11 @@ use Rattle.head_leaves.proofs.rmap_leaf.Tie as tie
 
 returns : tie.Need-returns
 unfolding listNumber
-returns c = let t : isBlock (length (c .before .before .before .args .block .now)) ≡ false = sym (c .before .is-block .ensures) ∙ not-true _ (c .if1 .taken) in refused (rw t refl) refl
+returns c = let t : isBlock (length (c .before .before .before .args .block .now)) ≡ false = sym (c .before .is-block .ensures) ∙ not-true _ (c .if1 .taken) in not-encoded (rw t refl) refl
 
 returns-2 : tie.Need-returns-2
 unfolding listNumber
-returns-2 c = let t : isBlock (length (c .before .before .before .before .before .args .block .now)) ≡ true = sym (c .before .before .before .is-block .ensures) ∙ not-false _ (c .before .before .if1 .left) in refused (rw (t, lt-leb _ _ (c .if2 .taken)) refl) refl
+returns-2 c = let t : isBlock (length (c .before .before .before .before .before .args .block .now)) ≡ true = sym (c .before .before .before .is-block .ensures) ∙ not-false _ (c .before .before .if1 .left) in not-encoded (rw (t, lt-leb _ _ (c .if2 .taken)) refl) refl
 
 returns-3 : tie.Need-returns-3
 unfolding listNumber

@@ -26,6 +26,7 @@ pub use Rattle.geometry.specs.Compute.{chosenOf, refusals, computeDef}
 pub use Rattle.geometry_answers.specs.Named.{namedOn, namesOf, isAnswer}
 pub use Rattle.geometry_answers.specs.Answers.{Answered, TypedGeometry}
 pub use Rattle.structs.specs.Written.{Written}
+use Rattle.structs.specs.Encoded.{Encoded}
 pub use Rattle.crc.specs.Crc.{stamped, verified}
 pub use Rattle.crc.specs.Vectors.{Vectors}
 pub use Rattle.geometry_layout.specs.Places.{groupBlocks, freelistOf}
@@ -72,14 +73,16 @@ pub use Rattle.reader_admit.specs.Admit.{admitted}
 pub use Rattle.reader_uses.specs.ByUse.{usesIn, Once, freeTotal, listTotal, chunkTotal}
 
 -- Each promise on a lent buffer is `Written`, of its own test's number and its own bytes: of a write that asks for `m` bytes, of one by a table
--- of fields, of a line at an offset, and of a root chunk.
+-- of fields, of a line at an offset, of an encoder that stamps, and of a root chunk.
 pub record OneForm : Type 0 where
   pub by-length : (m r : ℕ) (new old left : List ℕ) → Put m new old r left → Written (answer (room m old)) new old r left
   pub by-table : (at vs old left : List ℕ) (r : ℕ) → PutAll at vs old r left
       → Written (answer (tableFits (length old) at (length vs))) (write (table at vs) old) old r left
   pub of-a-line : (at r end : ℕ) (bytes old left : List ℕ) → PutLine at bytes old r end left
       → Written (answer (room (at + length bytes) old)) (patch at bytes old) old r left
-  pub of-a-chunk : (n next r state : ℕ) (new old left : List ℕ) → ChunkMade n next new old r state left → Written n new old r left
+  pub encoded : (n r : ℕ) (right : Bool) (sums new old left : List ℕ) → Encoded n sums new old r right left → Written n new old r left
+  pub of-a-chunk : (n next r state : ℕ) (right : Bool) (sums new old left : List ℕ) → ChunkMade n next sums new old r state right left
+      → Written n new old r left
 
 -- The reader gets everything of the run back from a device: its geometry as it is reported, its UUID, the plan of every group; and it
 -- accepts the log block.

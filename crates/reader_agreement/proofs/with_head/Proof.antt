@@ -16,7 +16,7 @@ same-length : tie.Need-same-length
 same-length c = search needs
 
 returns : tie.Need-returns
-returns c = c .unknown .ensures ∙ head-unmade _ _ (c .before .before .before .before .before .before .before .before .args .head .now) (c .before .before .before .before .before .before .before .before .args .work .now) (c .before .before .before .before .before .before .before .before .pre .0) (c .before .before .before .before .before .before .before .before .pre .1) _ _ _ (c .before .before .before .before .head-left .ensures) (c .before .if1 .taken)
+returns c = c .unknown .ensures ∙ head-unmade _ _ (c .before .before .before .before .before .before .before .before .before .args .head .now) (c .before .before .before .before .before .before .before .before .before .args .work .now) (c .before .before .before .before .before .before .before .before .before .pre .0) (c .before .before .before .before .before .before .before .before .before .pre .1) _ _ _ (c .before .before .before .before .before .head-left .ensures .written) (c .before .if1 .taken)
 
 common-prefix-requires : tie.Need-common-prefix-requires
 common-prefix-requires c κs = search needs
@@ -25,7 +25,7 @@ same-length-2 : tie.Need-same-length-2
 same-length-2 c = search needs
 
 returns-2 : tie.Need-returns-2
-returns-2 c = head-made _ _ (c .before .before .before .before .before .before .before .before .before .args .head .now) (c .before .before .before .before .before .before .before .before .before .args .work .now) (c .before .before .before .before .before .before .before .before .before .pre .0) (c .before .before .before .before .before .before .before .before .before .pre .1) _ _ _ (c .before .before .before .before .before .head-left .ensures) _ (c .before .before .if1 .left) (c .common-prefix .ensures)
+returns-2 c = head-made _ _ (c .before .before .before .before .before .before .before .before .before .before .args .head .now) (c .before .before .before .before .before .before .before .before .before .before .args .work .now) (c .before .before .before .before .before .before .before .before .before .before .pre .0) (c .before .before .before .before .before .before .before .before .before .before .pre .1) _ _ _ (c .before .before .before .before .before .before .head-left .ensures .written) _ (c .before .before .if1 .left) (c .common-prefix .ensures)
 
 pub with-head-spec : {M : Type 1} → statement M
 with-head-spec =

@@ -2,7 +2,7 @@
 -- Assumes nothing.
 use Rattle.sb.proofs.Laws.{answer-fits}
 use Rattle.sb.specs.Superblock.{sbNumber}
-use Rattle.structs.proofs.Written.{refused, done}
+use Rattle.structs.proofs.Encoded.{not-encoded}
 use Rattle.geometry_layout.proofs.Bounding.{answer-bounds}
 use Rattle.geometry_answers.specs.Named.{isAnswer}
 use borrow.Author.Tests.{eq-eqb, ne-eqb}
@@ -18,15 +18,15 @@ fill-requires c κs = let g = c .before .before .before .before .before .before 
 
 returns : tie.Need-returns
 unfolding sbNumber
-returns c = let h = sym (c .before .before .before .before .before .before .before .is-answer .ensures) ∙ c .before .before .before .before .before .before .if1 .taken in done (rw (h, eq-eqb _ _ (c .before .before .before .before .if2 .taken)) refl) (c .before .before .fill .ensures)
+returns c = let h = sym (c .before .before .before .before .before .before .before .is-answer .ensures) ∙ c .before .before .before .before .before .before .if1 .taken in rw (h, eq-eqb _ _ (c .before .before .before .before .if2 .taken)) (c .before .before .fill .ensures)
 
 returns-2 : tie.Need-returns-2
 unfolding sbNumber
-returns-2 c = let h = sym (c .before .before .before .is-answer .ensures) ∙ c .before .before .if1 .taken in refused (rw (h, ne-eqb _ _ (c .if2 .left)) refl) refl
+returns-2 c = let h = sym (c .before .before .before .is-answer .ensures) ∙ c .before .before .if1 .taken in not-encoded (rw (h, ne-eqb _ _ (c .if2 .left)) refl) refl
 
 returns-3 : tie.Need-returns-3
 unfolding sbNumber
-returns-3 c = let h = sym (c .before .is-answer .ensures) ∙ c .if1 .left in refused (rw h refl) refl
+returns-3 c = let h = sym (c .before .is-answer .ensures) ∙ c .if1 .left in not-encoded (rw h refl) refl
 
 pub encode-spec : {M : Type 1} → statement M
 encode-spec =

@@ -14,10 +14,12 @@ use Rattle.ag.proofs.agfl.put_header.Tie as tie
 returns : tie.Need-returns
 returns c =
     let args = c .before .before .before .before .before .before .before .before .before .before .before .before .args in
-    let u : length (args .uuid .now) ≡ 16 = search needs in
-    put-in (c .before .before .put-bytes .ensures) (search needs)
-    ∙ ap (patch 8 (args .uuid .now)) (put-table 32 (c .before .before .before .before .before .before .before .put-all .ensures) (let h : 32 ≤ length (args .sector .now) = search needs in h) tt)
-    ∙ agfl-order _ _ _ u
+    let u : length (args .uuid .now) ≡ 16 = search needs in (
+      put-in (c .before .before .put-bytes .ensures) (search needs)
+          ∙ ap (patch 8 (args .uuid .now)) (put-table 32 (c .before .before .before .before .before .before .before .put-all .ensures) (let h : 32 ≤ length (args .sector .now) = search needs in h) tt)
+          ∙ agfl-order _ _ _ u,
+      u,
+    )
 
 pub put-header-spec : {M : Type 1} → statement M
 put-header-spec =

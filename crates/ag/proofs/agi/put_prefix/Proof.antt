@@ -17,7 +17,7 @@ returns c =
     let l = c .before .before .before .before .before .before .before .before .before .before .before .before .before .before .before .pre in
     let k1 = c .before .before .before .before .before .before .before .before .before .before .before .put32-run .kept .0 in
     let k2 = c .before .before .before .before .before .before .before .put-same .kept .0 in
-    rw (put-in (c .before .before .put-bytes .ensures) (omega (arith, l, u, k1, k2)), put-in (c .before .before .before .before .before .before .before .put-same .ensures) (omega (arith, l, k1)), put-in (c .before .before .before .before .before .before .before .before .before .before .before .put32-run .ensures) (omega (arith, l, v))) (prefix-written (args .t2) (args .uuid .now) (args .sector .now))
+    (rw (put-in (c .before .before .put-bytes .ensures) (omega (arith, l, u, k1, k2)), put-in (c .before .before .before .before .before .before .before .put-same .ensures) (omega (arith, l, k1)), put-in (c .before .before .before .before .before .before .before .before .before .before .before .put32-run .ensures) (omega (arith, l, v))) (prefix-written (args .t2) (args .uuid .now) (args .sector .now)), u)
 
 pub put-prefix-spec : {M : Type 1} → statement M
 put-prefix-spec =

@@ -6,7 +6,7 @@ use Rattle.chunk.proofs.slots.put_inode.Statement.{statement}
 use Rattle.chunk.proofs.slots.put_inode.Tie as tie
 
 returns : tie.Need-returns
-returns c = inode-back _ _ _ _ _ _ _ (c .before .before .before .before .before .before .pre .1) (c .before .before .before .before .before .before .pre .0) (c .before .before .encode .ensures)
+returns c = inode-back _ _ _ _ _ _ _ (c .before .before .before .before .before .before .pre .1) (c .before .before .before .before .before .before .pre .0) (c .before .before .encode .ensures .written)
 
 pub put-inode-spec : {M : Type 1} → statement M
 put-inode-spec =

@@ -9,7 +9,7 @@ use Rattle.head.proofs.sectors.put_agfl.Statement.{statement}
 use Rattle.head.proofs.sectors.put_agfl.Tie as tie
 
 returns : tie.Need-returns
-returns c = let a = c .before .before .before .before .before .before .args in lent-sector (3 * a .ss) (a .ss) (λ (n : ℕ). agflNumber (a .l .len) n) (agflBytes (a .agno) (a .uuid .now) 1 (take (a .l .len) (a .l .blocks))) (a .buf .now) _ (c .before .before .before .before .before .before .pre .2) (agfl-accepted (a .l .len) (a .ss) (c .before .before .before .before .before .before .pre .0) (c .before .before .before .before .before .before .pre .1)) (agfl-length (a .agno) (a .uuid .now) 1 (take (a .l .len) (a .l .blocks))) (c .before .before .encode-agfl .ensures)
+returns c = let a = c .before .before .before .before .before .before .args in lent-sector (3 * a .ss) (a .ss) (λ (n : ℕ). agflNumber (a .l .len) n) (agflBytes (a .agno) (a .uuid .now) 1 (take (a .l .len) (a .l .blocks))) (a .buf .now) _ (c .before .before .before .before .before .before .pre .2) (agfl-accepted (a .l .len) (a .ss) (c .before .before .before .before .before .before .pre .0) (c .before .before .before .before .before .before .pre .1)) (agfl-length (a .agno) (a .uuid .now) 1 (take (a .l .len) (a .l .blocks))) (c .before .before .encode-agfl .ensures .written)
 
 pub put-agfl-spec : {M : Type 1} → statement M
 put-agfl-spec =

@@ -10,7 +10,7 @@ use Rattle.head.proofs.sectors.put_agi.Statement.{statement}
 use Rattle.head.proofs.sectors.put_agi.Tie as tie
 
 returns : tie.Need-returns
-returns c = let a = c .before .before .before .before .before .args in lent-sector (2 * a .ss) (a .ss) (λ (n : ℕ). sectorNumber n) (agiBytes (a .a) (a .uuid .now)) (a .buf .now) _ (c .before .before .before .before .before .pre .1) (rw (c .before .before .before .before .before .pre .0) refl) (agi-length (a .a) (a .uuid .now)) (c .before .before .encode .ensures)
+returns c = let a = c .before .before .before .before .before .args in lent-sector (2 * a .ss) (a .ss) (λ (n : ℕ). sectorNumber n) (agiBytes (a .a) (a .uuid .now)) (a .buf .now) _ (c .before .before .before .before .before .pre .1) (rw (c .before .before .before .before .before .pre .0) refl) (agi-length (a .a) (a .uuid .now)) (c .before .before .encode .ensures .written)
 
 pub put-agi-spec : {M : Type 1} → statement M
 put-agi-spec =

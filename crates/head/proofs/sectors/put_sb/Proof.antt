@@ -9,7 +9,7 @@ use Rattle.head.proofs.sectors.put_sb.Statement.{statement}
 use Rattle.head.proofs.sectors.put_sb.Tie as tie
 
 returns : tie.Need-returns
-returns c = let a = c .before .before .before .before .before .args in lent-sector 0 (a .ss) (λ (n : ℕ). sbNumber (a .g) n) (sbBytes (a .g) (a .s)) (a .buf .now) _ (omega (arith, c .before .before .before .before .before .pre .1)) (c .before .before .before .before .before .pre .0) (sb-length (a .g) (a .s)) (c .before .before .encode .ensures)
+returns c = let a = c .before .before .before .before .before .args in lent-sector 0 (a .ss) (λ (n : ℕ). sbNumber (a .g) n) (sbBytes (a .g) (a .s)) (a .buf .now) _ (omega (arith, c .before .before .before .before .before .pre .1)) (c .before .before .before .before .before .pre .0) (sb-length (a .g) (a .s)) (c .before .before .encode .ensures .written)
 
 pub put-sb-spec : {M : Type 1} → statement M
 put-sb-spec =

@@ -1,16 +1,16 @@
 -- `inode::dinode::encode_free` meets its contract.
 -- Assumes nothing.
-use Rattle.inode.specs.Dinode.{freeBytes, freeFields}
-use Rattle.structs.proofs.Written.{refused, done}
+use Rattle.inode.proofs.Held.{free-stands, free-clear}
+use Rattle.inode.specs.Dinode.{inodeCrcAt, freeBytes, freeFields}
+use Rattle.structs.proofs.Encoded.{not-encoded, stamps}
 use Rattle.structs.proofs.Lengths.{inode-least}
 use Rattle.structs.specs.Sizes.{isInode}
-use Rattle.crc.proofs.Laws.{stamp-in}
-use Rattle.crc.specs.Crc.{stamped}
+use Rattle.endian.specs.Fields.{spans}
 use Rattle.endian.proofs.Tables.{put-table}
 use Rattle.endian.proofs.Laws.{put-in}
 use Rattle.endian.specs.Bytes.{patch}
 use borrow.Author.Tests.{not-true, not-false}
-use lib.ListN.{length}
+use lib.ListN.{length, replicate}
 use native.Mathlib.Omega.{arith}
 use Prim.Native.Nat.{_≤_}
 use mathlib.Core.Bool.{true, false}
@@ -22,7 +22,7 @@ use Rattle.inode.proofs.dinode.encode_free.Tie as tie
 returns : tie.Need-returns
 returns c =
     let t : isInode (length (c .before .before .before .args .slot .now)) ≡ false = sym (c .before .is-inode .ensures) ∙ not-true _ (c .if1 .taken) in
-    refused (rw t refl) refl
+    not-encoded (rw t refl) refl
 
 returns-2 : tie.Need-returns-2
 unfolding freeBytes freeFields
@@ -32,8 +32,9 @@ returns-2 c =
     let l = inode-least (length (args .slot .now)) t in
     let u : length (args .uuid .now) ≡ 16 = search needs in
     let k1 = c .before .before .before .before .before .before .before .before .before .before .before .put-all .kept .0 in
-    let k2 = c .before .before .before .before .before .before .put-bytes .kept .0 in
-    done (rw t refl) (stamp-in 100 (c .before .before .stamp .ensures) (omega (arith, l, k1, k2)) .1 ∙ ap (stamped 100) (put-in (c .before .before .before .before .before .before .put-bytes .ensures) (omega (arith, l, u, k1)) ∙ ap (patch 160 (args .uuid .now)) (put-table 160 (c .before .before .before .before .before .before .before .before .before .before .before .put-all .ensures) (let h : 160 ≤ length (args .slot .now) = omega (arith, l) in h) tt)))
+    let w = args .uuid .now in
+    let h : 176 ≤ length (args .slot .now) = omega (arith, l) in
+    stamps (spans (freeFields 0 0 (replicate 16 0))) inodeCrcAt (free-clear (args .ino) (args .generation) w (args .slot .now) u h) (freeFields (args .ino) (args .generation) w) (free-stands (args .ino) (args .generation) w (args .slot .now) u h) (rw t refl) (omega (arith, l)) (put-in (c .before .before .before .before .before .before .put-bytes .ensures) (omega (arith, l, u, k1)) ∙ ap (patch 160 (args .uuid .now)) (put-table 160 (c .before .before .before .before .before .before .before .before .before .before .before .put-all .ensures) (let h : 160 ≤ length (args .slot .now) = omega (arith, l) in h) tt)) (c .before .before .stamp .ensures)
 
 pub encode-free-spec : {M : Type 1} → statement M
 encode-free-spec =

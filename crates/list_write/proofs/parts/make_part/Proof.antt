@@ -34,7 +34,7 @@ returns-2 c =
     let k = s .args .k in
     let n = c .before .before .before .before .before .before .if1 .left in
     let h = c .before .before .before .before .if2 .taken in
-    group-made g (label s) (plans s) _ (k - 1) _ _ (one-less k (g .agcount) n h) (s .pre .2 ∙ head-size (sizesIn g) (g .agcount) k n (λ q. n (omega arith))) (c .before .before .head-written .ensures)
+    group-made g (label s) (plans s) _ (k - 1) _ _ (one-less k (g .agcount) n h) (s .pre .2 ∙ head-size (sizesIn g) (g .agcount) k n (λ q. n (omega arith))) (c .before .before .head-written .ensures .written)
     ∙ sym (group-part (s .args .run) k n h)
 
 make-root-requires : tie.Need-make-root-requires
@@ -49,7 +49,7 @@ returns-4 c =
     let g = s .args .run .geometry in
     let k = s .args .k in
     let n = c .before .before .before .before .if3 .left in
-    finished-made g (label s) (plans s) _ _ _ (s .pre .2 ∙ head-size (sizesIn g) (g .agcount) k (c .before .before .before .before .before .before .before .before .if1 .left) n) (c .before .before .head-left .ensures)
+    finished-made g (label s) (plans s) _ _ _ (s .pre .2 ∙ head-size (sizesIn g) (g .agcount) k (c .before .before .before .before .before .before .before .before .if1 .left) n) (c .before .before .head-left .ensures .written)
     ∙ sym (closing-part (s .args .run) k (c .before .before .before .before .before .before .if2 .left) n)
 
 pub make-part-spec : {M : Type 1} → statement M

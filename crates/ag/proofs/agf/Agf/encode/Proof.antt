@@ -1,18 +1,18 @@
 -- `ag::agf::Agf::encode` meets its contract.
 -- Assumes nothing.
 use Rattle.ag.proofs.Orders.{agf-written}
-use Rattle.ag.specs.Agf.{agfBytes}
-use Rattle.structs.proofs.Written.{refused, done}
+use Rattle.ag.proofs.Held.{emptyAgf, agf-stands, agf-clear}
+use Rattle.ag.specs.Agf.{agfCrcAt, agfFields, agfBytes}
+use Rattle.structs.proofs.Encoded.{not-encoded, stamps}
 use Rattle.structs.proofs.Lengths.{sector-least}
 use Rattle.structs.specs.Sizes.{isSector}
-use Rattle.crc.proofs.Laws.{stamp-in}
-use Rattle.crc.specs.Crc.{stamped}
+use Rattle.endian.specs.Fields.{spans}
 use Rattle.endian.proofs.Laws.{put-in}
 use borrow.Author.Tests.{not-true, not-false}
-use lib.ListN.{length}
+use lib.ListN.{length, replicate}
 use native.Mathlib.Omega.{arith}
 use mathlib.Core.Bool.{true, false}
-use mathlib.Core.Path.{_≡_, refl, ap, sym, _∙_}
+use mathlib.Core.Path.{_≡_, refl, sym, _∙_}
 use borrow.Author.Needs.{needs}
 use Rattle.ag.proofs.agf.Agf.encode.Statement.{statement}
 use Rattle.ag.proofs.agf.Agf.encode.Tie as tie
@@ -20,7 +20,7 @@ use Rattle.ag.proofs.agf.Agf.encode.Tie as tie
 returns : tie.Need-returns
 returns c =
     let t : isSector (length (c .before .before .before .args .sector .now)) ≡ false = sym (c .before .is-sector .ensures) ∙ not-true _ (c .if1 .taken) in
-    refused (rw t refl) refl
+    not-encoded (rw t refl) refl
 
 returns-2 : tie.Need-returns-2
 unfolding agfBytes
@@ -32,8 +32,7 @@ returns-2 c =
     let k1 = c .before .before .before .before .before .before .before .before .before .before .before .before .before .before .before .before .before .before .before .before .put32-run .kept .0 in
     let k2 = c .before .before .before .before .before .before .before .before .before .before .before .before .before .before .before .put-bytes .kept .0 in
     let k3 = c .before .before .before .before .before .before .before .before .before .before .put32-run2 .kept .0 in
-    let k4 = c .before .before .before .before .before .before .put64 .kept .0 in
-    done (rw t refl) (stamp-in 216 (c .before .before .stamp .ensures) (omega (arith, l, k1, k2, k3, k4)) .1 ∙ ap (stamped 216) (rw (put-in (c .before .before .before .before .before .before .put64 .ensures) (omega (arith, l, k1, k2, k3)), put-in (c .before .before .before .before .before .before .before .before .before .before .put32-run2 .ensures) (omega (arith, l, k1, k2)), put-in (c .before .before .before .before .before .before .before .before .before .before .before .before .before .before .before .put-bytes .ensures) (omega (arith, l, u, k1)), put-in (c .before .before .before .before .before .before .before .before .before .before .before .before .before .before .before .before .before .before .before .before .put32-run .ensures) (omega (arith, l))) (agf-written (args .self) (args .uuid .now) (args .sector .now))))
+    stamps (spans (agfFields emptyAgf (replicate 16 0))) agfCrcAt agf-clear (agfFields (args .self) (args .uuid .now)) (agf-stands (args .self) (args .uuid .now) u) (rw t refl) (omega (arith, l)) (rw (put-in (c .before .before .before .before .before .before .put64 .ensures) (omega (arith, l, k1, k2, k3)), put-in (c .before .before .before .before .before .before .before .before .before .before .put32-run2 .ensures) (omega (arith, l, k1, k2)), put-in (c .before .before .before .before .before .before .before .before .before .before .before .before .before .before .before .put-bytes .ensures) (omega (arith, l, u, k1)), put-in (c .before .before .before .before .before .before .before .before .before .before .before .before .before .before .before .before .before .before .before .before .put32-run .ensures) (omega (arith, l))) (agf-written (args .self) (args .uuid .now) (args .sector .now))) (c .before .before .stamp .ensures)
 
 pub encode-spec : {M : Type 1} → statement M
 encode-spec =

@@ -1,18 +1,18 @@
 -- `ag::agi::Agi::encode` meets its contract.
 -- Assumes nothing.
 use Rattle.ag.proofs.Orders.{agi-written}
-use Rattle.ag.specs.Agi.{agiBytes}
-use Rattle.structs.proofs.Written.{refused, done}
+use Rattle.ag.proofs.Held.{emptyAgi, agi-stands, agi-clear}
+use Rattle.ag.specs.Agi.{agiCrcAt, agiFields, agiBytes}
+use Rattle.structs.proofs.Encoded.{not-encoded, stamps}
 use Rattle.structs.proofs.Lengths.{sector-least}
 use Rattle.structs.specs.Sizes.{isSector}
-use Rattle.crc.proofs.Laws.{stamp-in}
-use Rattle.crc.specs.Crc.{stamped}
+use Rattle.endian.specs.Fields.{spans}
 use Rattle.endian.proofs.Laws.{put-in}
 use borrow.Author.Tests.{not-true, not-false}
-use lib.ListN.{length}
+use lib.ListN.{length, replicate}
 use native.Mathlib.Omega.{arith}
 use mathlib.Core.Bool.{true, false}
-use mathlib.Core.Path.{_≡_, refl, ap, sym, _∙_}
+use mathlib.Core.Path.{_≡_, refl, sym, _∙_}
 use borrow.Author.Needs.{needs}
 use Rattle.ag.proofs.agi.Agi.encode.Statement.{statement}
 use Rattle.ag.proofs.agi.Agi.encode.Tie as tie
@@ -20,7 +20,7 @@ use Rattle.ag.proofs.agi.Agi.encode.Tie as tie
 returns : tie.Need-returns
 returns c =
     let t : isSector (length (c .before .before .before .args .sector .now)) ≡ false = sym (c .before .is-sector .ensures) ∙ not-true _ (c .if1 .taken) in
-    refused (rw t refl) refl
+    not-encoded (rw t refl) refl
 
 put-prefix-requires : tie.Need-put-prefix-requires
 put-prefix-requires c κs =
@@ -36,8 +36,8 @@ returns-2 c =
     let l = sector-least (length (args .sector .now)) t in
     let k1 = c .before .before .before .before .before .before .before .before .before .before .before .before .before .before .before .put-prefix .kept .0 in
     let k2 = c .before .before .before .before .before .before .before .before .before .before .before .put64 .kept .0 in
-    let k3 = c .before .before .before .before .before .before .put32-run .kept .0 in
-    done (rw t refl) (stamp-in 312 (c .before .before .stamp .ensures) (omega (arith, l, k1, k2, k3)) .1 ∙ ap (stamped 312) (rw (put-in (c .before .before .before .before .before .before .put32-run .ensures) (omega (arith, l, k1, k2)), put-in (c .before .before .before .before .before .before .before .before .before .before .before .put64 .ensures) (omega (arith, l, k1))) (agi-written (args .self) (args .uuid .now) (args .sector .now) _ (c .before .before .before .before .before .before .before .before .before .before .before .before .before .before .before .put-prefix .ensures))))
+    let d = c .before .before .before .before .before .before .before .before .before .before .before .before .before .before .before .put-prefix .ensures in
+    stamps (spans (agiFields emptyAgi (replicate 16 0))) agiCrcAt agi-clear (agiFields (args .self) (args .uuid .now)) (agi-stands (args .self) (args .uuid .now) (d .1)) (rw t refl) (omega (arith, l)) (rw (put-in (c .before .before .before .before .before .before .put32-run .ensures) (omega (arith, l, k1, k2)), put-in (c .before .before .before .before .before .before .before .before .before .before .before .put64 .ensures) (omega (arith, l, k1))) (agi-written (args .self) (args .uuid .now) (args .sector .now) _ (d .0))) (c .before .before .stamp .ensures)
 
 pub encode-spec : {M : Type 1} → statement M
 encode-spec =

@@ -1,14 +1,15 @@
 -- `inode::dinode::Dinode::encode` meets its contract.
 -- Assumes nothing.
 use Rattle.inode.proofs.Core.{times-refuse, times-fit, times-pass, dinode-written, both-left, both-right}
-use Rattle.inode.specs.Dinode.{dinodeNumber}
-use Rattle.structs.proofs.Written.{refused, done}
+use Rattle.inode.proofs.Held.{noDinode, stands, dinode-clear}
+use Rattle.inode.specs.Dinode.{inodeCrcAt, dinodeNumber, dinodeFields, dinodeBytes}
+use Rattle.structs.proofs.Encoded.{not-encoded, stamps}
 use Rattle.structs.proofs.Lengths.{inode-least}
 use Rattle.structs.specs.Sizes.{isInode}
-use Rattle.crc.proofs.Laws.{stamp-in}
+use Rattle.endian.specs.Fields.{spans}
 use Rattle.endian.proofs.Laws.{put-in}
 use borrow.Author.Tests.{not-true, not-false, leb-true, ne-eqb}
-use lib.ListN.{length}
+use lib.ListN.{length, replicate}
 use lib.Dec.{leb}
 use native.Mathlib.Omega.{arith}
 use Prim.Native.Nat.{_+_}
@@ -22,7 +23,7 @@ returns : tie.Need-returns
 unfolding dinodeNumber
 returns c =
     let e = c .before .encode-times .ensures .number-is in
-    refused (times-refuse _ _ _ _ _ _ (λ z. c .if1 .taken (e ∙ z)) ∙ sym e) (ne-eqb _ 0 (c .if1 .taken))
+    not-encoded (times-refuse _ _ _ _ _ _ (λ z. c .if1 .taken (e ∙ z)) ∙ sym e) (ne-eqb _ 0 (c .if1 .taken))
 
 returns-2 : tie.Need-returns-2
 unfolding dinodeNumber
@@ -31,7 +32,7 @@ returns-2 c =
     let e = c .before .before .before .encode-times .ensures .number-is in
     let f = times-fit _ _ _ _ _ (sym e ∙ c .before .before .if1 .left) in
     let t : isInode (length (args .slot .now)) && leb (176 + length (args .«data» .now)) (length (args .slot .now)) ≡ false = sym (c .before .has-room .ensures) ∙ not-true _ (c .if2 .taken) in
-    refused (times-pass _ _ _ _ _ _ f ∙ rw t refl) refl
+    not-encoded (times-pass _ _ _ _ _ _ f ∙ rw t refl) refl
 
 put-core-requires : tie.Need-put-core-requires
 put-core-requires c κs =
@@ -39,7 +40,7 @@ put-core-requires c κs =
     inode-least (length (c .before .before .before .before .before .before .before .before .before .before .before .args .slot .now)) (both-left _ _ t)
 
 returns-3 : tie.Need-returns-3
-unfolding dinodeNumber
+unfolding dinodeNumber dinodeBytes
 returns-3 c =
     let args = c .before .before .before .before .before .before .before .before .before .before .before .before .before .before .before .before .before .before .before .before .before .before .before .before .before .before .before .args in
     let e = c .before .before .before .before .before .before .before .before .before .before .before .before .before .before .before .before .before .before .before .before .encode-times .ensures .number-is in
@@ -50,8 +51,8 @@ returns-3 c =
     let u : length (args .uuid .now) ≡ 16 = search needs in
     let k1 = c .before .before .before .before .before .before .before .before .before .before .before .before .before .before .before .put-core .kept .0 in
     let k2 = c .before .before .before .before .before .before .before .before .before .before .put-bytes .kept .0 in
-    let k3 = c .before .before .before .before .before .before .put-bytes2 .kept .0 in
-    done (times-pass _ _ _ _ _ _ f ∙ rw t refl) (dinode-written (args .self) _ _ _ _ _ _ _ _ _ _ _ _ (c .before .before .before .before .before .before .before .before .before .before .before .before .before .before .before .before .before .before .before .before .encode-times .ensures) f (c .before .before .before .before .before .before .before .before .before .before .before .before .before .before .before .put-core .ensures) (put-in (c .before .before .before .before .before .before .before .before .before .before .put-bytes .ensures) (omega (arith, l, u, k1))) (put-in (c .before .before .before .before .before .before .put-bytes2 .ensures) (omega (arith, g, k1, k2))) (stamp-in 100 (c .before .before .stamp .ensures) (omega (arith, l, k1, k2, k3)) .1))
+    let d = args .«data» .now in
+    stamps (spans (dinodeFields noDinode d (replicate 16 0))) inodeCrcAt (dinode-clear (args .self) d (args .uuid .now) (args .slot .now) u g) (dinodeFields (args .self) d (args .uuid .now)) (stands (args .self) d (args .uuid .now) (args .slot .now) u g) (times-pass _ _ _ _ _ _ f ∙ rw t refl) (omega (arith, l)) (dinode-written (args .self) _ _ _ _ _ _ _ _ _ _ _ (c .before .before .before .before .before .before .before .before .before .before .before .before .before .before .before .before .before .before .before .before .encode-times .ensures) f (c .before .before .before .before .before .before .before .before .before .before .before .before .before .before .before .put-core .ensures) (put-in (c .before .before .before .before .before .before .before .before .before .before .put-bytes .ensures) (omega (arith, l, u, k1))) (put-in (c .before .before .before .before .before .before .put-bytes2 .ensures) (omega (arith, g, k1, k2)))) (c .before .before .stamp .ensures)
 
 pub encode-spec : {M : Type 1} → statement M
 encode-spec =

@@ -1,0 +1,3 @@
+pub mod Twice
+pub mod Inside
+pub mod Parts
