@@ -1,5 +1,6 @@
 // Lines on standard output.
 use libc::STDOUT_FILENO;
+use refusal_print::say_refusal;
 use table_lines::Written;
 
 // Writes the line; false where that failed.
@@ -11,9 +12,10 @@ pub(crate) fn write_line(w: Written, line: &[u8]) -> bool {
     false
 }
 
-// `refused` and the number.
+// `refused` and the number, and its sentence on standard error.
 pub(crate) fn say_refused(number: u32) -> bool {
     let mut line = io::buffer();
+    say_refusal(number);
     let w = table_lines::put_refused(number as u64, &mut line, 0);
     write_line(w, &line)
 }
