@@ -11,10 +11,7 @@ use borrow.Author.Tests.{leb-false, le-leb, lt-leb}
 use Rattle.endian.specs.Answer.{answer}
 use Rattle.endian.specs.Bytes.{patch}
 use Rattle.endian.proofs.Laws.{patch-append}
-use Rattle.seqs.specs.Lists.{choose}
-use Rattle.table_lines.specs.Decimal.{decimal}
-use Rattle.table_lines.specs.Lines.{space, newline, PutLine}
-use Rattle.inquire_lines.specs.Items.{followed, itemBytes, itemLength}
+use Rattle.table_lines.specs.Lines.{PutLine}
 
 -- 0 says that there was room, another number that there was none
 room-of : (t : Bool) → answer t ≡ 0 → t ≡ true
@@ -36,12 +33,6 @@ module _ (at : ℕ) (bytes old : List ℕ) {number end : ℕ} {left : List ℕ} 
 -- there was room for bytes, so they stand
 pub put-there : {at : ℕ} {bytes old : List ℕ} {number end : ℕ} {left : List ℕ} → PutLine at bytes old number end left → at + length bytes ≤ length old → left ≡ patch at bytes old
 put-there {at} {bytes} {old} p h = p .bytes-are ∙ rw (le-leb (at + length bytes) (length old) h) refl
-
--- an item's length
-pub item-length : (word : List ℕ) (number : ℕ) (last : Bool) → itemLength word number ≡ length (itemBytes word number last)
-unfolding itemBytes itemLength
-item-length word number last =
-    omega (arith, length-append (followed word space) (followed (decimal number) (choose last newline space)), length-append word (space ∷ []), length-append (decimal number) (choose last newline space ∷ []))
 
 -- the first part has n bytes
 module _ (at n : ℕ) (first second old : List ℕ) (long : n ≡ length first) where

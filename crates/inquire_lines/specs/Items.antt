@@ -2,8 +2,7 @@
 -- Assumes nothing.
 use mathlib.Core.List.{List, [], _∷_, _++_}
 use mathlib.Core.Bool.{Bool}
-use Prim.Native.Nat.{ℕ, _+_}
-use lib.ListN.{length}
+use Prim.Native.Nat.{ℕ}
 use Rattle.seqs.specs.Lists.{choose}
 use Rattle.table_lines.specs.Decimal.{decimal}
 use Rattle.table_lines.specs.Lines.{space, newline}
@@ -19,7 +18,3 @@ wordBytes word = followed word newline
 -- a word, a space and a number in decimal; behind it a space, or a newline where the line ends
 unfoldable pub itemBytes : List ℕ → ℕ → Bool → List ℕ
 itemBytes word number last = followed word space ++ followed (decimal number) (choose last newline space)
-
--- how many bytes that are: the word's, the number's digits, and one behind each
-unfoldable pub itemLength : List ℕ → ℕ → ℕ
-itemLength word number = length word + length (decimal number) + 2

@@ -3,9 +3,8 @@
 ghost use mathlib.Core.Path.{_≡_};
 ghost use Rattle.seqs.specs.Lists.{choose};
 ghost use Rattle.table_lines.specs.Lines.{space, newline, PutLine};
-ghost use Rattle.inquire_lines.specs.Items.{followed, wordBytes, itemLength, itemBytes};
+ghost use Rattle.inquire_lines.specs.Items.{followed, wordBytes, itemBytes};
 use table_lines::Written;
-use table_lines::decimal::decimal_length;
 use table_lines::put_number;
 
 fn refused() -> Written
@@ -49,13 +48,6 @@ pub fn put_word(word: &[u8], buf: &mut [u8], at: usize) -> Written
     ensures { λ r. ⌜ PutLine at (wordBytes (now (word .entry))) (now (buf .entry)) (r .number) (r .end) (now (buf .exit)) ⌝ }
 {
     put_followed(word, b'\n', buf, at)
-}
-
-// Bytes of a word and a number as `put_item` puts them.
-pub fn item_length(word: &[u8], number: u64) -> usize
-    ensures { λ r. ⌜ r ≡ itemLength (now (word .entry)) number ⌝ }
-{
-    word.len() + decimal_length(number) + 2
 }
 
 // A word and a number, with a space behind them, or a newline where they end the line: `left 7`.
