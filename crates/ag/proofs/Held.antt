@@ -5,7 +5,7 @@ use mathlib.Core.List.{List}
 use Prim.Native.Nat.{ℕ, _≤_, _<_, _^_}
 use lib.Dec.{T, ltb→lt, ltb}
 use lib.ListN.{length, replicate}
-use Rattle.endian.specs.Bytes.{beBytes, beAt, runBytes}
+use Rattle.endian.specs.Bytes.{beBytes, beAt, numbersBytes}
 use Rattle.endian.specs.Fields.{field, nth, part, spans, clear}
 use Rattle.crc.proofs.Laws.{read-stamped}
 use Rattle.structs.specs.Holds.{Holds}
@@ -51,11 +51,11 @@ unfolding agiFields beBytes
 agi-stands a uuid u = rw u refl
 
 pub agi-clear : T (clear agiCrcAt 4 (spans (agiFields emptyAgi (replicate 16 0))))
-unfolding agiFields beBytes runBytes
+unfolding agiFields beBytes numbersBytes
 agi-clear = tt
 
 pub agi-holds : (a : Agi) (uuid xs : List ℕ) → length uuid ≡ 16 → 344 ≤ length xs → Holds (agiFields a uuid) (agiBytes a uuid xs)
-unfolding agiBytes agiFields beBytes runBytes
+unfolding agiBytes agiFields beBytes numbersBytes
 agi-holds a uuid xs u l k h = read-stamped (spans (agiFields emptyAgi (replicate 16 0))) 344 312 tt tt (agiFields a uuid) (agi-stands a uuid u) xs l k h
 
 pub agi-back : (a : Agi) (uuid xs : List ℕ) → length uuid ≡ 16 → 344 ≤ length xs → agiFits a → agiOf (agiBytes a uuid xs) ≡ a
@@ -78,5 +78,5 @@ unfolding agfBytes agfFields beBytes
 agf-again a uuid xs u = encoded-again (spans (agfFields emptyAgf (replicate 16 0))) 216 agfCrcAt tt tt (agfFields a uuid) (agf-stands a uuid u) xs
 
 pub agi-again : (a : Agi) (uuid xs : List ℕ) → length uuid ≡ 16 → agiBytes a uuid (agiBytes a uuid xs) ≡ agiBytes a uuid xs
-unfolding agiBytes agiFields beBytes runBytes
+unfolding agiBytes agiFields beBytes numbersBytes
 agi-again a uuid xs u = encoded-again (spans (agiFields emptyAgi (replicate 16 0))) 344 agiCrcAt tt tt (agiFields a uuid) (agi-stands a uuid u) xs

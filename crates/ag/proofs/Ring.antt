@@ -10,8 +10,8 @@ use lib.Dec.{T, ltb, lit<}
 use lib.ListN.{length, getD, set, replicate, length-replicate, length-set}
 use lib.Seq.{getD-set-same, getD-set-other}
 use borrow.Author.Tests.{ltb-true, ltb-false}
-use Rattle.endian.specs.Bytes.{beBytes, below, runBytes, numbersAt}
-use Rattle.endian.specs.Fields.{part, write, spans, clear}
+use Rattle.endian.specs.Bytes.{beBytes, below, numbersBytes, numbersAt}
+use Rattle.endian.specs.Fields.{part, writeFields, spans, clear}
 use Rattle.endian.proofs.Fields.{write-length}
 use Rattle.endian.proofs.Consecutive.{run-back}
 use Rattle.crc.specs.Crc.{stamped}
@@ -98,7 +98,7 @@ module _ (seqno : ℕ) (uuid : List ℕ) (first : ℕ) (list xs : List ℕ) (u :
   unfolding agflBytes agflFields agflHeader agflSlots beBytes slots
   agfl-holds k h =
       let ss = spans (agflFields (length xs) 0 (replicate 16 0) first list) in
-      let m = 36 + length (runBytes 4 slots) in
+      let m = 36 + length (numbersBytes 4 slots) in
       read-stamped ss m 32 (rises-tidy 0 m ss tt (omega arith)) tt (agflFields (length xs) seqno uuid first list) agfl-stands xs
       (omega (arith, length-run slots, slots-size)) k h
 
@@ -106,7 +106,7 @@ module _ (seqno : ℕ) (uuid : List ℕ) (first : ℕ) (list xs : List ℕ) (u :
   pub agfl-slots : below (2 ^ 32) list → numbersAt 4 (slotsOf (length xs)) 36 (agflBytes seqno uuid first list xs) ≡ placed (slotsOf (length xs)) first list (replicate (slotsOf (length xs)) null32)
   unfolding agflFields agflHeader agflSlots slots
   agfl-slots b =
-      let p : part 36 (length (runBytes 4 slots)) (agflBytes seqno uuid first list xs) ≡ runBytes 4 slots = agfl-holds 4 (lit< tt) in
+      let p : part 36 (length (numbersBytes 4 slots)) (agflBytes seqno uuid first list xs) ≡ numbersBytes 4 slots = agfl-holds 4 (lit< tt) in
       ap (λ (k : ℕ). numbersAt 4 k 36 (agflBytes seqno uuid first list xs)) (sym slots-size)
       ∙ run-back 4 slots 36 (agflBytes seqno uuid first list xs) (below-placed (2 ^ 32) (slotsOf (length xs)) first list (replicate (slotsOf (length xs)) null32) b (below-same (2 ^ 32) (slotsOf (length xs)) null32 (lit< tt)))
       (ap (λ (k : ℕ). part 36 k (agflBytes seqno uuid first list xs)) (sym (length-run slots)) ∙ p)
@@ -114,13 +114,13 @@ module _ (seqno : ℕ) (uuid : List ℕ) (first : ℕ) (list xs : List ℕ) (u :
   -- encoded twice it is encoded once
   same-length : length (agflBytes seqno uuid first list xs) ≡ length xs
   unfolding agflBytes
-  same-length = length-stamped agflCrcAt (write (agflFields (length xs) seqno uuid first list) xs) ∙ write-length (agflFields (length xs) seqno uuid first list) xs
+  same-length = length-stamped agflCrcAt (writeFields (agflFields (length xs) seqno uuid first list) xs) ∙ write-length (agflFields (length xs) seqno uuid first list) xs
 
   pub agfl-again : agflBytes seqno uuid first list (agflBytes seqno uuid first list xs) ≡ agflBytes seqno uuid first list xs
   unfolding agflBytes agflFields agflHeader agflSlots beBytes slots
   agfl-again =
       let ss = spans (agflFields (length xs) 0 (replicate 16 0) first list) in
-      let m = 36 + length (runBytes 4 slots) in
+      let m = 36 + length (numbersBytes 4 slots) in
       let ys = agflBytes seqno uuid first list xs in
-      ap (λ (n : ℕ). stamped agflCrcAt (write (agflFields n seqno uuid first list) ys)) same-length
+      ap (λ (n : ℕ). stamped agflCrcAt (writeFields (agflFields n seqno uuid first list) ys)) same-length
       ∙ encoded-again ss m agflCrcAt (rises-tidy 0 m ss tt (omega arith)) tt (agflFields (length xs) seqno uuid first list) agfl-stands xs

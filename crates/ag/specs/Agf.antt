@@ -2,7 +2,7 @@
 -- Assumes nothing.
 use mathlib.Core.List.{List, [], _∷_}
 use Prim.Native.Nat.{ℕ}
-use Rattle.endian.specs.Fields.{Field, field, run, write}
+use Rattle.endian.specs.Fields.{Field, field, byteRun, writeFields}
 use Rattle.crc.specs.Crc.{stamped}
 use Rattle.ag.specs.declared.agf.Agf.{Agf}
 use Rattle.ag.specs.Sector.{agVersion}
@@ -34,7 +34,7 @@ agfFields a uuid =
     ∷ field 52 4 (a .freeblks)  -- agf_freeblks
     ∷ field 56 4 (a .longest)  -- agf_longest
     ∷ field 60 4 (a .btreeblks)  -- agf_btreeblks
-    ∷ run 64 uuid  -- agf_uuid
+    ∷ byteRun 64 uuid  -- agf_uuid
     ∷ field 80 4 (a .«rmap_blocks»)  -- agf_rmap_blocks
     ∷ field 84 4 (a .«refcount_blocks»)  -- agf_refcount_blocks
     ∷ field 88 4 (a .«refcount_root»)  -- agf_refcount_root
@@ -44,4 +44,4 @@ agfFields a uuid =
 
 -- the fields over the old bytes, and then the checksum
 unfoldable pub agfBytes : Agf → List ℕ → List ℕ → List ℕ
-agfBytes a uuid xs = stamped agfCrcAt (write (agfFields a uuid) xs)
+agfBytes a uuid xs = stamped agfCrcAt (writeFields (agfFields a uuid) xs)

@@ -5,8 +5,8 @@ use Prim.Native.Nat.{ℕ, suc, _-_, _/_, _%_}
 use lib.Dec.{leb}
 use lib.ListN.{length, set, replicate}
 use Rattle.refusals.specs.Numbers.{wrongLength, tooManyRecords}
-use Rattle.endian.specs.Bytes.{runBytes}
-use Rattle.endian.specs.Fields.{Field, field, run, write}
+use Rattle.endian.specs.Bytes.{numbersBytes}
+use Rattle.endian.specs.Fields.{Field, field, byteRun, writeFields}
 use Rattle.crc.specs.Crc.{stamped}
 use Rattle.structs.specs.Sizes.{isSector}
 use Rattle.structs.specs.Written.{null32, require}
@@ -35,17 +35,17 @@ unfoldable pub agflHeader : ℕ → List ℕ → List Field
 agflHeader seqno uuid =
     field 0 4 agflMagic  -- agfl_magicnum
     ∷ field 4 4 seqno  -- agfl_seqno
-    ∷ run 8 uuid  -- agfl_uuid
+    ∷ byteRun 8 uuid  -- agfl_uuid
     ∷ field 24 8 0  -- agfl_lsn
     ∷ []
 
 -- agfl_bno: every slot that no block is put into is null
 unfoldable pub agflSlots : ℕ → ℕ → List ℕ → List Field
-agflSlots len first list = run 36 (runBytes 4 (placed (slotsOf len) first list (replicate (slotsOf len) null32))) ∷ []
+agflSlots len first list = byteRun 36 (numbersBytes 4 (placed (slotsOf len) first list (replicate (slotsOf len) null32))) ∷ []
 
 unfoldable pub agflFields : ℕ → ℕ → List ℕ → ℕ → List ℕ → List Field
 agflFields len seqno uuid first list = agflHeader seqno uuid ++ agflSlots len first list
 
 -- the fields over the old bytes, and then the checksum
 unfoldable pub agflBytes : ℕ → List ℕ → ℕ → List ℕ → List ℕ → List ℕ
-agflBytes seqno uuid first list xs = stamped agflCrcAt (write (agflFields (length xs) seqno uuid first list) xs)
+agflBytes seqno uuid first list xs = stamped agflCrcAt (writeFields (agflFields (length xs) seqno uuid first list) xs)

@@ -3,8 +3,8 @@
 use mathlib.Core.List.{List, [], _∷_, _++_}
 use Prim.Native.Nat.{ℕ}
 use lib.ListN.{replicate}
-use Rattle.endian.specs.Bytes.{runBytes}
-use Rattle.endian.specs.Fields.{Field, field, run, write}
+use Rattle.endian.specs.Bytes.{numbersBytes}
+use Rattle.endian.specs.Fields.{Field, field, byteRun, writeFields}
 use Rattle.crc.specs.Crc.{stamped}
 use Rattle.structs.specs.Holds.{numbered}
 use Rattle.structs.specs.Written.{null32}
@@ -27,8 +27,8 @@ unlinkedBuckets = 64
 abbrev pub agiPrefix : List ℕ → List ℕ → List Field
 agiPrefix numbers uuid =
     numbered 4 0 numbers
-    ++ (run 40 (runBytes 4 (replicate unlinkedBuckets null32))  -- agi_unlinked
-    ∷ run 296 uuid  -- agi_uuid
+    ++ (byteRun 40 (numbersBytes 4 (replicate unlinkedBuckets null32))  -- agi_unlinked
+    ∷ byteRun 296 uuid  -- agi_uuid
     ∷ [])
 
 unfoldable pub agiFields : Agi → List ℕ → List Field
@@ -43,8 +43,8 @@ agiFields a uuid =
     ∷ field 28 4 (a .freecount)  -- agi_freecount
     ∷ field 32 4 (a .newino)  -- agi_newino
     ∷ field 36 4 null32  -- agi_dirino
-    ∷ run 40 (runBytes 4 (replicate unlinkedBuckets null32))  -- agi_unlinked
-    ∷ run 296 uuid  -- agi_uuid
+    ∷ byteRun 40 (numbersBytes 4 (replicate unlinkedBuckets null32))  -- agi_unlinked
+    ∷ byteRun 296 uuid  -- agi_uuid
     ∷ field 320 8 0  -- agi_lsn
     ∷ field 328 4 (a .«free_root»)  -- agi_free_root
     ∷ field 332 4 (a .«free_level»)  -- agi_free_level
@@ -54,4 +54,4 @@ agiFields a uuid =
 
 -- the fields over the old bytes, and then the checksum
 unfoldable pub agiBytes : Agi → List ℕ → List ℕ → List ℕ
-agiBytes a uuid xs = stamped agiCrcAt (write (agiFields a uuid) xs)
+agiBytes a uuid xs = stamped agiCrcAt (writeFields (agiFields a uuid) xs)

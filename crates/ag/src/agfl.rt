@@ -3,8 +3,8 @@ ghost use mathlib.Core.Path.{_≡_};
 ghost use mathlib.Core.List.{[], _∷_};
 ghost use Prim.Native.Nat.{_≤_};
 ghost use lib.ListN.{length, take, replicate};
-ghost use Rattle.endian.specs.Bytes.{patch, runBytes};
-ghost use Rattle.endian.specs.Fields.{write};
+ghost use Rattle.endian.specs.Bytes.{patch, numbersBytes};
+ghost use Rattle.endian.specs.Fields.{writeFields};
 ghost use Rattle.structs.specs.Written.{null32};
 ghost use Rattle.structs.specs.Encoded.{Encoded};
 ghost use Rattle.ag.specs.Agfl.{agflCrcAt, placed, slotsOf, agflNumber, agflBytes, agflHeader};
@@ -32,7 +32,7 @@ pub mod off {
 // The first `count` blocks of `list` go into the slots of `sector`, the first into slot `first`, and around at the end.
 fn put_slots(sector: &mut [u8], first: u32, list: [u32; 64], count: usize)
     requires { ⌜ (count ≤ 64) × (512 ≤ length (now sector)) ⌝ }
-    ensures { λ _. ⌜ now (sector .exit) ≡ patch 36 (runBytes 4 (placed (slotsOf (length (now (sector .entry)))) first (take count list) (replicate (slotsOf (length (now (sector .entry)))) null32))) (now (sector .entry)) ⌝ }
+    ensures { λ _. ⌜ now (sector .exit) ≡ patch 36 (numbersBytes 4 (placed (slotsOf (length (now (sector .entry)))) first (take count list) (replicate (slotsOf (length (now (sector .entry)))) null32))) (now (sector .entry)) ⌝ }
 {
     let slots = (sector.len() - off::BNO) / 4;
     endian::put_same(sector, off::BNO, 4 * slots, 255);
@@ -46,7 +46,7 @@ fn put_slots(sector: &mut [u8], first: u32, list: [u32; 64], count: usize)
 
 fn put_header(sector: &mut [u8], seqno: u32, uuid: &[u8; 16])
     requires { ⌜ 512 ≤ length (now sector) ⌝ }
-    ensures { λ _. ⌜ (now (sector .exit) ≡ write (agflHeader seqno (now (uuid .entry))) (now (sector .entry))) × (length (now (uuid .entry)) ≡ 16) ⌝ }
+    ensures { λ _. ⌜ (now (sector .exit) ≡ writeFields (agflHeader seqno (now (uuid .entry))) (now (sector .entry))) × (length (now (uuid .entry)) ≡ 16) ⌝ }
 {
     let at: [usize; 6] = [off::MAGICNUM, 4, off::SEQNO, 4, off::LSN, 8];
     let v: [u64; 3] = [AGFL_MAGIC, seqno as u64, 0]; // agfl_magicnum, agfl_seqno, agfl_lsn

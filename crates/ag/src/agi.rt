@@ -3,7 +3,7 @@ ghost use mathlib.Core.Path.{_≡_};
 ghost use mathlib.Core.List.{[], _∷_};
 ghost use Prim.Native.Nat.{_≤_};
 ghost use lib.ListN.{length};
-ghost use Rattle.endian.specs.Fields.{write};
+ghost use Rattle.endian.specs.Fields.{writeFields};
 ghost use Rattle.structs.specs.Encoded.{Encoded};
 ghost use Rattle.ag.specs.Sector.{sectorNumber};
 ghost use Rattle.ag.specs.Agi.{agiCrcAt, agiPrefix, agiBytes};
@@ -45,7 +45,7 @@ pub struct Agi {
 // What stands before the checksum: numbers, lists of unlinked inodes, all empty, and UUID.
 fn put_prefix(sector: &mut [u8], prefix: [u32; 10], uuid: &[u8; 16])
     requires { ⌜ 512 ≤ length (now sector) ⌝ }
-    ensures { λ _. ⌜ (now (sector .exit) ≡ write (agiPrefix prefix (now (uuid .entry))) (now (sector .entry))) × (length (now (uuid .entry)) ≡ 16) ⌝ }
+    ensures { λ _. ⌜ (now (sector .exit) ≡ writeFields (agiPrefix prefix (now (uuid .entry))) (now (sector .entry))) × (length (now (uuid .entry)) ≡ 16) ⌝ }
 {
     endian::put32_run(sector, 0, &prefix);
     endian::put_same(sector, UNLINKED, 4 * UNLINKED_BUCKETS, 255); // agi_unlinked

@@ -10,7 +10,7 @@ mod output; // writing
 ghost use mathlib.Core.Path.{_≡_};
 ghost use Prim.Native.Nat.{_≤_};
 ghost use lib.ListN.{length};
-ghost use Rattle.list_apply.specs.Applying.{begun};
+ghost use Rattle.list_apply.specs.Applying.{applyingBegun};
 ghost use Rattle.list_apply_laws.specs.Turns.{Fed};
 use libc::SEEK_END;
 use libc::STDERR_FILENO;
@@ -153,7 +153,7 @@ fn take_turn(
 
 // All records, as far as the limit. A proved loop has to end, so it counts its turns down from a number that no list uses up.
 fn apply(fd: i32, extends: bool, limit: u64, ahead: &[u8], zeros: &[u8], buf: &mut [u8]) -> Progress
-    ensures { λ r. ⌜ Fed (length (now (buf .entry))) (begun limit) (r .applying) ⌝ }
+    ensures { λ r. ⌜ Fed (length (now (buf .entry))) (applyingBegun limit) (r .applying) ⌝ }
 {
     let mut p = Progress {
         applying: begin(limit),

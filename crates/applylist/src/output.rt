@@ -1,7 +1,7 @@
 // Writing to the file, each byte at its offset.
 ghost use Prim.Native.Nat.{_+_, _≤_};
 ghost use lib.ListN.{length};
-ghost use Rattle.list_read.specs.Records.{largest};
+ghost use Rattle.list_read.specs.Records.{largestOffset};
 use crate::DONE;
 use crate::FLUSH_FAILED;
 use crate::NOTHING_TAKEN;
@@ -41,7 +41,7 @@ fn why(got: isize) -> u8 {
 
 // One write of the first `n` bytes, behind the first `done`.
 fn put_rest(fd: i32, bytes: &[u8], done: usize, n: usize, at: u64) -> Put
-    requires { ⌜ (done ≤ n) × (n ≤ length (now bytes)) × (at + n ≤ largest) ⌝ }
+    requires { ⌜ (done ≤ n) × (n ≤ length (now bytes)) × (at + n ≤ largestOffset) ⌝ }
     ensures { λ r. ⌜ done + r .n ≤ n ⌝ }
 {
     let rest = &bytes[done..n];
@@ -54,7 +54,7 @@ fn put_rest(fd: i32, bytes: &[u8], done: usize, n: usize, at: u64) -> Put
 
 // The first `n` of the bytes, from the offset `at` on.
 fn put_first(fd: i32, bytes: &[u8], n: usize, at: u64) -> u8
-    requires { ⌜ (n ≤ length (now bytes)) × (at + n ≤ largest) ⌝ }
+    requires { ⌜ (n ≤ length (now bytes)) × (at + n ≤ largestOffset) ⌝ }
 {
     let mut done = 0;
     while done < n {
@@ -80,7 +80,7 @@ pub(crate) fn put_bytes(fd: i32, bytes: &[u8], n: usize, at: u64) -> u8 {
 
 // Where the first hole, or the next data, begins from the offset on: the largest number where no data follows, 0 where the call failed.
 fn next_place(fd: i32, at: u64, whence: i32) -> u64
-    requires { ⌜ at ≤ largest ⌝ }
+    requires { ⌜ at ≤ largestOffset ⌝ }
 {
     let found = libc::lseek(fd, at as i64, whence);
     if 0 <= found {

@@ -5,7 +5,7 @@ use mathlib.Core.List.{List, [], _∷_}
 use Prim.Native.Nat.{ℕ}
 use lib.ListN.{length, replicate, length-replicate}
 use Rattle.endian.specs.Bytes.{beBytes, patch}
-use Rattle.endian.specs.Fields.{Field, field, run, write, spans}
+use Rattle.endian.specs.Fields.{Field, field, byteRun, writeFields, spans}
 use Rattle.endian.proofs.Order.{any-order}
 use Rattle.crc.specs.Crc.{stamped}
 use Rattle.structs.specs.Written.{null32}
@@ -23,20 +23,20 @@ coded magic daddr agno uuid numrecs =
     ∷ field 16 8 daddr
     ∷ field 24 8 0
     ∷ field 48 4 agno
-    ∷ run 32 uuid
+    ∷ byteRun 32 uuid
     ∷ []
 
 pub header-written : (magic daddr agno : ℕ) (uuid : List ℕ) (numrecs : ℕ) (xs : List ℕ) → length uuid ≡ 16
-    → write (coded magic daddr agno uuid numrecs) xs ≡ write (leafHeader magic daddr agno uuid numrecs) xs
+    → writeFields (coded magic daddr agno uuid numrecs) xs ≡ writeFields (leafHeader magic daddr agno uuid numrecs) xs
 unfolding leafHeader beBytes
 header-written magic daddr agno uuid numrecs xs u =
     sym (any-order (spans (coded 0 0 0 (replicate 16 0) 0)) 52 tt (coded magic daddr agno uuid numrecs) (rw u refl) xs)
 
 -- zeros, header, records, checksum
 pub leaf-written : (magic daddr agno : ℕ) (uuid recs : List ℕ) (numrecs : ℕ) (xs ys zs ws vs : List ℕ) → ys ≡ patch 0 (replicate (length xs) 0) xs
-    → zs ≡ write (leafHeader magic daddr agno uuid numrecs) ys → ws ≡ patch 56 recs zs → vs ≡ stamped 52 ws → vs ≡ leafBytes magic daddr agno uuid recs numrecs (length xs)
+    → zs ≡ writeFields (leafHeader magic daddr agno uuid numrecs) ys → ws ≡ patch 56 recs zs → vs ≡ stamped 52 ws → vs ≡ leafBytes magic daddr agno uuid recs numrecs (length xs)
 unfolding leafBytes leafFields
 leaf-written magic daddr agno uuid recs numrecs xs ys zs ws vs a b c d =
     let h = leafHeader magic daddr agno uuid numrecs in
     let z : ys ≡ replicate (length xs) 0 = a ∙ patch-whole (replicate (length xs) 0) xs (length-replicate (length xs) 0) in
-    d ∙ ap (stamped 52) (c ∙ ap (patch 56 recs) (b ∙ ap (write h) z) ∙ sym (write-append h (run 56 recs ∷ []) (replicate (length xs) 0)))
+    d ∙ ap (stamped 52) (c ∙ ap (patch 56 recs) (b ∙ ap (writeFields h) z) ∙ sym (write-append h (byteRun 56 recs ∷ []) (replicate (length xs) 0)))

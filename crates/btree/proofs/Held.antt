@@ -23,9 +23,9 @@ use Rattle.btree.specs.declared.records.AllocRec.{AllocRec}
 use Rattle.btree.specs.declared.records.InobtRec.{InobtRec}
 use Rattle.btree.specs.declared.records.RmapRec.{RmapRec}
 use Rattle.btree.specs.Owners.{negative, negatives, owners}
-use Rattle.btree.specs.Records.{listed, allocFields, allocBytes, inobtFields, inobtBytes, rmapFields, rmapBytes}
+use Rattle.btree.specs.Records.{recordsBytes, allocFields, allocBytes, inobtFields, inobtBytes, rmapFields, rmapBytes}
 use Rattle.btree.specs.Leaf.{leafHeader, leafFields, leafBytes}
-use Rattle.btree.specs.Decode.{readRecords, each, allocOf, allocFits, inobtOf, inobtFits, rmapOf, rmapFits}
+use Rattle.btree.specs.Decode.{readRecords, each, allocOf, allocFits, inobtOf, inobtFits, rmapRecIn, rmapFits}
 use Rattle.btree.proofs.Laws.{noAlloc, noInobt, noRmap}
 
 -- ---- the owners: −3 to −8, in 64 bits
@@ -44,14 +44,14 @@ owners-signed k h =
 
 -- ---- records one after the other, over the record's type
 pub listed-back : {A : Type 0} (f : A → List ℕ) (n : ℕ) (g : List ℕ → A) (ok : A → Type 0) → ((r : A) → length (f r) ≡ n) → ((r : A) → ok r → g (f r) ≡ r)
-    → (rs : List A) (off : ℕ) (xs : List ℕ) → each ok rs → part off (n * length rs) xs ≡ listed f rs → readRecords g n (length rs) off xs ≡ rs
+    → (rs : List A) (off : ℕ) (xs : List ℕ) → each ok rs → part off (n * length rs) xs ≡ recordsBytes f rs → readRecords g n (length rs) off xs ≡ rs
 listed-back f n g ok size back [] off xs o e = refl
 listed-back f n g ok size back (r ∷ rs) off xs o e =
     let m = n * length rs in
     let s : n * suc (length rs) ≡ n + m = mul-suc n (length rs) ∙ add-comm m n in
-    let p : part off (n + m) xs ≡ f r ++ listed f rs = rw s at e in
-    let a : part off n xs ≡ f r = sym (part-take off n (n + m) xs (omega arith)) ∙ ap (take n) p ∙ take-at (f r) (listed f rs) n (size r) in
-    let d : part (off + n) m xs ≡ listed f rs = sym (part-drop off n m xs) ∙ ap (drop n) p ∙ drop-at (f r) (listed f rs) n (size r) in
+    let p : part off (n + m) xs ≡ f r ++ recordsBytes f rs = rw s at e in
+    let a : part off n xs ≡ f r = sym (part-take off n (n + m) xs (omega arith)) ∙ ap (take n) p ∙ take-at (f r) (recordsBytes f rs) n (size r) in
+    let d : part (off + n) m xs ≡ recordsBytes f rs = sym (part-drop off n m xs) ∙ ap (drop n) p ∙ drop-at (f r) (recordsBytes f rs) n (size r) in
     ap₂ (λ (x : _) (l : List _). x ∷ l) (ap g a ∙ back r (o .0)) (listed-back f n g ok size back rs (off + n) xs (o .1) d)
 
 -- ---- one record
@@ -90,8 +90,8 @@ rmap-holds : (r : RmapRec) → Holds (rmapFields r) (rmapBytes r)
 unfolding rmapBytes beBytes
 rmap-holds r = held (spans (rmapFields noRmap)) 24 tt (rmapFields r) refl (replicate 24 0) (lit≤ tt)
 
-pub rmap-back : (r : RmapRec) → rmapFits r → rmapOf (rmapBytes r) ≡ r
-unfolding rmapOf
+pub rmap-back : (r : RmapRec) → rmapFits r → rmapRecIn (rmapBytes r) ≡ r
+unfolding rmapRecIn
 rmap-back r b =
     let n = read-number (rmapFields r) (rmapBytes r) (rmap-holds r) in
     rw (n 0 0 4 (r .start) (lit< tt) refl (b .0), n 1 4 4 (r .count) (lit< tt) refl (b .1), n 2 8 8 (r .owner) (lit< tt) refl (b .2)) refl

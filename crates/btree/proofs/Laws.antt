@@ -18,7 +18,7 @@ use Rattle.structs.proofs.Reading.{patch-whole}
 use Rattle.btree.specs.declared.records.AllocRec.{AllocRec}
 use Rattle.btree.specs.declared.records.InobtRec.{InobtRec}
 use Rattle.btree.specs.declared.records.RmapRec.{RmapRec}
-use Rattle.btree.specs.Records.{listed, recsNumber, allocFields, allocBytes, inobtFields, inobtBytes, rmapFields, rmapBytes}
+use Rattle.btree.specs.Records.{recordsBytes, recsNumber, allocFields, allocBytes, inobtFields, inobtBytes, rmapFields, rmapBytes}
 
 -- ---- the number of a list
 pub no-multiple : (size count len : ℕ) → 0 < size → (len / size ≡ count → ⊥) → len ≡ size * count → ⊥
@@ -33,17 +33,17 @@ multiple size count len d m =
 
 -- ---- a turn of the loop, which goes from the last record to the first
 module _ {A : Type 0} (f : A → List ℕ) (n : ℕ) (size : (a : A) → length (f a) ≡ n) where
-  pub length-listed : (rs : List A) → length (listed f rs) ≡ n * length rs
+  pub length-listed : (rs : List A) → length (recordsBytes f rs) ≡ n * length rs
   length-listed [] = sym (mul-zero n)
-  length-listed (r ∷ rs) = length-append (f r) (listed f rs) ∙ ap (λ (k : ℕ). length (f r) + k) (length-listed rs) ∙ ap (λ (k : ℕ). k + n * length rs) (size r)
+  length-listed (r ∷ rs) = length-append (f r) (recordsBytes f rs) ∙ ap (λ (k : ℕ). length (f r) + k) (length-listed rs) ∙ ap (λ (k : ℕ). k + n * length rs) (size r)
       ∙ add-comm n (n * length rs) ∙ sym (mul-suc n (length rs))
 
   module _ (d : A) (recs : List A) (count : ℕ) (few : count ≤ length recs) where
     within : length (take count recs) ≡ count
     within = length-take-le count recs few
 
-    pub record-turn : (i : ℕ) (xs ys zs : List ℕ) → 0 < i → i ≤ count → ys ≡ patch (n * i) (listed f (drop i (take count recs))) xs
-        → zs ≡ patch (n * (i - 1)) (f (getD recs (i - 1) d)) ys → zs ≡ patch (n * (i - 1)) (listed f (drop (i - 1) (take count recs))) xs
+    pub record-turn : (i : ℕ) (xs ys zs : List ℕ) → 0 < i → i ≤ count → ys ≡ patch (n * i) (recordsBytes f (drop i (take count recs))) xs
+        → zs ≡ patch (n * (i - 1)) (f (getD recs (i - 1) d)) ys → zs ≡ patch (n * (i - 1)) (recordsBytes f (drop (i - 1) (take count recs))) xs
     record-turn i xs ys zs pos le e c =
         let r = getD recs (i - 1) d in
         let rs = take count recs in
@@ -52,21 +52,21 @@ module _ {A : Type 0} (f : A → List ℕ) (n : ℕ) (size : (a : A) → length 
         let m : n * i ≡ n * (i - 1) + length (f r) = ap (λ (k : ℕ). n * k) j ∙ mul-suc n (i - 1) ∙ ap (λ (k : ℕ). n * (i - 1) + k) (sym (size r)) in
         let h : drop (i - 1) rs ≡ r ∷ drop i rs =
         drop-cons rs (i - 1) d (rw within lt) ∙ ap (λ (x : A). x ∷ drop (suc (i - 1)) rs) (getD-take count recs (i - 1) d lt) ∙ ap (λ (k : ℕ). r ∷ drop k rs) (sym j) in
-        c ∙ ap (patch (n * (i - 1)) (f r)) (e ∙ ap (λ (k : ℕ). patch k (listed f (drop i rs)) xs) m)
-        ∙ sym (patch-append (n * (i - 1)) (f r) (listed f (drop i rs)) xs)
-        ∙ ap (λ (l : List A). patch (n * (i - 1)) (listed f l) xs) (sym h)
+        c ∙ ap (patch (n * (i - 1)) (f r)) (e ∙ ap (λ (k : ℕ). patch k (recordsBytes f (drop i rs)) xs) m)
+        ∙ sym (patch-append (n * (i - 1)) (f r) (recordsBytes f (drop i rs)) xs)
+        ∙ ap (λ (l : List A). patch (n * (i - 1)) (recordsBytes f l) xs) (sym h)
 
     -- where the loop begins nothing is written, and where it ends everything is
-    pub record-none : (xs : List ℕ) → xs ≡ patch (n * count) (listed f (drop count (take count recs))) xs
+    pub record-none : (xs : List ℕ) → xs ≡ patch (n * count) (recordsBytes f (drop count (take count recs))) xs
     unfolding patch
-    record-none xs = sym (ap (λ (l : List A). patch (n * count) (listed f l) xs) (drop-of-length-le (take count recs) (let g : length (take count recs) ≤ count = omega (arith, within) in g)))
+    record-none xs = sym (ap (λ (l : List A). patch (n * count) (recordsBytes f l) xs) (drop-of-length-le (take count recs) (let g : length (take count recs) ≤ count = omega (arith, within) in g)))
 
-    pub record-all : (i : ℕ) (xs ys : List ℕ) → i ≤ 0 → length xs ≡ n * count → ys ≡ patch (n * i) (listed f (drop i (take count recs))) xs
-        → ys ≡ listed f (take count recs)
+    pub record-all : (i : ℕ) (xs ys : List ℕ) → i ≤ 0 → length xs ≡ n * count → ys ≡ patch (n * i) (recordsBytes f (drop i (take count recs))) xs
+        → ys ≡ recordsBytes f (take count recs)
     record-all i xs ys z l e =
         let o : i ≡ 0 = omega arith in
-        e ∙ ap (λ (k : ℕ). patch (n * k) (listed f (drop k (take count recs))) xs) o ∙ ap (λ (k : ℕ). patch k (listed f (take count recs)) xs) (mul-zero n)
-        ∙ patch-whole (listed f (take count recs)) xs (length-listed (take count recs) ∙ ap (λ (k : ℕ). n * k) within ∙ sym l)
+        e ∙ ap (λ (k : ℕ). patch (n * k) (recordsBytes f (drop k (take count recs))) xs) o ∙ ap (λ (k : ℕ). patch k (recordsBytes f (take count recs)) xs) (mul-zero n)
+        ∙ patch-whole (recordsBytes f (take count recs)) xs (length-listed (take count recs) ∙ ap (λ (k : ℕ). n * k) within ∙ sym l)
 
   pub fits-turn : (i count : ℕ) (xs ys : List ℕ) → 0 < i → i ≤ count → length xs ≡ n * count → length ys ≡ length xs → n * (i - 1) + n ≤ length ys
   fits-turn i count xs ys pos le l k =

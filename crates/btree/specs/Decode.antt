@@ -24,8 +24,8 @@ allocOf xs = record { start = beAt 4 0 xs; count = beAt 4 4 xs }
 unfoldable pub inobtOf : List ℕ → InobtRec
 inobtOf xs = record { startino = beAt 4 0 xs; holemask = beAt 2 4 xs; count = beAt 1 6 xs; freecount = beAt 1 7 xs; free = beAt 8 8 xs }
 
-unfoldable pub rmapOf : List ℕ → RmapRec
-rmapOf xs = record { start = beAt 4 0 xs; count = beAt 4 4 xs; owner = beAt 8 8 xs }
+unfoldable pub rmapRecIn : List ℕ → RmapRec
+rmapRecIn xs = record { start = beAt 4 0 xs; count = beAt 4 4 xs; owner = beAt 8 8 xs }
 
 -- the numbers have the bits of their fields
 abbrev pub allocFits : AllocRec → Type 0

@@ -6,7 +6,7 @@ use Prim.Native.Nat.{ℕ, _*_}
 use lib.Dec.{leb, eqb}
 use lib.ListN.{replicate}
 use Rattle.refusals.specs.Numbers.{wrongLength, tooManyRecords}
-use Rattle.endian.specs.Fields.{Field, field, write}
+use Rattle.endian.specs.Fields.{Field, field, writeFields}
 use Rattle.structs.specs.Written.{require}
 use Rattle.btree.specs.declared.records.AllocRec.{AllocRec}
 use Rattle.btree.specs.declared.records.InobtRec.{InobtRec}
@@ -27,9 +27,9 @@ unfoldable pub recsNumber : ℕ → ℕ → ℕ → ℕ
 recsNumber size count len = require wrongLength (eqb len (size * count)) (require tooManyRecords (leb count 64) 0)
 
 -- the bytes of the records, one after the other
-abbrev pub listed : {A : Type 0} → (A → List ℕ) → List A → List ℕ
-listed f [] = []
-listed f (r ∷ rs) = f r ++ listed f rs
+abbrev pub recordsBytes : {A : Type 0} → (A → List ℕ) → List A → List ℕ
+recordsBytes f [] = []
+recordsBytes f (r ∷ rs) = f r ++ recordsBytes f rs
 
 -- `struct xfs_alloc_rec`
 abbrev pub allocFields : AllocRec → List Field
@@ -39,7 +39,7 @@ allocFields r =
     ∷ []
 
 unfoldable pub allocBytes : AllocRec → List ℕ
-allocBytes r = write (allocFields r) (replicate allocSize 0)
+allocBytes r = writeFields (allocFields r) (replicate allocSize 0)
 
 -- `struct xfs_inobt_rec`: sparse, or with a full free count
 abbrev pub inobtFields : Bool → InobtRec → List Field
@@ -57,7 +57,7 @@ inobtFields false r =
     ∷ []
 
 unfoldable pub inobtBytes : Bool → InobtRec → List ℕ
-inobtBytes sparse r = write (inobtFields sparse r) (replicate inobtSize 0)
+inobtBytes sparse r = writeFields (inobtFields sparse r) (replicate inobtSize 0)
 
 -- `struct xfs_rmap_rec`
 abbrev pub rmapFields : RmapRec → List Field
@@ -69,4 +69,4 @@ rmapFields r =
     ∷ []
 
 unfoldable pub rmapBytes : RmapRec → List ℕ
-rmapBytes r = write (rmapFields r) (replicate rmapSize 0)
+rmapBytes r = writeFields (rmapFields r) (replicate rmapSize 0)

@@ -3,7 +3,7 @@ ghost use mathlib.Core.Path.{_≡_};
 ghost use mathlib.Core.List.{[], _∷_};
 ghost use Prim.Native.Nat.{_+_, _≤_};
 ghost use lib.ListN.{length};
-ghost use Rattle.endian.specs.Fields.{write};
+ghost use Rattle.endian.specs.Fields.{writeFields};
 ghost use Rattle.structs.specs.Encoded.{Encoded};
 ghost use Rattle.btree.specs.Leaf.{leafCrcAt, leafNumber, leafHeader, leafBytes};
 use crc::Stamped;
@@ -36,7 +36,7 @@ pub mod off {
 
 fn put_header(magic: u32, daddr: u64, agno: u32, uuid: &[u8; 16], numrecs: u16, block: &mut [u8])
     requires { ⌜ 1024 ≤ length (now block) ⌝ }
-    ensures { λ _. ⌜ now (block .exit) ≡ write (leafHeader magic daddr agno (now (uuid .entry)) numrecs) (now (block .entry)) ⌝ }
+    ensures { λ _. ⌜ now (block .exit) ≡ writeFields (leafHeader magic daddr agno (now (uuid .entry)) numrecs) (now (block .entry)) ⌝ }
 {
     let at: [usize; 16] = [
         off::MAGIC,

@@ -5,7 +5,7 @@ ghost use Prim.Native.Nat.{_+_, _≤_, _<_};
 ghost use lib.ListN.{length, take};
 ghost use Rattle.endian.specs.Bytes.{patch};
 ghost use Rattle.structs.specs.Written.{Written};
-ghost use Rattle.btree.specs.Records.{listed, recsNumber, allocBytes, inobtBytes, rmapBytes};
+ghost use Rattle.btree.specs.Records.{recordsBytes, recsNumber, allocBytes, inobtBytes, rmapBytes};
 use btree::AllocRec;
 use btree::InobtRec;
 use btree::RmapRec;
@@ -41,7 +41,7 @@ fn put_alloc(out: &mut [u8], o: usize, r: AllocRec)
 
 // The Rust's alloc_recs over an array of 64 (crate btree_slices has it over a lent slice): the first `count` free extents. 27 unless `out` is as long as they need, 34 above 64.
 pub fn alloc_recs_64(recs: [AllocRec; 64], count: usize, out: &mut [u8]) -> u32
-    ensures { λ r. ⌜ Written (recsNumber 8 count (length (now (out .entry)))) (listed allocBytes (take count recs)) (now (out .entry)) r (now (out .exit)) ⌝ }
+    ensures { λ r. ⌜ Written (recsNumber 8 count (length (now (out .entry)))) (recordsBytes allocBytes (take count recs)) (now (out .entry)) r (now (out .exit)) ⌝ }
 {
     let refusal = number(ALLOC_REC, count, out.len());
     if refusal != 0 {
@@ -88,7 +88,7 @@ fn put_inobt(out: &mut [u8], o: usize, sparse: bool, r: InobtRec)
 
 // The Rust's inobt_recs: the first `count` inode chunks; without sparse inodes the free count is a 32-bit number in the place of holes, count and free count.
 pub fn inobt_recs_64(recs: [InobtRec; 64], count: usize, sparse: bool, out: &mut [u8]) -> u32
-    ensures { λ r. ⌜ Written (recsNumber 16 count (length (now (out .entry)))) (listed (inobtBytes sparse) (take count recs)) (now (out .entry)) r (now (out .exit)) ⌝ }
+    ensures { λ r. ⌜ Written (recsNumber 16 count (length (now (out .entry)))) (recordsBytes (inobtBytes sparse) (take count recs)) (now (out .entry)) r (now (out .exit)) ⌝ }
 {
     let refusal = number(INOBT_REC, count, out.len());
     if refusal != 0 {
@@ -114,7 +114,7 @@ fn put_rmap(out: &mut [u8], o: usize, r: RmapRec)
 
 // The Rust's rmap_recs over an array of 64: the first `count` reverse mappings.
 pub fn rmap_recs_64(recs: [RmapRec; 64], count: usize, out: &mut [u8]) -> u32
-    ensures { λ r. ⌜ Written (recsNumber 24 count (length (now (out .entry)))) (listed rmapBytes (take count recs)) (now (out .entry)) r (now (out .exit)) ⌝ }
+    ensures { λ r. ⌜ Written (recsNumber 24 count (length (now (out .entry)))) (recordsBytes rmapBytes (take count recs)) (now (out .entry)) r (now (out .exit)) ⌝ }
 {
     let refusal = number(RMAP_REC, count, out.len());
     if refusal != 0 {

@@ -14,7 +14,7 @@ use Rattle.endian.specs.Answer.{chosen}
 use Rattle.endian.specs.Bytes.{patch}
 use Rattle.endian.proofs.Laws.{length-patch}
 use Rattle.structs.specs.Written.{Written}
-use Rattle.btree.specs.Records.{listed, recsNumber}
+use Rattle.btree.specs.Records.{recordsBytes, recsNumber}
 use Rattle.btree.proofs.Laws.{accepted, record-turn, record-none, record-all}
 use Rattle.btree_slices.specs.Slices.{countWhere, turnsFor}
 
@@ -36,7 +36,7 @@ module _ {A : Type 0} (f : A → List ℕ) (n : ℕ) (size : (a : A) → length 
 
   -- the buffer where those from the `i`-th on are written
   abbrev pub left : ℕ → List ℕ
-  left i = patch (n * i) (listed f (drop i (take many recs))) xs
+  left i = patch (n * i) (recordsBytes f (drop i (take many recs))) xs
 
   few : many ≤ length recs
   unfolding turnsFor
@@ -51,7 +51,7 @@ module _ {A : Type 0} (f : A → List ℕ) (n : ℕ) (size : (a : A) → length 
   room = room-where (eqb answer 0) refl
 
   pub left-length : (i : ℕ) → length (left i) ≡ length xs
-  left-length i = length-patch (n * i) (listed f (drop i (take many recs))) xs
+  left-length i = length-patch (n * i) (recordsBytes f (drop i (take many recs))) xs
 
   pub left-start : xs ≡ left many
   left-start = record-none f n size d recs many few xs
@@ -73,13 +73,13 @@ module _ {A : Type 0} (f : A → List ℕ) (n : ℕ) (size : (a : A) → length 
       ∙ ap left j
 
   -- where no record is left the contract holds
-  end-where : (b : Bool) → eqb answer 0 ≡ b → patch (n * 0) (listed f (drop 0 (take (countWhere b (length recs)) recs))) xs ≡ chosen b (listed f recs) xs
+  end-where : (b : Bool) → eqb answer 0 ≡ b → patch (n * 0) (recordsBytes f (drop 0 (take (countWhere b (length recs)) recs))) xs ≡ chosen b (recordsBytes f recs) xs
   unfolding patch
   end-where true e =
       record-all f n size d recs (length recs) (le-refl (length recs)) 0 xs _ (le-refl 0) (accepted n (length recs) (length xs) (eqb-true answer 0 e) .0) refl
-      ∙ ap (listed f) (take-length recs)
+      ∙ ap (recordsBytes f) (take-length recs)
   end-where false e = refl
 
-  pub left-end : Written answer (listed f recs) xs answer (left 0)
+  pub left-end : Written answer (recordsBytes f recs) xs answer (left 0)
   unfolding turnsFor
   left-end = record { number = refl; bytes = end-where (eqb answer 0) refl }

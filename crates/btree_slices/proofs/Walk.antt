@@ -54,7 +54,7 @@ use Rattle.btree_slices.proofs.Laws as laws
 use Rattle.btree_slices.proofs.Again.{LentAgain, lends-again, comes-back}
 use Rattle.btree_slices.proofs.number as number
 use Rattle.btree_slices.proofs.turns as turns
-use Rattle.btree.specs.Records.{listed, recsNumber}
+use Rattle.btree.specs.Records.{recordsBytes, recsNumber}
 use Rattle.structs.specs.Written.{Written}
 
 -- R is the record's type and τ how MIR spells it; `f` gives a record's bytes, `size` of them, and `d` is any record. The names are those of the callees.
@@ -132,7 +132,7 @@ module _ (R : RattleType) (τ : Ty) (f : R .Denot → List ℕ) (size : ℕ) (f-
   PutClauses 𝓤 κs a = record { ghost = Unit {0}; requires = λ _. fact 𝓤 (size * a .1 .0 + size ≤ length (now (a .0))); ensures = λ _ r e. fact 𝓤 (now (e .0) ≡ patch (size * a .1 .0) (f (a .1 .1 .0)) (now (a .0))) }
 
   abbrev pub RecsClauses : {M : Type 1} (𝓤 : URA M) → Clauses 𝓤 recsEnded
-  RecsClauses 𝓤 κs a = record { ghost = Unit {0}; requires = λ _. emp 𝓤; ensures = λ _ r e. fact 𝓤 (Written (recsNumber size (length (now (a .0))) (length (now (a .1 .0)))) (listed f (now (a .0))) (now (a .1 .0)) r (now (e .1 .0))) }
+  RecsClauses 𝓤 κs a = record { ghost = Unit {0}; requires = λ _. emp 𝓤; ensures = λ _ r e. fact 𝓤 (Written (recsNumber size (length (now (a .0))) (length (now (a .1 .0)))) (recordsBytes f (now (a .0))) (now (a .1 .0)) r (now (e .1 .0))) }
 
   abbrev stayed : Stays (recsEnded .signature .params) (recsEnded .kept)
   stayed = (stay-none-slice (0 ∷ []) tt (plain (λ _. R)) yes, (stay-slice (1 ∷ []) tt (plain (λ _. u8)), tt))

@@ -20,7 +20,7 @@ use Rattle.structs.proofs.Written.{written-in}
 use Rattle.structs.proofs.Encoded.{not-encoded, encoded}
 use Rattle.params.specs.declared.Features.{Features}
 use Rattle.params.specs.declared.Timestamp.{Timestamp}
-use Rattle.inode.specs.Dinode.{isBig, inside}
+use Rattle.inode.specs.Dinode.{isBig, timeStorable}
 use Rattle.inode_time.specs.Time.{timeInside, StoredAs}
 use Rattle.geometry.specs.declared.Geometry.{Geometry}
 use Rattle.geometry_answers.specs.Named.{isAnswer}
@@ -162,7 +162,7 @@ pub flags-big : (f : Features) → isBig (flagsOf f) ≡ f .bigtime
 unfolding flagsOf
 flags-big f = flags-at (f .bigtime) (f .nrext64)
 
-pub flags-inside : (f : Features) (time : Timestamp) → timeInside (f .bigtime) (time .secs) (time .nsecs) ≡ true → inside (flagsOf f) time ≡ true
+pub flags-inside : (f : Features) (time : Timestamp) → timeInside (f .bigtime) (time .secs) (time .nsecs) ≡ true → timeStorable (flagsOf f) time ≡ true
 flags-inside f time e = ap (λ (b : Bool). timeInside b (time .secs) (time .nsecs)) (flags-big f) ∙ e
 
 -- ---- what `root_chunk` answers

@@ -13,12 +13,12 @@ use lib.Seq.{take-at, length-take-le}
 use Rattle.structs.specs.Sizes.{isInode}
 use Rattle.structs.proofs.Lengths.{inode-least}
 use Rattle.inode.specs.declared.dinode.Dinode.{Dinode}
-use Rattle.inode.specs.Dinode.{isBig, inside, dinodeNumber, dinodeBytes}
+use Rattle.inode.specs.Dinode.{isBig, timeStorable, dinodeNumber, dinodeBytes}
 use Rattle.inode_time.specs.Time.{timeInside, notEarly, shifted}
 use Rattle.params.specs.declared.Timestamp.{Timestamp}
 use Rattle.endian.specs.Bytes.{patch}
 use Rattle.endian.proofs.Laws.{length-be}
-use Rattle.inode.specs.Directory.{header, emptyDir, EmptyDir}
+use Rattle.inode.specs.Directory.{directoryHeader, emptyDir, EmptyDir}
 use Rattle.inode.proofs.Core.{Fit, times-pass}
 use Rattle.chunk.specs.Inodes.{noTime, rootInode, fileInode}
 use Rattle.chunk.specs.Chunk.{rootOver}
@@ -33,7 +33,7 @@ never-refused d used size t h f =
 
 -- ---- the root directory
 
-header-most : (t : Bool) (parent : ℕ) → length (header t parent) ≤ 10
+header-most : (t : Bool) (parent : ℕ) → length (directoryHeader t parent) ≤ 10
 header-most true parent = omega (arith, length-be 4 parent)
 header-most false parent = omega (arith, length-be 8 parent)
 
@@ -54,7 +54,7 @@ module _ (parent len : ℕ) (bytes : List ℕ) (d : EmptyDir parent bytes len) w
   dir-length = sym (length-take-le len bytes dir-inside)
 
   module _ (flags2 size : ℕ) (time : Timestamp) (root : Dinode) (is : root ≡ rootInode parent flags2 time) where
-    pub root-accepted : isInode size ≡ true → inside flags2 time ≡ true → dinodeNumber root (length (take len bytes)) size ≡ 0
+    pub root-accepted : isInode size ≡ true → timeStorable flags2 time ≡ true → dinodeNumber root (length (take len bytes)) size ≡ 0
     root-accepted t f =
         ap (λ (x : Dinode). dinodeNumber x (length (take len bytes)) size) is
         ∙ never-refused (rootInode parent flags2 time) (length (take len bytes)) size t
@@ -72,11 +72,11 @@ zero-inside true = refl
 zero-inside false = refl
 
 -- the counter's first value can always be stored
-pub none-inside : (flags2 : ℕ) → inside flags2 noTime ≡ true
+pub none-inside : (flags2 : ℕ) → timeStorable flags2 noTime ≡ true
 none-inside flags2 = zero-inside (isBig flags2)
 
 module _ (ino flags flags2 generation : ℕ) (atime time : Timestamp) (d : Dinode) (is : d ≡ fileInode ino flags flags2 generation atime time) where
-  pub file-fit : inside flags2 atime ≡ true → inside flags2 time ≡ true → Fit (d .flags2) (d .atime) (d .mtime) (d .ctime) (d .crtime)
+  pub file-fit : timeStorable flags2 atime ≡ true → timeStorable flags2 time ≡ true → Fit (d .flags2) (d .atime) (d .mtime) (d .ctime) (d .crtime)
   file-fit f h =
       subst (λ (x : Dinode). Fit (x .flags2) (x .atime) (x .mtime) (x .ctime) (x .crtime)) (sym is)
       (record { a-fits = f; m-fits = h; c-fits = h; r-fits = h })

@@ -13,7 +13,7 @@ use Rattle.structs.specs.Encoded.{Encoded}
 use Rattle.params.specs.declared.Timestamp.{Timestamp}
 use Rattle.inode.specs.Dinode.{inodeCrcAt, dinodeBytes}
 use Rattle.inode.specs.Directory.{emptyDir}
-use Rattle.inode_time.specs.Time.{timeInside, accepted}
+use Rattle.inode_time.specs.Time.{timeInside, valueIf}
 use Rattle.geometry.specs.declared.Geometry.{Geometry}
 use Rattle.geometry_answers.specs.Named.{isAnswer}
 use Rattle.geometry_layout.specs.Places.{groupBlocks, inoOf, chunkOf}
@@ -90,4 +90,4 @@ chunkPlaces size = spaced inodeCrcAt size 64
 -- state after the draws, 0 beside a refusal.
 pub record ChunkMade (n next : ℕ) (sums new old : List ℕ) (number state : ℕ) (right : Bool) (left : List ℕ) : Type 0 where
   pub encoded : Encoded n sums new old number right left
-  pub state-is : state ≡ accepted (eqb n 0) next
+  pub state-is : state ≡ valueIf (eqb n 0) next

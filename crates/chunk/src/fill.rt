@@ -5,7 +5,7 @@ ghost use Prim.Native.Nat.{_+_, _*_, _^_, _≤_, _<_};
 ghost use lib.ListN.{length};
 ghost use Rattle.crc.specs.Right.{alreadyRight};
 ghost use Rattle.structs.specs.Sizes.{isInode};
-ghost use Rattle.inode.specs.Dinode.{inside};
+ghost use Rattle.inode.specs.Dinode.{timeStorable};
 ghost use Rattle.chunk.specs.Chunk.{summaryDraw, contents, chunkPlaces, DrawnAs};
 use crate::inodes::put_bitmap;
 use crate::inodes::put_root;
@@ -72,7 +72,7 @@ pub(crate) fn fill_chunk(
     seed: u64,
     buf: &mut [u8],
 ) -> Filled
-    requires { ⌜ (isInode size ≡ true) × (length (now buf) ≡ 64 * size) × (first + 64 < 2 ^ 64) × (inside flags2 time ≡ true) ⌝ }
+    requires { ⌜ (isInode size ≡ true) × (length (now buf) ≡ 64 * size) × (first + 64 < 2 ^ 64) × (timeStorable flags2 time ≡ true) ⌝ }
     ensures { λ r. ⌜ (r .right ≡ alreadyRight (chunkPlaces size) (now (buf .entry)) (contents first size flags2 time (now (uuid .entry)) seed)) × (r .state ≡ summaryDraw seed .state) × (now (buf .exit) ≡ contents first size flags2 time (now (uuid .entry)) seed) ⌝ }
 {
     let g = draw_three(seed);

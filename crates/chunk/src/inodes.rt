@@ -7,7 +7,7 @@ ghost use lib.ListN.{length};
 ghost use Rattle.endian.specs.Bytes.{patch};
 ghost use Rattle.endian.specs.Fields.{part};
 ghost use Rattle.structs.specs.Sizes.{isInode};
-ghost use Rattle.inode.specs.Dinode.{inside, dinodeBytes};
+ghost use Rattle.inode.specs.Dinode.{timeStorable, dinodeBytes};
 ghost use Rattle.inode.specs.Directory.{emptyDir};
 ghost use Rattle.inode.proofs.Core.{Fit};
 ghost use Rattle.chunk.specs.Inodes.{flagsOf, rootInode, fileInode};
@@ -94,7 +94,7 @@ pub(crate) fn put_root(
     size: usize,
     buf: &mut [u8],
 )
-    requires { ⌜ (isInode size ≡ true) × (length (now buf) ≡ 64 * size) × (inside flags2 time ≡ true) ⌝ }
+    requires { ⌜ (isInode size ≡ true) × (length (now buf) ≡ 64 * size) × (timeStorable flags2 time ≡ true) ⌝ }
     ensures { λ _. ⌜ now (buf .exit) ≡ patch (0 * size) (rootOver first flags2 time (now (uuid .entry)) (part (0 * size) size (now (buf .entry)))) (now (buf .entry)) ⌝ }
 {
     let dir = empty_sf_dir(first);
@@ -123,7 +123,7 @@ pub(crate) fn put_bitmap(
     size: usize,
     buf: &mut [u8],
 )
-    requires { ⌜ (isInode size ≡ true) × (length (now buf) ≡ 64 * size) × (first + 64 < 2 ^ 64) × (inside flags2 time ≡ true) ⌝ }
+    requires { ⌜ (isInode size ≡ true) × (length (now buf) ≡ 64 * size) × (first + 64 < 2 ^ 64) × (timeStorable flags2 time ≡ true) ⌝ }
     ensures { λ _. ⌜ now (buf .exit) ≡ patch (1 * size) (bitmapOver first flags2 generation time (now (uuid .entry)) (part (1 * size) size (now (buf .entry)))) (now (buf .entry)) ⌝ }
 {
     let none = Timestamp { secs: 0, nsecs: 0 };
@@ -141,7 +141,7 @@ pub(crate) fn put_summary(
     size: usize,
     buf: &mut [u8],
 )
-    requires { ⌜ (isInode size ≡ true) × (length (now buf) ≡ 64 * size) × (first + 64 < 2 ^ 64) × (inside flags2 time ≡ true) ⌝ }
+    requires { ⌜ (isInode size ≡ true) × (length (now buf) ≡ 64 * size) × (first + 64 < 2 ^ 64) × (timeStorable flags2 time ≡ true) ⌝ }
     ensures { λ _. ⌜ now (buf .exit) ≡ patch (2 * size) (summaryOver first flags2 generation time (now (uuid .entry)) (part (2 * size) size (now (buf .entry)))) (now (buf .entry)) ⌝ }
 {
     let d = file_inode(first + 2, 0, flags2, generation, time, time);

@@ -5,8 +5,8 @@ use lib.Bits.{bitXor}
 use Rattle.chunk_generation.specs.declared.Drawn.{Drawn}
 
 -- what each draw adds to the state, and the factors of its two products
-abbrev pub step : ℕ
-step = 0x9e37_79b9_7f4a_7c15
+abbrev pub stateStep : ℕ
+stateStep = 0x9e37_79b9_7f4a_7c15
 
 abbrev pub firstFactor : ℕ
 firstFactor = 0xbf58_476d_1ce4_e5b9
@@ -16,7 +16,7 @@ secondFactor = 0x94d0_49bb_1331_11eb
 
 -- the sum wraps
 unfoldable pub nextState : ℕ → ℕ
-nextState state = (state + step) % 2 ^ 64
+nextState state = (state + stateStep) % 2 ^ 64
 
 -- z, exclusive or z shifted to the right by n bits
 unfoldable pub folded : ℕ → ℕ → ℕ

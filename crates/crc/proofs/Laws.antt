@@ -11,7 +11,7 @@ use borrow.Author.Tests.{le-leb, lt-leb, eq-eqb, leb-true}
 use Rattle.endian.specs.Answer.{room, Put}
 use Rattle.endian.specs.Bytes.{patch}
 use Rattle.endian_little.specs.Bytes.{leBytes, leAt}
-use Rattle.endian.specs.Fields.{Field, Span, write, part, nth, spans, clear, tidy}
+use Rattle.endian.specs.Fields.{Field, Span, writeFields, part, nth, spans, clear, tidy}
 use Rattle.endian.proofs.Fields.{patch-before, patch-after, patch-clear, patch-same, read-field}
 use Rattle.endian.proofs.Laws.{length-patch}
 use Rattle.endian_little.proofs.Laws.{length-le, le-written}
@@ -79,10 +79,10 @@ stamped-verifies off xs h =
 -- ---- encoders
 -- A field of a structure that was encoded and stamped is read back. The two tests on the spans `ss` are computed.
 pub read-stamped : (ss : List Span) (m off : ℕ) → T (tidy m ss) → T (clear off 4 ss) → (fs : List Field) → spans fs ≡ ss → (xs : List ℕ) → m ≤ length xs
-    → (k : ℕ) → k < length fs → part (nth fs k .at) (length (nth fs k .bytes)) (stamped off (write fs xs)) ≡ nth fs k .bytes
+    → (k : ℕ) → k < length fs → part (nth fs k .at) (length (nth fs k .bytes)) (stamped off (writeFields fs xs)) ≡ nth fs k .bytes
 unfolding stamped
 read-stamped ss m off t u fs e xs l k h =
-    patch-clear fs off 4 _ (write fs xs) (subst (λ (s : List Span). T (clear off 4 s)) (sym e) u) (length-le 4 _) k h
+    patch-clear fs off 4 _ (writeFields fs xs) (subst (λ (s : List Span). T (clear off 4 s)) (sym e) u) (length-le 4 _) k h
     ∙ read-field ss m t fs e xs l k h
 
 -- the checksum that a stamped structure has

@@ -13,7 +13,7 @@ use lib.Seq.{length-take-le, ext-getD, getD-take, getD-drop}
 use borrow.Author.Tests.{le-leb, eq-eqb, eqb-true, leb-true}
 use Rattle.endian.specs.Answer.{room, valued, Put}
 use Rattle.endian.specs.Bytes.{patch}
-use Rattle.endian.specs.Fields.{Field, Span, write, part, spans, clear}
+use Rattle.endian.specs.Fields.{Field, Span, writeFields, part, spans, clear}
 use Rattle.endian.proofs.Fields.{write-clear, write-length}
 use Rattle.endian.proofs.Laws.{refused-by, done-by, put-in}
 use Rattle.endian_little.specs.Bytes.{leBytes, leAt}
@@ -37,11 +37,11 @@ pub stored-stamped : (off : ℕ) (xs : List ℕ) → off + 4 ≤ length xs → s
 stored-stamped off xs h = stored-in off (stamped off xs) (rw (length-stamped off xs) h) ∙ sum-stands off xs h
 
 -- fields that leave the checksum's place alone
-pub stored-kept : (fs : List Field) (off : ℕ) (xs : List ℕ) → T (clear off 4 (spans fs)) → storedAt off (write fs xs) ≡ storedAt off xs
+pub stored-kept : (fs : List Field) (off : ℕ) (xs : List ℕ) → T (clear off 4 (spans fs)) → storedAt off (writeFields fs xs) ≡ storedAt off xs
 unfolding storedAt
 stored-kept fs off xs t =
     rw (write-length fs xs)
-    (ap (valued (room (off + 4) xs)) (le-part 4 off (write fs xs) ∙ ap (leAt 4 0) (write-clear fs off 4 xs t) ∙ sym (le-part 4 off xs)))
+    (ap (valued (room (off + 4) xs)) (le-part 4 off (writeFields fs xs) ∙ ap (leAt 4 0) (write-clear fs off 4 xs t) ∙ sym (le-part 4 off xs)))
 
 -- ---- one place
 

@@ -14,20 +14,20 @@ abbrev pub oneByte : List ℕ → List ℕ
 oneByte xs = stamped 0 (patch 4 (1 ∷ []) xs)
 
 -- five bytes with a good checksum and `b` behind it
-abbrev pub good : ℕ → List ℕ
-good b = stamped 0 (0 ∷ 0 ∷ 0 ∷ 0 ∷ b ∷ [])
+abbrev pub goodBytes : ℕ → List ℕ
+goodBytes b = stamped 0 (0 ∷ 0 ∷ 0 ∷ 0 ∷ b ∷ [])
 
 -- the encoder's own bytes, but for the byte behind the checksum
 abbrev pub spoilt : List ℕ
-spoilt = patch 4 (9 ∷ []) (good 1)
+spoilt = patch 4 (9 ∷ []) (goodBytes 1)
 
 pub record Example : Type 0 where
   -- what it left, it finds right
-  pub again : alreadyRight (0 ∷ []) (good 1) (oneByte (good 1)) ≡ true
+  pub again : alreadyRight (0 ∷ []) (goodBytes 1) (oneByte (goodBytes 1)) ≡ true
   -- a yes, though another byte changes
   pub yes : alreadyRight (0 ∷ []) spoilt (oneByte spoilt) ≡ true
   pub was : getD spoilt 4 0 ≡ 9
   pub is : getD (oneByte spoilt) 4 0 ≡ 1
   -- a good checksum of other contents is no yes
-  pub verifies : verified 0 (good 2) ≡ true
-  pub no : alreadyRight (0 ∷ []) (good 2) (oneByte (good 2)) ≡ false
+  pub verifies : verified 0 (goodBytes 2) ≡ true
+  pub no : alreadyRight (0 ∷ []) (goodBytes 2) (oneByte (goodBytes 2)) ≡ false

@@ -11,16 +11,16 @@ abbrev upTo : ℕ → List ℕ → List ℕ
 upTo zero xs = xs
 upTo (suc n) xs = upTo n (n ∷ xs)
 
-abbrev pub rising : List ℕ
-rising = upTo 32 []
+abbrev pub risingBytes : List ℕ
+risingBytes = upTo 32 []
 
 -- the bytes 31 to 0
 abbrev downFrom : ℕ → List ℕ
 downFrom zero = []
 downFrom (suc n) = n ∷ downFrom n
 
-abbrev pub falling : List ℕ
-falling = downFrom 32
+abbrev pub fallingBytes : List ℕ
+fallingBytes = downFrom 32
 
 -- an iSCSI read command
 abbrev pub readCommand : List ℕ
@@ -32,6 +32,6 @@ readCommand =
 pub record Vectors : Type 0 where
   pub zeros : crc32cOf (replicate 32 0) ≡ 0x8a91_36aa
   pub ones : crc32cOf (replicate 32 0xff) ≡ 0x62a8_ab43
-  pub rising-bytes : crc32cOf rising ≡ 0x46dd_794e
-  pub falling-bytes : crc32cOf falling ≡ 0x113f_db5c
+  pub rising-bytes : crc32cOf risingBytes ≡ 0x46dd_794e
+  pub falling-bytes : crc32cOf fallingBytes ≡ 0x113f_db5c
   pub read-command : crc32cOf readCommand ≡ 0xd996_3a56

@@ -17,7 +17,7 @@ use lib.Bits.{bitXor, xor-shifted, xor-zero-r, xor-zero-l, xor-comm, xor-lt, bit
 use Rattle.crc_register.proofs.Xor.{by-digit, xor-assoc}
 use Rattle.crc_register.proofs.Register.{bits-sum, bits-in, byte-in, bytes-append, update-turn}
 use Rattle.crc_register.specs.Register.{polynomial, crcBit, crcBits, crcBytes, zeroed}
-use Rattle.crc_register.specs.Tables.{made, itself, bit, through, rows, row, byteTable, leapTable, zeroByte, sliceTable}
+use Rattle.crc_register.specs.Tables.{registerTable, itself, powerOfTwo, through, tablesMade, row, byteTable, leapTable, zeroByte, sliceTable}
 
 -- ---- bits after bits
 pub bits-add : (m n c : ℕ) → crcBits (m + n) c 0 ≡ crcBits n (crcBits m c 0) 0
@@ -74,19 +74,19 @@ peel m i x =
     ∙ ap (λ (k : ℕ). bitXor k (crcBits m (x / 2 * 2 ^ suc i) 0)) (digit-in m i (x % 2) (mod-lt x (lit< tt)))
 
 -- ---- tables
-pub made-at : (f : ℕ → ℕ) (m n i k : ℕ) → k < n → getD (made f m n i) k 0 ≡ crcBits m (f (i + k)) 0
-unfolding made
+pub made-at : (f : ℕ → ℕ) (m n i k : ℕ) → k < n → getD (registerTable f m n i) k 0 ≡ crcBits m (f (i + k)) 0
+unfolding registerTable
 made-at f m zero i k h = absurd (omega arith)
 made-at f m (suc n) i zero h = ap (λ (j : ℕ). crcBits m (f j) 0) (sym (add-zero i))
 made-at f m (suc n) i (suc k) h = made-at f m n (suc i) k (omega arith) ∙ ap (λ (j : ℕ). crcBits m (f j) 0) (let e : suc i + k ≡ i + suc k = omega arith in e)
 
-pub length-made : (f : ℕ → ℕ) (m n i : ℕ) → length (made f m n i) ≡ n
-unfolding made
+pub length-made : (f : ℕ → ℕ) (m n i : ℕ) → length (registerTable f m n i) ≡ n
+unfolding registerTable
 length-made f m zero i = refl
 length-made f m (suc n) i = ap suc (length-made f m n (suc i))
 
-pub through-made : (m n i x : ℕ) → x < 2 ^ n → through (made bit m n i) x ≡ crcBits m (x * 2 ^ i) 0
-unfolding made through
+pub through-made : (m n i x : ℕ) → x < 2 ^ n → through (registerTable powerOfTwo m n i) x ≡ crcBits m (x * 2 ^ i) 0
+unfolding registerTable through
 through-made m zero i x h =
     let e : x ≡ 0 = omega arith in
     sym (ap (λ (k : ℕ). crcBits m k 0) (ap (λ (k : ℕ). k * 2 ^ i) e ∙ zero-mul (2 ^ i)) ∙ bits-none m)
@@ -96,8 +96,8 @@ through-made m (suc n) i x h =
     ap (bitXor (crcBits m (2 ^ i) 0 * (x % 2))) (through-made m n (suc i) (x / 2) (omega (arith, l))) ∙ sym (peel m i x)
 
 -- the table of twice as many bits
-pub twice : (m n i : ℕ) → i + n ≤ 32 → map (through (made bit m 32 0)) (made bit m n i) ≡ made bit (m + m) n i
-unfolding made
+pub twice : (m n i : ℕ) → i + n ≤ 32 → map (through (registerTable powerOfTwo m 32 0)) (registerTable powerOfTwo m n i) ≡ registerTable powerOfTwo (m + m) n i
+unfolding registerTable
 twice m zero i h = refl
 twice m (suc n) i h =
     ap₂ (λ (x : ℕ) (xs : List ℕ). x ∷ xs)
@@ -105,37 +105,37 @@ twice m (suc n) i h =
     ∙ ap (λ (k : ℕ). crcBits m k 0) (mul-one (crcBits m (2 ^ i) 0)) ∙ sym (bits-add m m (2 ^ i)))
     (twice m n (suc i) (omega arith))
 
-pub row-leap : (k m : ℕ) → row through k (made bit m 32 0) ≡ made bit (m * 2 ^ k) 32 0
+pub row-leap : (k m : ℕ) → row through k (registerTable powerOfTwo m 32 0) ≡ registerTable powerOfTwo (m * 2 ^ k) 32 0
 unfolding row
-row-leap zero m = ap (λ (j : ℕ). made bit j 32 0) (sym (mul-one m))
+row-leap zero m = ap (λ (j : ℕ). registerTable powerOfTwo j 32 0) (sym (mul-one m))
 row-leap (suc k) m =
     ap (row through k) (twice m 32 0 (lit≤ tt)) ∙ row-leap k (m + m)
-    ∙ ap (λ (j : ℕ). made bit j 32 0) (let e : m + m ≡ m * 2 = omega arith in ap (λ (j : ℕ). j * 2 ^ k) e ∙ mul-assoc m 2 (2 ^ k) ∙ ap (λ (j : ℕ). m * j) (mul-comm 2 (2 ^ k) ∙ sym (pow-suc 2 k)))
+    ∙ ap (λ (j : ℕ). registerTable powerOfTwo j 32 0) (let e : m + m ≡ m * 2 = omega arith in ap (λ (j : ℕ). j * 2 ^ k) e ∙ mul-assoc m 2 (2 ^ k) ∙ ap (λ (j : ℕ). m * j) (mul-comm 2 (2 ^ k) ∙ sym (pow-suc 2 k)))
 
 -- a zero byte more
-pub longer : (m n i : ℕ) → map (zeroByte []) (made itself m n i) ≡ made itself (m + 8) n i
-unfolding made
+pub longer : (m n i : ℕ) → map (zeroByte []) (registerTable itself m n i) ≡ registerTable itself (m + 8) n i
+unfolding registerTable
 longer m zero i = refl
 longer m (suc n) i = ap₂ (λ (x : ℕ) (xs : List ℕ). x ∷ xs) (sym (bits-add m 8 i)) (longer m n (suc i))
 
-pub row-slice : (k m : ℕ) → row zeroByte k (made itself m 256 0) ≡ made itself (m + 8 * k) 256 0
+pub row-slice : (k m : ℕ) → row zeroByte k (registerTable itself m 256 0) ≡ registerTable itself (m + 8 * k) 256 0
 unfolding row
-row-slice zero m = ap (λ (j : ℕ). made itself j 256 0) (sym (add-zero m))
+row-slice zero m = ap (λ (j : ℕ). registerTable itself j 256 0) (sym (add-zero m))
 row-slice (suc k) m =
     ap (row zeroByte k) (longer m 256 0) ∙ row-slice k (m + 8)
-    ∙ ap (λ (j : ℕ). made itself j 256 0) (let e : m + 8 + 8 * k ≡ m + 8 * suc k = omega arith in e)
+    ∙ ap (λ (j : ℕ). registerTable itself j 256 0) (let e : m + 8 + 8 * k ≡ m + 8 * suc k = omega arith in e)
 
 -- the table at `k` of `n`, each of `w` entries
-pub in-row : (g : List ℕ → ℕ → ℕ) (w n k i : ℕ) (t : List ℕ) → length t ≡ w → k < n → i < w → getD (rows g n t) (k * w + i) 0 ≡ getD (row g k t) i 0
-unfolding rows row
+pub in-row : (g : List ℕ → ℕ → ℕ) (w n k i : ℕ) (t : List ℕ) → length t ≡ w → k < n → i < w → getD (tablesMade g n t) (k * w + i) 0 ≡ getD (row g k t) i 0
+unfolding tablesMade row
 in-row g w zero k i t e h l = absurd (omega arith)
 in-row g w (suc n) zero i t e h l =
-    ap (λ (j : ℕ). getD (t ++ rows g n (map (g t) t)) j 0) (ap (λ (j : ℕ). j + i) (zero-mul w) ∙ zero-add i)
-    ∙ List·getD-append t (rows g n (map (g t) t)) 0 i (let h : i < length t = rw e l in h)
+    ap (λ (j : ℕ). getD (t ++ tablesMade g n (map (g t) t)) j 0) (ap (λ (j : ℕ). j + i) (zero-mul w) ∙ zero-add i)
+    ∙ List·getD-append t (tablesMade g n (map (g t) t)) 0 i (let h : i < length t = rw e l in h)
 in-row g w (suc n) (suc k) i t e h l =
-    ap (λ (j : ℕ). getD (t ++ rows g n (map (g t) t)) j 0)
+    ap (λ (j : ℕ). getD (t ++ tablesMade g n (map (g t) t)) j 0)
     (ap (λ (j : ℕ). j + i) (suc-mul k w) ∙ (let d : k * w + w + i ≡ w + (k * w + i) = omega arith in d) ∙ ap (λ (j : ℕ). j + (k * w + i)) (sym e))
-    ∙ getD-append-add t (rows g n (map (g t) t)) (k * w + i) 0
+    ∙ getD-append-add t (tablesMade g n (map (g t) t)) (k * w + i) 0
     ∙ in-row g w n k i (map (g t) t) (length-map t (g t) ∙ e) (omega arith) l
 
 -- ---- what the functions' tables hold
@@ -146,14 +146,14 @@ byte-at i h = made-at itself 8 256 0 i h ∙ ap (λ (j : ℕ). crcBits 8 j 0) (z
 pub leap-at : (k i : ℕ) → k < 9 → i < 32 → getD leapTable (k * 32 + i) 0 ≡ crcBits (512 * 2 ^ k) (2 ^ i) 0
 unfolding leapTable
 leap-at k i h l =
-    in-row through 32 9 k i (made bit 512 32 0) (length-made bit 512 32 0) h l
-    ∙ ap (λ (t : List ℕ). getD t i 0) (row-leap k 512) ∙ made-at bit (512 * 2 ^ k) 32 0 i l
+    in-row through 32 9 k i (registerTable powerOfTwo 512 32 0) (length-made powerOfTwo 512 32 0) h l
+    ∙ ap (λ (t : List ℕ). getD t i 0) (row-leap k 512) ∙ made-at powerOfTwo (512 * 2 ^ k) 32 0 i l
     ∙ ap (λ (j : ℕ). crcBits (512 * 2 ^ k) (2 ^ j) 0) (zero-add i)
 
 pub slice-at : (k i : ℕ) → k < 8 → i < 256 → getD sliceTable (k * 256 + i) 0 ≡ crcBits (8 + 8 * k) i 0
 unfolding sliceTable
 slice-at k i h l =
-    in-row zeroByte 256 8 k i (made itself 8 256 0) (length-made itself 8 256 0) h l
+    in-row zeroByte 256 8 k i (registerTable itself 8 256 0) (length-made itself 8 256 0) h l
     ∙ ap (λ (t : List ℕ). getD t i 0) (row-slice k 8) ∙ made-at itself (8 + 8 * k) 256 0 i l
     ∙ ap (λ (j : ℕ). crcBits (8 + 8 * k) j 0) (zero-add i)
 

@@ -14,7 +14,7 @@ use Rattle.crc_register.proofs.Xor.{xor-assoc}
 use Rattle.crc_register.proofs.Register.{bits-sum, bits-in, bits-high, byte-in}
 use Rattle.crc_register.specs.Register.{crcBit, crcBits, crcBytes}
 use Rattle.endian_little.specs.Bytes.{leAt}
-use Rattle.crc_register.specs.Tables.{made, itself, rows, zeroByte, sliceTable}
+use Rattle.crc_register.specs.Tables.{registerTable, itself, tablesMade, zeroByte, sliceTable}
 use Rattle.crc_register.proofs.Linear.{bits-add, bits-none, slice-at}
 
 -- the low byte, and the rest, moved

@@ -7,7 +7,7 @@ use native.Mathlib.Omega.{arith}
 use native.Mathlib.Nat.{mul-suc, add-comm}
 use lib.ListN.{length, take, drop, getD}
 use lib.Seq.{take-at, drop-at, take-take, drop-drop}
-use Rattle.endian.specs.Bytes.{beBytes, beAt, runBytes}
+use Rattle.endian.specs.Bytes.{beBytes, beAt, numbersBytes}
 use Rattle.endian.specs.Fields.{part}
 use Rattle.endian.proofs.Laws.{length-be}
 use Rattle.endian.proofs.Fields.{at-written, at-part}
@@ -42,15 +42,15 @@ at-inside n base size off xs h =
     at-part n off (part base size xs) ∙ ap (beAt n 0) (part-part base size off n xs h) ∙ sym (at-part n (base + off) xs)
 
 -- a run of numbers that was written is read back
-pub run-back : (n : ℕ) (vs : List ℕ) (off : ℕ) (xs : List ℕ) → below (256 ^ n) vs → part off (n * length vs) xs ≡ runBytes n vs → numbersAt n (length vs) off xs ≡ vs
-unfolding numbersAt runBytes
+pub run-back : (n : ℕ) (vs : List ℕ) (off : ℕ) (xs : List ℕ) → below (256 ^ n) vs → part off (n * length vs) xs ≡ numbersBytes n vs → numbersAt n (length vs) off xs ≡ vs
+unfolding numbersAt numbersBytes
 run-back n [] off xs b e = refl
 run-back n (v ∷ vs) off xs b e =
     let m = n * length vs in
     let s : n * suc (length vs) ≡ n + m = mul-suc n (length vs) ∙ add-comm m n in
-    let p : part off (n + m) xs ≡ beBytes n v ++ runBytes n vs = rw s at e in
+    let p : part off (n + m) xs ≡ beBytes n v ++ numbersBytes n vs = rw s at e in
     let a : part off n xs ≡ beBytes n v =
-    sym (part-take off n (n + m) xs (omega arith)) ∙ ap (take n) p ∙ take-at (beBytes n v) (runBytes n vs) n (length-be n v) in
-    let d : part (off + n) m xs ≡ runBytes n vs =
-    sym (part-drop off n m xs) ∙ ap (drop n) p ∙ drop-at (beBytes n v) (runBytes n vs) n (length-be n v) in
+    sym (part-take off n (n + m) xs (omega arith)) ∙ ap (take n) p ∙ take-at (beBytes n v) (numbersBytes n vs) n (length-be n v) in
+    let d : part (off + n) m xs ≡ numbersBytes n vs =
+    sym (part-drop off n m xs) ∙ ap (drop n) p ∙ drop-at (beBytes n v) (numbersBytes n vs) n (length-be n v) in
     ap₂ (λ (x : ℕ) (l : List ℕ). x ∷ l) (at-written n v off xs (b .0) a) (run-back n vs (off + n) xs (b .1) d)

@@ -12,7 +12,7 @@ use lib.Dec.{T, leb, leb→le, lit<}
 use lib.ListN.{length, getD, set, length-set, drop, take, length-take}
 use lib.Seq.{drop-at, take-at, length-take-le, drop-set-lt, drop-set-add, take-set-le, getD-take, getD-drop}
 use Rattle.endian.specs.Bytes.{beBytes, patch, beAt}
-use Rattle.endian.specs.Fields.{Field, Span, write, part, nth, spans, clear, tidy}
+use Rattle.endian.specs.Fields.{Field, Span, writeFields, part, nth, spans, clear, tidy}
 use Rattle.endian.proofs.Laws.{patch-split, length-patch}
 
 -- ---- a store, and a run of stores, elsewhere
@@ -56,11 +56,11 @@ either P true b t f g = f tt
 either P false b t f g = g t
 
 -- ---- the law
-pub write-length : (fs : List Field) (xs : List ℕ) → length (write fs xs) ≡ length xs
+pub write-length : (fs : List Field) (xs : List ℕ) → length (writeFields fs xs) ≡ length xs
 write-length [] xs = refl
 write-length (f ∷ fs) xs = write-length fs (patch (f .at) (f .bytes) xs) ∙ length-patch (f .at) (f .bytes) xs
 
-pub write-clear : (fs : List Field) (off n : ℕ) (xs : List ℕ) → T (clear off n (spans fs)) → part off n (write fs xs) ≡ part off n xs
+pub write-clear : (fs : List Field) (off n : ℕ) (xs : List ℕ) → T (clear off n (spans fs)) → part off n (writeFields fs xs) ≡ part off n xs
 write-clear [] off n xs t = refl
 write-clear (f ∷ fs) off n xs t =
     let o = f .at in
@@ -71,7 +71,7 @@ write-clear (f ∷ fs) off n xs t =
     (λ b. patch-before off n o (f .bytes) xs (leb→le (o + m) off b))
 
 read-tidy : (fs : List Field) (m : ℕ) (xs : List ℕ) → m ≤ length xs → T (tidy m (spans fs)) → (k : ℕ) → k < length fs
-    → part (nth fs k .at) (length (nth fs k .bytes)) (write fs xs) ≡ nth fs k .bytes
+    → part (nth fs k .at) (length (nth fs k .bytes)) (writeFields fs xs) ≡ nth fs k .bytes
 read-tidy [] m xs l t k h = absurd (omega arith)
 read-tidy (f ∷ fs) m xs l t zero h =
     let o = f .at in
@@ -89,7 +89,7 @@ read-tidy (f ∷ fs) m xs l t (suc k) h =
 
 -- the fields `fs` stand as `ss` says, and a test that antt computes says that `ss` is tidy
 pub read-field : (ss : List Span) (m : ℕ) → T (tidy m ss) → (fs : List Field) → spans fs ≡ ss → (xs : List ℕ) → m ≤ length xs
-    → (k : ℕ) → k < length fs → part (nth fs k .at) (length (nth fs k .bytes)) (write fs xs) ≡ nth fs k .bytes
+    → (k : ℕ) → k < length fs → part (nth fs k .at) (length (nth fs k .bytes)) (writeFields fs xs) ≡ nth fs k .bytes
 read-field ss m t fs e xs l k h = read-tidy fs m xs l (subst (λ (s : List Span). T (tidy m s)) (sym e) t) k h
 
 -- ---- numbers

@@ -13,7 +13,7 @@ use borrow.Rule.Slice.PartMut.{putMid, post-is}
 use native.Mathlib.Omega.{arith}
 use lib.ListN.{length, getD, set, length-set, drop, take, take-append-drop, replicate}
 use lib.Seq.{drop-cons, take-suc, append-snoc, set-at, length-take-le, getD-set-same, getD-set-other, take-set-lt, drop-set-lt}
-use Rattle.endian.specs.Bytes.{beBytes, patch, beAt, runBytes}
+use Rattle.endian.specs.Bytes.{beBytes, patch, beAt, numbersBytes}
 
 pub length-patch : (off : ℕ) (bs xs : List ℕ) → length (patch off bs xs) ≡ length xs
 unfolding patch
@@ -129,17 +129,17 @@ patch-append o (a ∷ ps) bs xs =
     ap (λ (l : List ℕ). set l o a) (patch-append (suc o) ps bs xs ∙ ap (λ (k : ℕ). patch (suc o) ps (patch k bs xs)) e)
 
 -- a turn of a loop that writes numbers of `n` bytes from the last to the first
-pub run-turn : (n off i : ℕ) (vs xs ys zs : List ℕ) → 0 < i → i ≤ length vs → ys ≡ patch (off + n * i) (runBytes n (drop i vs)) xs
-    → zs ≡ patch (off + n * (i - 1)) (beBytes n (getD vs (i - 1) 0)) ys → zs ≡ patch (off + n * (i - 1)) (runBytes n (drop (i - 1) vs)) xs
-unfolding runBytes
+pub run-turn : (n off i : ℕ) (vs xs ys zs : List ℕ) → 0 < i → i ≤ length vs → ys ≡ patch (off + n * i) (numbersBytes n (drop i vs)) xs
+    → zs ≡ patch (off + n * (i - 1)) (beBytes n (getD vs (i - 1) 0)) ys → zs ≡ patch (off + n * (i - 1)) (numbersBytes n (drop (i - 1) vs)) xs
+unfolding numbersBytes
 run-turn n off i vs xs ys zs pos le e d =
     let v = getD vs (i - 1) 0 in
     let j : i ≡ suc (i - 1) = omega arith in
     let m : off + n * i ≡ off + n * (i - 1) + length (beBytes n v) =
     ap (λ (k : ℕ). off + n * k) j ∙ ap (λ (k : ℕ). off + k) (mul-suc n (i - 1)) ∙ sym (add-assoc off (n * (i - 1)) n) ∙ ap (λ (k : ℕ). off + n * (i - 1) + k) (sym (length-be n v)) in
-    d ∙ ap (patch (off + n * (i - 1)) (beBytes n v)) (e ∙ ap (λ (k : ℕ). patch k (runBytes n (drop i vs)) xs) m)
-    ∙ sym (patch-append (off + n * (i - 1)) (beBytes n v) (runBytes n (drop i vs)) xs)
-    ∙ ap (λ (l : List ℕ). patch (off + n * (i - 1)) (runBytes n l) xs) (drop-turn off i pos vs le)
+    d ∙ ap (patch (off + n * (i - 1)) (beBytes n v)) (e ∙ ap (λ (k : ℕ). patch k (numbersBytes n (drop i vs)) xs) m)
+    ∙ sym (patch-append (off + n * (i - 1)) (beBytes n v) (numbersBytes n (drop i vs)) xs)
+    ∙ ap (λ (l : List ℕ). patch (off + n * (i - 1)) (numbersBytes n l) xs) (drop-turn off i pos vs le)
 
 -- ---- what a function that may refuse leaves, in its own proof
 pub refused-by : {m : ℕ} {xs ys : List ℕ} → room m xs ≡ false → Put m ys xs 27 xs

@@ -9,7 +9,7 @@ use lib.Dec.{T, leb, leb→le}
 use lib.ListN.{length, set}
 use lib.Seq.{set-comm, set-set}
 use Rattle.endian.specs.Bytes.{patch}
-use Rattle.endian.specs.Fields.{Field, Span, write, spans, clear, tidy, pick, insert, sorted}
+use Rattle.endian.specs.Fields.{Field, Span, writeFields, spans, clear, tidy, pick, insert, sorted}
 use Rattle.endian.proofs.Fields.{and-left, and-right, either}
 
 ne-lt : (i j : ℕ) → i < j → i ≡ j → ⊥
@@ -66,13 +66,13 @@ clear-insert off n f (g ∷ gs) t =
     by-pick (λ (l : List Field). T (clear off n (spans l))) (leb (f .at) (g .at)) (f ∷ (g ∷ gs)) (g ∷ insert f gs) t
     (both cg (clear off n (spans (insert f gs))) (and-left cg rest u) (clear-insert off n f gs (both cf rest (and-left cf (cg && rest) t) (and-right cg rest u))))
 
-write-insert : (f : Field) (gs : List Field) (xs : List ℕ) → T (clear (f .at) (length (f .bytes)) (spans gs)) → write (insert f gs) xs ≡ write (f ∷ gs) xs
+write-insert : (f : Field) (gs : List Field) (xs : List ℕ) → T (clear (f .at) (length (f .bytes)) (spans gs)) → writeFields (insert f gs) xs ≡ writeFields (f ∷ gs) xs
 write-insert f [] xs t = refl
 write-insert f (g ∷ gs) xs t =
     let meet = leb (f .at + length (f .bytes)) (g .at) || leb (g .at + length (g .bytes)) (f .at) in
     let rest = clear (f .at) (length (f .bytes)) (spans gs) in
-    by-pick (λ (l : List Field). write l xs ≡ write (f ∷ (g ∷ gs)) xs) (leb (f .at) (g .at)) (f ∷ (g ∷ gs)) (g ∷ insert f gs) refl
-    (write-insert f gs (patch (g .at) (g .bytes) xs) (and-right meet rest t) ∙ ap (write gs) (trade f g xs (and-left meet rest t)))
+    by-pick (λ (l : List Field). writeFields l xs ≡ writeFields (f ∷ (g ∷ gs)) xs) (leb (f .at) (g .at)) (f ∷ (g ∷ gs)) (g ∷ insert f gs) refl
+    (write-insert f gs (patch (g .at) (g .bytes) xs) (and-right meet rest t) ∙ ap (writeFields gs) (trade f g xs (and-left meet rest t)))
 
 clear-sorted : (off n : ℕ) (fs : List Field) → T (clear off n (spans fs)) → T (clear off n (spans (sorted fs)))
 clear-sorted off n [] t = t
@@ -81,7 +81,7 @@ clear-sorted off n (f ∷ fs) t =
     clear-insert off n f (sorted fs) (both cf (clear off n (spans (sorted fs))) (and-left cf (clear off n (spans fs)) t)
     (clear-sorted off n fs (and-right cf (clear off n (spans fs)) t)))
 
-sort-tidy : (fs : List Field) (m : ℕ) (xs : List ℕ) → T (tidy m (spans fs)) → write (sorted fs) xs ≡ write fs xs
+sort-tidy : (fs : List Field) (m : ℕ) (xs : List ℕ) → T (tidy m (spans fs)) → writeFields (sorted fs) xs ≡ writeFields fs xs
 sort-tidy [] m xs t = refl
 sort-tidy (f ∷ fs) m xs t =
     let o = f .at in
@@ -91,7 +91,7 @@ sort-tidy (f ∷ fs) m xs t =
     ∙ sort-tidy fs m (patch o (f .bytes) xs) (and-right u (tidy m (spans fs)) t)
 
 -- the fields `fs` stand as `ss` says, and a test that antt computes says that `ss` is tidy
-pub any-order : (ss : List Span) (m : ℕ) → T (tidy m ss) → (fs : List Field) → spans fs ≡ ss → (xs : List ℕ) → write (sorted fs) xs ≡ write fs xs
+pub any-order : (ss : List Span) (m : ℕ) → T (tidy m ss) → (fs : List Field) → spans fs ≡ ss → (xs : List ℕ) → writeFields (sorted fs) xs ≡ writeFields fs xs
 any-order ss m t fs e xs = sort-tidy fs m xs (subst (λ (s : List Span). T (tidy m s)) (sym e) t)
 
 -- bytes that are written over

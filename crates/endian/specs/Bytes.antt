@@ -10,9 +10,9 @@ beBytes zero v = []
 beBytes (suc n) v = v / 256 ^ n % 256 ∷ beBytes n v
 
 -- the numbers `vs` one after the other, each in `n` bytes, the highest first
-unfoldable pub runBytes : ℕ → List ℕ → List ℕ
-runBytes n [] = []
-runBytes n (v ∷ vs) = beBytes n v ++ runBytes n vs
+unfoldable pub numbersBytes : ℕ → List ℕ → List ℕ
+numbersBytes n [] = []
+numbersBytes n (v ∷ vs) = beBytes n v ++ numbersBytes n vs
 
 -- the number that the `n` bytes at `off` are, the highest first
 unfoldable pub beAt : ℕ → ℕ → List ℕ → ℕ

@@ -19,13 +19,13 @@ abbrev pub field : ℕ → ℕ → ℕ → Field
 field off n v = record { at = off; bytes = beBytes n v }
 
 -- the bytes `bs` at `off`
-abbrev pub run : ℕ → List ℕ → Field
-run off bs = record { at = off; bytes = bs }
+abbrev pub byteRun : ℕ → List ℕ → Field
+byteRun off bs = record { at = off; bytes = bs }
 
 -- `xs` with the fields written, the first first
-abbrev pub write : List Field → List ℕ → List ℕ
-write [] xs = xs
-write (f ∷ fs) xs = write fs (patch (f .at) (f .bytes) xs)
+abbrev pub writeFields : List Field → List ℕ → List ℕ
+writeFields [] xs = xs
+writeFields (f ∷ fs) xs = writeFields fs (patch (f .at) (f .bytes) xs)
 
 -- the `n` bytes at `off`
 abbrev pub part : ℕ → ℕ → List ℕ → List ℕ
@@ -77,16 +77,16 @@ table (o ∷ (n ∷ os)) [] = []
 table (o ∷ (n ∷ os)) (v ∷ vs) = field o n v ∷ table os vs
 
 -- each field of a table ends by `m`
-abbrev pub fitting : ℕ → List ℕ → Bool
-fitting m [] = true
-fitting m (o ∷ []) = true
-fitting m (o ∷ (n ∷ os)) = leb (o + n) m && fitting m os
+abbrev pub tableInside : ℕ → List ℕ → Bool
+tableInside m [] = true
+tableInside m (o ∷ []) = true
+tableInside m (o ∷ (n ∷ os)) = leb (o + n) m && tableInside m os
 
 -- a table has an offset and a width for each of `n` numbers, and each ends by `m`
 abbrev pub tableFits : ℕ → List ℕ → ℕ → Bool
-tableFits m os n = eqb (length os) (2 * n) && fitting m os
+tableFits m os n = eqb (length os) (2 * n) && tableInside m os
 
 -- What `put_all` answers and leaves.
 pub record PutAll (at vs old : List ℕ) (r : ℕ) (left : List ℕ) : Type 0 where
   pub number : r ≡ answer (tableFits (length old) at (length vs))
-  pub bytes : left ≡ chosen (tableFits (length old) at (length vs)) (write (table at vs) old) old
+  pub bytes : left ≡ chosen (tableFits (length old) at (length vs)) (writeFields (table at vs) old) old

@@ -4,8 +4,8 @@ ghost use Prim.Native.Nat.{_+_, _*_, _≤_};
 ghost use lib.ListN.{length, replicate};
 ghost use lib.Dec.{T};
 ghost use Rattle.endian.specs.Answer.{Put};
-ghost use Rattle.endian.specs.Bytes.{patch, runBytes};
-ghost use Rattle.endian.specs.Fields.{write, table, fitting, tableFits, PutAll};
+ghost use Rattle.endian.specs.Bytes.{patch, numbersBytes};
+ghost use Rattle.endian.specs.Fields.{writeFields, table, tableInside, tableFits, PutAll};
 use crate::numbers::inside;
 use crate::numbers::store;
 use refusals::WRONG_LENGTH;
@@ -56,7 +56,7 @@ pub fn put_same(buf: &mut [u8], off: usize, n: usize, b: u8) -> u32
 
 fn store32_run(buf: &mut [u8], off: usize, v: &[u32])
     requires { ⌜ off + 4 * length (now v) ≤ length (now buf) ⌝ }
-    ensures { λ r. ⌜ now (buf .exit) ≡ patch off (runBytes 4 (now (v .entry))) (now (buf .entry)) ⌝ }
+    ensures { λ r. ⌜ now (buf .exit) ≡ patch off (numbersBytes 4 (now (v .entry))) (now (buf .entry)) ⌝ }
 {
     let mut i = v.len();
     while 0 < i {
@@ -67,7 +67,7 @@ fn store32_run(buf: &mut [u8], off: usize, v: &[u32])
 
 // The numbers `v` one after the other, each in 4 bytes.
 pub fn put32_run(buf: &mut [u8], off: usize, v: &[u32]) -> u32
-    ensures { λ r. ⌜ Put (off + 4 * length (now (v .entry))) (patch off (runBytes 4 (now (v .entry))) (now (buf .entry))) (now (buf .entry)) r (now (buf .exit)) ⌝ }
+    ensures { λ r. ⌜ Put (off + 4 * length (now (v .entry))) (patch off (numbersBytes 4 (now (v .entry))) (now (buf .entry))) (now (buf .entry)) r (now (buf .exit)) ⌝ }
 {
     if v.len() <= buf.len() / 4 {
         if inside(buf.len(), off, 4 * v.len()) {
@@ -100,8 +100,8 @@ fn table_fits(len: usize, at: &[usize], n: usize) -> bool
 }
 
 fn store_all(buf: &mut [u8], end: usize, at: &[usize], v: &[u64])
-    requires { ⌜ (end ≤ length (now buf)) × (T (fitting end (now at))) × (length (now at) ≡ 2 * length (now v)) ⌝ }
-    ensures { λ r. ⌜ now (buf .exit) ≡ write (table (now (at .entry)) (now (v .entry))) (now (buf .entry)) ⌝ }
+    requires { ⌜ (end ≤ length (now buf)) × (T (tableInside end (now at))) × (length (now at) ≡ 2 * length (now v)) ⌝ }
+    ensures { λ r. ⌜ now (buf .exit) ≡ writeFields (table (now (at .entry)) (now (v .entry))) (now (buf .entry)) ⌝ }
 {
     let mut i = 0;
     while i < v.len() {

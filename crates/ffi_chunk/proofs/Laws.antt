@@ -8,7 +8,7 @@ use lib.Dec.{eqb}
 use borrow.Author.Tests.{eq-eqb, ne-eqb}
 use Rattle.seqs.specs.Lists.{choose}
 use Rattle.structs.specs.Written.{Written}
-use Rattle.inode_time.specs.Time.{accepted}
+use Rattle.inode_time.specs.Time.{valueIf}
 use Rattle.chunk.specs.Chunk.{ChunkMade}
 use Rattle.ffi_chunk.specs.Lent.{ChunkLent}
 

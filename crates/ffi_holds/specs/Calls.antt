@@ -9,9 +9,9 @@ use Rattle.seqs.specs.Lists.{choose}
 use Rattle.btree.specs.declared.records.AllocRec.{AllocRec}
 use Rattle.geometry.specs.declared.Geometry.{Geometry}
 use Rattle.geometry.specs.declared.Computed.{Computed}
-use Rattle.plan_free.specs.Free.{zeroRec}
+use Rattle.plan_free.specs.Free.{zeroFreeRec}
 use Rattle.plan_holds.specs.declared.Held.{Held}
-use Rattle.plan_holds.specs.Holding.{refusal, started, holdDef, releaseDef}
+use Rattle.plan_holds.specs.Holding.{holdRefused, started, holdDef, releaseDef}
 use Rattle.request.specs.declared.Request.{Request}
 use Rattle.run.specs.Runs.{stepOf}
 use Rattle.ffi_holds.specs.States.{stateIn}
@@ -22,14 +22,14 @@ calledOn g call a n xs =
     choose (eqb call 0) (started g a)
     (choose (eqb (length xs) 600)
     (choose (eqb call 1) (holdDef g (stateIn xs) a n) (releaseDef g (stateIn xs) a n))
-    (refusal wrongLength))
+    (holdRefused wrongLength))
 
 -- 28, then the geometry step's number, then what the call answers
 unfoldable pub answered : Request → ℕ → ℕ → ℕ → List ℕ → Held
 answered q call a n xs =
     choose (eqb (q .number) 0)
-    (choose (eqb (stepOf q .number) 0) (calledOn (stepOf q .geometry) call a n xs) (refusal (stepOf q .number)))
-    (refusal (q .number))
+    (choose (eqb (stepOf q .number) 0) (calledOn (stepOf q .geometry) call a n xs) (holdRefused (stepOf q .number)))
+    (holdRefused (q .number))
 
 -- a run's start at an even place, its length at an odd one
 unfoldable pub partOf : ℕ → AllocRec → ℕ
@@ -43,5 +43,5 @@ headNumbers h = h .number ∷ h .state .agno ∷ h .state .free .len ∷ h .stat
 unfoldable pub numberIn : Held → ℕ → ℕ
 numberIn h k =
     choose (ltb k 4) (getD (headNumbers h) k 0)
-    (choose (ltb k 132) (partOf (k - 4) (getD (h .state .free .recs) ((k - 4) / 2) zeroRec))
-    (choose (ltb k 148) (partOf (k - 132) (getD (h .state .held .recs) ((k - 132) / 2) zeroRec)) 0))
+    (choose (ltb k 132) (partOf (k - 4) (getD (h .state .free .recs) ((k - 4) / 2) zeroFreeRec))
+    (choose (ltb k 148) (partOf (k - 132) (getD (h .state .held .recs) ((k - 132) / 2) zeroFreeRec)) 0))

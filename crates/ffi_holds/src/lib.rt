@@ -3,8 +3,8 @@
 ghost use mathlib.Core.Path.{_≡_};
 ghost use Rattle.request.specs.Parse.{parseDef};
 ghost use Rattle.ffi_holds.specs.Calls.{calledOn, answered, partOf, headNumbers, numberIn};
-ghost use Rattle.plan_holds.specs.Holding.{refusal};
-ghost use Rattle.plan_free.specs.Free.{zeroRec};
+ghost use Rattle.plan_holds.specs.Holding.{holdRefused};
+ghost use Rattle.plan_free.specs.Free.{zeroFreeRec};
 ghost use lib.ListN.{getD};
 ghost use Prim.Native.Nat.{_/_, _<_};
 use crate::states::STATE;
@@ -37,7 +37,7 @@ const END: u64 = 148;
 
 // A number beside a state of zeros.
 fn refused(number: u32) -> Held
-    ensures { λ r. ⌜ r ≡ refusal number ⌝ }
+    ensures { λ r. ⌜ r ≡ holdRefused number ⌝ }
 {
     let free = plan_free::empty();
     let none = AllocRec { start: 0, count: 0 };
@@ -96,7 +96,7 @@ fn part_of(k: u64, r: AllocRec) -> u64
 // Number k of the free records, a start and a length for each slot.
 fn free_number(free: FreeList, k: u64) -> u64
     requires { ⌜ k < 128 ⌝ }
-    ensures { λ x. ⌜ x ≡ partOf k (getD (free .recs) (k / 2) zeroRec) ⌝ }
+    ensures { λ x. ⌜ x ≡ partOf k (getD (free .recs) (k / 2) zeroFreeRec) ⌝ }
 {
     let i = (k / 2) as usize;
     part_of(k, free.recs[i])
@@ -105,7 +105,7 @@ fn free_number(free: FreeList, k: u64) -> u64
 // Number k of the held runs.
 fn held_number(held: HeldList, k: u64) -> u64
     requires { ⌜ k < 16 ⌝ }
-    ensures { λ x. ⌜ x ≡ partOf k (getD (held .recs) (k / 2) zeroRec) ⌝ }
+    ensures { λ x. ⌜ x ≡ partOf k (getD (held .recs) (k / 2) zeroFreeRec) ⌝ }
 {
     let i = (k / 2) as usize;
     part_of(k, held.recs[i])

@@ -9,10 +9,10 @@ use Rattle.btree.specs.declared.records.AllocRec.{AllocRec}
 use Rattle.btree.specs.declared.records.RmapRec.{RmapRec}
 use Rattle.plan_free.specs.declared.FreeList.{FreeList}
 use Rattle.plan_free.specs.declared.Taken.{Taken}
-use Rattle.plan_free.specs.Free.{zeroRec}
+use Rattle.plan_free.specs.Free.{zeroFreeRec}
 use Rattle.plan_rmap.specs.declared.RmapList.{RmapList}
 use Rattle.plan_rmap.specs.declared.Inserted.{Inserted}
-use Rattle.plan_rmap.specs.Rmap.{zeroRec as zeroRmap}
+use Rattle.plan_rmap.specs.Rmap.{zeroRmapRec as zeroRmap}
 use Rattle.ffi_recs.specs.Arrays.{allocArray, rmapArray}
 
 -- the list of the first n records; n may be above 64
@@ -24,7 +24,7 @@ rmapFrom starts counts owners n = record { recs = rmapArray starts counts owners
 
 -- the record in slot k, zeros where there is none
 abbrev pub freeAt : FreeList → ℕ → AllocRec
-freeAt l k = getD (l .recs) k zeroRec
+freeAt l k = getD (l .recs) k zeroFreeRec
 
 abbrev pub rmapAt : RmapList → ℕ → RmapRec
 rmapAt l k = getD (l .recs) k zeroRmap

@@ -3,7 +3,7 @@
 ghost use mathlib.Core.Path.{_≡_};
 ghost use lib.ListN.{length, take};
 ghost use Rattle.structs.specs.Written.{Written};
-ghost use Rattle.btree.specs.Records.{listed, recsNumber, allocBytes, inobtBytes, rmapBytes};
+ghost use Rattle.btree.specs.Records.{recordsBytes, recsNumber, allocBytes, inobtBytes, rmapBytes};
 ghost use Rattle.ffi_recs.specs.Arrays.{allocArray, inobtArray, rmapArray};
 use btree::AllocRec;
 use btree::InobtRec;
@@ -34,7 +34,7 @@ pub extern "C" fn zq_alloc_recs(
     count: usize,
     out: &mut [u8],
 ) -> u32
-    ensures { λ r. ⌜ Written (recsNumber 8 count (length (now (out .entry)))) (listed allocBytes (take count (allocArray (now (start .entry)) (now (blocks .entry))))) (now (out .entry)) r (now (out .exit)) ⌝ }
+    ensures { λ r. ⌜ Written (recsNumber 8 count (length (now (out .entry)))) (recordsBytes allocBytes (take count (allocArray (now (start .entry)) (now (blocks .entry))))) (now (out .entry)) r (now (out .exit)) ⌝ }
 {
     let recs = alloc_array(start, blocks);
     btree_records::alloc_recs_64(recs, count, out)
@@ -84,7 +84,7 @@ pub extern "C" fn zq_inobt_recs(
     sparse: bool,
     out: &mut [u8],
 ) -> u32
-    ensures { λ r. ⌜ Written (recsNumber 16 count (length (now (out .entry)))) (listed (inobtBytes sparse) (take count (inobtArray (now (startino .entry)) (now (holemask .entry)) (now (inodes .entry)) (now (freecount .entry)) (now (free .entry))))) (now (out .entry)) r (now (out .exit)) ⌝ }
+    ensures { λ r. ⌜ Written (recsNumber 16 count (length (now (out .entry)))) (recordsBytes (inobtBytes sparse) (take count (inobtArray (now (startino .entry)) (now (holemask .entry)) (now (inodes .entry)) (now (freecount .entry)) (now (free .entry))))) (now (out .entry)) r (now (out .exit)) ⌝ }
 {
     let recs = inobt_array(startino, holemask, inodes, freecount, free);
     btree_records::inobt_recs_64(recs, count, sparse, out)
@@ -121,7 +121,7 @@ pub extern "C" fn zq_rmap_recs(
     count: usize,
     out: &mut [u8],
 ) -> u32
-    ensures { λ r. ⌜ Written (recsNumber 24 count (length (now (out .entry)))) (listed rmapBytes (take count (rmapArray (now (start .entry)) (now (blocks .entry)) (now (owner .entry))))) (now (out .entry)) r (now (out .exit)) ⌝ }
+    ensures { λ r. ⌜ Written (recsNumber 24 count (length (now (out .entry)))) (recordsBytes rmapBytes (take count (rmapArray (now (start .entry)) (now (blocks .entry)) (now (owner .entry))))) (now (out .entry)) r (now (out .exit)) ⌝ }
 {
     let recs = rmap_array(start, blocks, owner);
     btree_records::rmap_recs_64(recs, count, out)

@@ -44,7 +44,7 @@ use denote.Triple.Clauses.{Clauses, Ended, closing, ensured, lasts}
 use denote.Exit.{yes, unchanged}
 use borrow.Rule.Array.Share.{room-take}
 use Rattle.structs.specs.Written.{Written}
-use Rattle.btree.specs.Records.{listed, recsNumber}
+use Rattle.btree.specs.Records.{recordsBytes, recsNumber}
 use Rattle.ffi_slices.proofs.Lending.{LentFirst, lends-first, first-back}
 
 -- R is the record's type, which holds no reference; `f` gives a record's bytes, `size` of them, and `k-recs` is the callee's name
@@ -84,10 +84,10 @@ module _ (R₀ : RattleType) (f : R₀ .Denot → List ℕ) (size : ℕ) (k-recs
   firstEnded = record { signature = firstSignature; kept = (yes, (yes, (yes, tt))) }
 
   abbrev pub RecsClauses : {M : Type 1} (𝓤 : URA M) → Clauses 𝓤 recsEnded
-  RecsClauses 𝓤 κs a = record { ghost = Unit {0}; requires = λ _. emp 𝓤; ensures = λ _ r e. fact 𝓤 (Written (recsNumber size (length (now (a .0))) (length (now (a .1 .0)))) (listed f (now (a .0))) (now (a .1 .0)) r (now (e .1 .0))) }
+  RecsClauses 𝓤 κs a = record { ghost = Unit {0}; requires = λ _. emp 𝓤; ensures = λ _ r e. fact 𝓤 (Written (recsNumber size (length (now (a .0))) (length (now (a .1 .0)))) (recordsBytes f (now (a .0))) (now (a .1 .0)) r (now (e .1 .0))) }
 
   abbrev pub FirstClauses : {M : Type 1} (𝓤 : URA M) → Clauses 𝓤 firstEnded
-  FirstClauses 𝓤 κs a = record { ghost = Unit {0}; requires = λ _. fact 𝓤 (a .1 .0 ≤ 65); ensures = λ _ r e. fact 𝓤 (Written (recsNumber size (a .1 .0) (length (now (a .1 .1 .0)))) (listed f (take (a .1 .0) (a .0))) (now (a .1 .1 .0)) r (now (e .1 .1 .0))) }
+  FirstClauses 𝓤 κs a = record { ghost = Unit {0}; requires = λ _. fact 𝓤 (a .1 .0 ≤ 65); ensures = λ _ r e. fact 𝓤 (Written (recsNumber size (a .1 .0) (length (now (a .1 .1 .0)))) (recordsBytes f (take (a .1 .0) (a .0))) (now (a .1 .1 .0)) r (now (e .1 .1 .0))) }
 
   abbrev stayed : Stays (firstEnded .signature .params) (firstEnded .kept)
   stayed = (stay-none (λ _. Array R 65) yes, (stay-none (λ _. usize) yes, (gave-slice (0 ∷ []) tt (plain (λ _. u8)), tt)))
@@ -126,7 +126,7 @@ module _ (R₀ : RattleType) (f : R₀ .Denot → List ℕ) (size : ℕ) (k-recs
 
       -- what is written of the first c records, whose count is said to be n
       abbrev Says : ℕ → ℕ → ℕ → List ℕ → Type 0
-      Says n c r zs = Written (recsNumber size n (length (y .now))) (listed f (take c xs)) (y .now) r zs
+      Says n c r zs = Written (recsNumber size n (length (y .now))) (recordsBytes f (take c xs)) (y .now) r zs
 
       exits : (r : ℕ) (w : Val) (zs : List ℕ) → Says k k r zs → length zs ≡ length (y .now)
           → ent 𝓤 (⋆ 𝓤 H A ((‵ (flft κ q) ⊛ ‵ ftrue) ∷ ‵ OwnA ∷ ‵ OwnK ∷ ‵ (finally u8 (y .name) zs) ∷ ‵ (u32 .own r (w ∷ [])) ∷ [])) (Post w)

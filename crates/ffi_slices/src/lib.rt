@@ -5,7 +5,7 @@ ghost use mathlib.Core.Path.{_≡_};
 ghost use Prim.Native.Nat.{_≤_, min};
 ghost use lib.ListN.{length, take};
 ghost use Rattle.structs.specs.Written.{Written};
-ghost use Rattle.btree.specs.Records.{listed, recsNumber, allocBytes, rmapBytes};
+ghost use Rattle.btree.specs.Records.{recordsBytes, recsNumber, allocBytes, rmapBytes};
 ghost use Rattle.ffi_slices.specs.Held.{allocHeld, rmapHeld};
 use btree::AllocRec;
 use btree::RmapRec;
@@ -30,7 +30,7 @@ fn alloc_array(start: &[u32; 65], count: &[u32; 65]) -> [AllocRec; 65]
 // `btree_slices::alloc_recs` of the first `count` records.
 fn alloc_first(recs: [AllocRec; 65], count: usize, out: &mut [u8]) -> u32
     requires { ⌜ count ≤ 65 ⌝ }
-    ensures { λ r. ⌜ Written (recsNumber 8 count (length (now (out .entry)))) (listed allocBytes (take count recs)) (now (out .entry)) r (now (out .exit)) ⌝ }
+    ensures { λ r. ⌜ Written (recsNumber 8 count (length (now (out .entry)))) (recordsBytes allocBytes (take count recs)) (now (out .entry)) r (now (out .exit)) ⌝ }
 {
     btree_slices::alloc_recs(&recs[..count], out)
 }
@@ -43,7 +43,7 @@ pub extern "C" fn zq_alloc_slice(
     count: usize,
     out: &mut [u8],
 ) -> u32
-    ensures { λ r. ⌜ Written (recsNumber 8 (min count 65) (length (now (out .entry)))) (listed allocBytes (take (min count 65) (allocHeld (now (start .entry)) (now (blocks .entry))))) (now (out .entry)) r (now (out .exit)) ⌝ }
+    ensures { λ r. ⌜ Written (recsNumber 8 (min count 65) (length (now (out .entry)))) (recordsBytes allocBytes (take (min count 65) (allocHeld (now (start .entry)) (now (blocks .entry))))) (now (out .entry)) r (now (out .exit)) ⌝ }
 {
     let recs = alloc_array(start, blocks);
     let lent = arith::numbers::min_usize(count, 65);
@@ -75,7 +75,7 @@ fn rmap_array(start: &[u32; 65], count: &[u32; 65], owner: &[u64; 65]) -> [RmapR
 // `btree_slices::rmap_recs` of the first `count` records.
 fn rmap_first(recs: [RmapRec; 65], count: usize, out: &mut [u8]) -> u32
     requires { ⌜ count ≤ 65 ⌝ }
-    ensures { λ r. ⌜ Written (recsNumber 24 count (length (now (out .entry)))) (listed rmapBytes (take count recs)) (now (out .entry)) r (now (out .exit)) ⌝ }
+    ensures { λ r. ⌜ Written (recsNumber 24 count (length (now (out .entry)))) (recordsBytes rmapBytes (take count recs)) (now (out .entry)) r (now (out .exit)) ⌝ }
 {
     btree_slices::rmap_recs(&recs[..count], out)
 }
@@ -89,7 +89,7 @@ pub extern "C" fn zq_rmap_slice(
     count: usize,
     out: &mut [u8],
 ) -> u32
-    ensures { λ r. ⌜ Written (recsNumber 24 (min count 65) (length (now (out .entry)))) (listed rmapBytes (take (min count 65) (rmapHeld (now (start .entry)) (now (blocks .entry)) (now (owner .entry))))) (now (out .entry)) r (now (out .exit)) ⌝ }
+    ensures { λ r. ⌜ Written (recsNumber 24 (min count 65) (length (now (out .entry)))) (recordsBytes rmapBytes (take (min count 65) (rmapHeld (now (start .entry)) (now (blocks .entry)) (now (owner .entry))))) (now (out .entry)) r (now (out .exit)) ⌝ }
 {
     let recs = rmap_array(start, blocks, owner);
     let lent = arith::numbers::min_usize(count, 65);

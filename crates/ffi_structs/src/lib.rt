@@ -4,13 +4,13 @@ ghost use mathlib.Core.Path.{_≡_};
 ghost use Prim.Native.Nat.{_^_};
 ghost use lib.ListN.{length, take};
 ghost use Rattle.structs.specs.Written.{Written};
-ghost use Rattle.log.specs.Record.{clearSunit, lsnOf, recordNumber, recordBytes};
+ghost use Rattle.log.specs.Record.{clearSunit, lsnOf, recordNumber, logRecordBytes};
 ghost use Rattle.ag.specs.Sector.{sectorNumber};
 ghost use Rattle.ag.specs.Agf.{agfBytes};
 ghost use Rattle.ag.specs.Agi.{agiBytes};
 ghost use Rattle.ag.specs.Agfl.{agflNumber, agflBytes};
 ghost use Rattle.btree.specs.Leaf.{leafNumber, leafBytes};
-ghost use Rattle.inode_time.specs.Time.{timeNumber, timeInside, timeRaw, accepted, decoded};
+ghost use Rattle.inode_time.specs.Time.{timeNumber, timeInside, timeRaw, valueIf, decoded};
 ghost use Rattle.inode.specs.Dinode.{dinodeNumber, dinodeBytes, freeNumber, freeBytes};
 ghost use Rattle.inode.specs.Directory.{EmptyDir};
 use ag::Agf;
@@ -40,14 +40,14 @@ pub extern "C" fn zq_record(
     tail_lsn: u64,
     rec: &mut [u8],
 ) -> u32
-    ensures { λ r. ⌜ Written (recordNumber sunit (length (now (rec .entry)))) (recordBytes (now (uuid .entry)) sunit lsn «tail_lsn») (now (rec .entry)) r (now (rec .exit)) ⌝ }
+    ensures { λ r. ⌜ Written (recordNumber sunit (length (now (rec .entry)))) (logRecordBytes (now (uuid .entry)) sunit lsn «tail_lsn») (now (rec .entry)) r (now (rec .exit)) ⌝ }
 {
     log::record(uuid, sunit, lsn, tail_lsn, rec)
 }
 
 #[no_mangle]
 pub extern "C" fn zq_first_record(uuid: &[u8; 16], sunit: u32, rec: &mut [u8]) -> u32
-    ensures { λ r. ⌜ Written (recordNumber sunit (length (now (rec .entry)))) (recordBytes (now (uuid .entry)) sunit (2 ^ 32) (2 ^ 32)) (now (rec .entry)) r (now (rec .exit)) ⌝ }
+    ensures { λ r. ⌜ Written (recordNumber sunit (length (now (rec .entry)))) (logRecordBytes (now (uuid .entry)) sunit (2 ^ 32) (2 ^ 32)) (now (rec .entry)) r (now (rec .exit)) ⌝ }
 {
     log::first_record(uuid, sunit, rec)
 }
@@ -248,7 +248,7 @@ pub extern "C" fn zq_time_number(secs: i64, nsecs: u32, bigtime: bool) -> u32
 // Its value.
 #[no_mangle]
 pub extern "C" fn zq_encode_time(secs: i64, nsecs: u32, bigtime: bool) -> u64
-    ensures { λ r. ⌜ r ≡ accepted (timeInside bigtime secs nsecs) (timeRaw bigtime secs nsecs) ⌝ }
+    ensures { λ r. ⌜ r ≡ valueIf (timeInside bigtime secs nsecs) (timeRaw bigtime secs nsecs) ⌝ }
 {
     let s = inode_time::encode_time(Timestamp { secs, nsecs }, bigtime);
     s.value

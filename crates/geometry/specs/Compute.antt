@@ -131,14 +131,14 @@ zeroGeometry =
     }
 
 -- a refusal: its number beside zeros
-abbrev pub refused : ℕ → Computed
-refused n = record { number = n; geometry = zeroGeometry }
+abbrev pub stepRefused : ℕ → Computed
+stepRefused n = record { number = n; geometry = zeroGeometry }
 
 -- the geometry with the number 0, or the refusal
-unfoldable pub answer : ℕ → Geometry → Computed
-answer n g = cond (eqb n 0) (record { number = n; geometry = g }) (refused n)
+unfoldable pub stepAnswer : ℕ → Geometry → Computed
+stepAnswer n g = cond (eqb n 0) (record { number = n; geometry = g }) (stepRefused n)
 
 unfoldable pub computeDef : Params → ℕ → ℕ → ℕ → Computed
 computeDef p device logical physical =
-    answer (refusalOf p device (chosenOf p device logical physical))
+    stepAnswer (refusalOf p device (chosenOf p device logical physical))
     (geometryOf p (chosenOf p device logical physical))

@@ -24,7 +24,7 @@ use Rattle.geometry.specs.Limits.{minGroup}
 use Rattle.geometry_sizes.specs.Sizes.{sizesOf, sizesRefusals}
 use Rattle.geometry.specs.Groups.{isShort, trim, optionsRefusals}
 use Rattle.geometry.specs.Log.{lastRefusals}
-use Rattle.geometry.specs.Compute.{withGroups, askedGroups, withSizes, chosenOf, refusals, refusalOf, labelOf, geometryOf, answer, computeDef}
+use Rattle.geometry.specs.Compute.{withGroups, askedGroups, withSizes, chosenOf, refusals, refusalOf, labelOf, geometryOf, stepAnswer, computeDef}
 use Rattle.geometry_answers.specs.Named.{namedOptions, namedOn, namesOf}
 use Rattle.geometry.proofs.Answer.{accepted, number-of}
 use Rattle.geometry_answers.proofs.AfterTrim.{trim-long, trim-le, not-short, named-groups}
@@ -124,7 +124,7 @@ module _ (p : Params) (device : ℕ) (s : Sizes) (a g : Groups) (short : isShort
   tests : clear (refusals p device (withGroups p s a g))
   tests = all-clear p device (withGroups p s a g) none
 
-  again-at : (other : ℕ) → computeDef (named-by p s a g) (g .dblocks * s .block) 512 other ≡ answer (refusalOf p device (withGroups p s a g)) (geometryOf p (withGroups p s a g))
+  again-at : (other : ℕ) → computeDef (named-by p s a g) (g .dblocks * s .block) 512 other ≡ stepAnswer (refusalOf p device (withGroups p s a g)) (geometryOf p (withGroups p s a g))
   unfolding computeDef
   again-at other =
       rw (
@@ -152,7 +152,7 @@ module _ (p : Params) (device logical physical : ℕ) where
   unfolding computeDef
   its-geometry e = ap (λ (r : Computed). r .geometry) (accepted number chosen (is-accepted e))
 
-  chosen-named : (other : ℕ) → length (p .label .bytes) ≡ 12 → number ≡ 0 → namedOn (p .roomy) (namesOf chosen) other ≡ answer number chosen
+  chosen-named : (other : ℕ) → length (p .label .bytes) ≡ 12 → number ≡ 0 → namedOn (p .roomy) (namesOf chosen) other ≡ stepAnswer number chosen
   unfolding chosenOf withSizes geometryOf withGroups namedOn namesOf
   chosen-named other label z =
       let s = sizesOf p logical physical in

@@ -7,7 +7,7 @@ use Rattle.refusals.specs.Numbers.{notLeft}
 use Rattle.geometry_sizes.specs.Limits.{minSector}
 use Rattle.geometry.specs.Limits.{labelRoom}
 use Rattle.params.specs.Params.{options, noUuid}
-use Rattle.geometry.specs.Compute.{computeDef, refused}
+use Rattle.geometry.specs.Compute.{computeDef, stepRefused}
 use Rattle.geometry_answers.specs.Same.{sameGeometry}
 use Rattle.params.specs.declared.OptU64.the-variants.{Absent, Given}
 use Rattle.params.specs.declared.OptU32.the-variants.{Given as Given32}
@@ -34,7 +34,7 @@ namedFits n = ltb (n .dblocks * n .blocksize) (2 ^ 64) && ltb (n .agsize * n .bl
 
 -- the geometry that is named under a sizing, or a refusal: 30 where the bytes pass 64 bits
 unfoldable pub namedAnswer : Bool → Named → Computed
-namedAnswer roomy n = cond (namedFits n) (namedOn roomy n minSector) (refused notLeft)
+namedAnswer roomy n = cond (namedFits n) (namedOn roomy n minSector) (stepRefused notLeft)
 
 -- what the geometry's superblock names
 unfoldable pub namesOf : Geometry → Named

@@ -20,7 +20,7 @@ use Rattle.geometry.specs.Groups.{groupBlocks, trim}
 use Rattle.geometry.specs.Log.{preallocOf, logLimit, logBlocks, lastRefusals}
 use Rattle.geometry.specs.declared.Geometry.{Geometry}
 use Rattle.geometry.specs.declared.Computed.{Computed}
-use Rattle.geometry.specs.Compute.{withGroups, askedGroups, withSizes, chosenOf, refusals, refusalOf, geometryOf, answer, computeDef, refused}
+use Rattle.geometry.specs.Compute.{withGroups, askedGroups, withSizes, chosenOf, refusals, refusalOf, geometryOf, stepAnswer, computeDef, stepRefused}
 use Rattle.geometry.proofs.Answer.{number-of}
 use Rattle.geometry_answers.specs.declared.Named.{Named}
 use Rattle.geometry_answers.specs.Named.{namedOptions, namedOn, namedFits, namedAnswer}

@@ -3,8 +3,8 @@
 use Prim.Native.Nat.{ℕ}
 
 -- bytes of the free list's header, and of one of its slots
-abbrev pub agflHeader : ℕ
-agflHeader = 36
+abbrev pub agflHeaderSize : ℕ
+agflHeaderSize = 36
 
 abbrev pub agflSlot : ℕ
 agflSlot = 4

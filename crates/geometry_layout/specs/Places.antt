@@ -6,7 +6,7 @@ use lib.Dec.{ltb, eqb}
 use Rattle.arith.specs.Choice.{when, bit}
 use Rattle.arith.specs.Numbers.{ceilDiv}
 use Rattle.params.specs.declared.Features.{Features}
-use Rattle.geometry_layout.specs.Limits.{agflHeader, agflSlot, agflReserve, chunkInodes, bigCluster, leastInode, realtimeExtent, logHeader, addressUnit}
+use Rattle.geometry_layout.specs.Limits.{agflHeaderSize, agflSlot, agflReserve, chunkInodes, bigCluster, leastInode, realtimeExtent, logHeader, addressUnit}
 use Rattle.geometry.specs.Log.{preallocOf}
 unfoldable pub use Rattle.geometry.specs.Groups.{groupBlocks}
 unfoldable pub use Rattle.geometry.specs.Log.{freelistOf}
@@ -37,7 +37,7 @@ usableOf agsize prealloc = agsize - (prealloc + agflReserve)
 
 -- its slots: what its sector holds after the header
 unfoldable pub agflSize : ℕ → ℕ
-agflSize sector = (sector - agflHeader) / agflSlot
+agflSize sector = (sector - agflHeaderSize) / agflSlot
 
 -- ---- inodes
 
@@ -98,16 +98,16 @@ unfoldable pub inoOf : ℕ → ℕ → ℕ → ℕ → ℕ → ℕ
 inoOf log inolog k b slot = fsbOf log k b * 2 ^ inolog + slot
 
 -- blocks before block b of group k, for groups of s blocks
-unfoldable pub before : ℕ → ℕ → ℕ → ℕ
-before s k b = k * s + b
+unfoldable pub diskBlocksBefore : ℕ → ℕ → ℕ → ℕ
+diskBlocksBefore s k b = k * s + b
 
 -- its address in units of 512 bytes
 unfoldable pub daddrOf : ℕ → ℕ → ℕ → ℕ → ℕ
-daddrOf bs s k b = before s k b * (bs / addressUnit)
+daddrOf bs s k b = diskBlocksBefore s k b * (bs / addressUnit)
 
 -- its offset in bytes
 unfoldable pub byteOf : ℕ → ℕ → ℕ → ℕ → ℕ
-byteOf bs s k b = before s k b * bs
+byteOf bs s k b = diskBlocksBefore s k b * bs
 
 -- free blocks before the root chunk is taken: all but the heads and the log
 unfoldable pub initialFree : ℕ → ℕ → ℕ → ℕ → ℕ

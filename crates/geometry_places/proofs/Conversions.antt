@@ -11,7 +11,7 @@ use lib.Dec.{leb}
 use lib.ListN.{length}
 use lib.Pow.{pow-mono}
 use Rattle.geometry.specs.declared.Geometry.{Geometry}
-use Rattle.geometry_layout.specs.Places.{fsbOf, before, daddrOf, byteOf}
+use Rattle.geometry_layout.specs.Places.{fsbOf, diskBlocksBefore, daddrOf, byteOf}
 use Rattle.geometry_layout.specs.Bounds.{Bounds}
 use Rattle.geometry_layout.proofs.Wide.{whole-blocks}
 use Rattle.geometry_layout.proofs.Bounding.{answer-bounds}
@@ -64,8 +64,8 @@ module _ (g : Geometry) (label : length (g .label) ≡ 12) where
     unfolding fsbOf
     same-fsb e = same-digits (2 ^ g .agblklog) k b k' b' (below-power k b p) (below-power k' b' p') e
 
-    same-before : before (g .agsize) k b ≡ before (g .agsize) k' b' → (k ≡ k') × (b ≡ b')
-    unfolding before
+    same-before : diskBlocksBefore (g .agsize) k b ≡ diskBlocksBefore (g .agsize) k' b' → (k ≡ k') × (b ≡ b')
+    unfolding diskBlocksBefore
     same-before e = same-digits (g .agsize) k b k' b' (fits-at k b p .below-size) (fits-at k' b' p' .below-size) e
 
     block-least : 1024 ≤ g .blocksize
@@ -85,13 +85,13 @@ module _ (g : Geometry) (label : length (g .label) ≡ 12) where
     pub same-daddr : daddrOf (g .blocksize) (g .agsize) k b ≡ daddrOf (g .blocksize) (g .agsize) k' b' → (k ≡ k') × (b ≡ b')
     unfolding daddrOf
     same-daddr e =
-        same-before (same-factor (before (g .agsize) k b) (before (g .agsize) k' b') (g .blocksize / 512) units-pos e)
+        same-before (same-factor (diskBlocksBefore (g .agsize) k b) (diskBlocksBefore (g .agsize) k' b') (g .blocksize / 512) units-pos e)
 
     -- two places with one byte offset are the same
     pub same-byte : byteOf (g .blocksize) (g .agsize) k b ≡ byteOf (g .blocksize) (g .agsize) k' b' → (k ≡ k') × (b ≡ b')
     unfolding byteOf
     same-byte e =
-        same-before (same-factor (before (g .agsize) k b) (before (g .agsize) k' b') (g .blocksize) (let v = block-least in omega arith) e)
+        same-before (same-factor (diskBlocksBefore (g .agsize) k b) (diskBlocksBefore (g .agsize) k' b') (g .blocksize) (let v = block-least in omega arith) e)
 
 -- a block is a whole number of 512-byte units
 block-units : (g : Geometry) → Bounds g → g .blocksize / 512 * 512 ≡ g .blocksize
@@ -105,7 +105,7 @@ block-units g z =
 pub byte-daddr : (g : Geometry) → Bounds g → (k b : ℕ) → byteOf (g .blocksize) (g .agsize) k b ≡ 512 * daddrOf (g .blocksize) (g .agsize) k b
 unfolding byteOf daddrOf
 byte-daddr g z k b =
-    let n = before (g .agsize) k b in
+    let n = diskBlocksBefore (g .agsize) k b in
     ap (λ (x : ℕ). n * x) (sym (block-units g z)) ∙ sym (mul-assoc n (g .blocksize / 512) 512) ∙ mul-comm (n * (g .blocksize / 512)) 512
 
 -- agblklog is the least power of two that is at least agsize

@@ -23,7 +23,7 @@ use Rattle.geometry.specs.declared.Geometry.{Geometry}
 use Rattle.geometry_layout.specs.Bounds.{Bounds}
 use Rattle.geometry_layout.specs.Places.{lsunitBytes, logsunitOf}
 use Rattle.plan_totals.specs.Totals.{plansNumber}
-use Rattle.log.specs.Record.{clearSunit, roundedUp, blocksOf, recordNumber, recordFields, recordBytes}
+use Rattle.log.specs.Record.{clearSunit, roundedUp, basicBlocksOf, recordNumber, recordFields, logRecordBytes}
 use Rattle.head_bytes.specs.Head.{zeros}
 use Rattle.head_bytes.proofs.Lending.{part-length}
 use Rattle.list_spec.specs.Listing.{logUnit, firstRecord, logBlock}
@@ -50,15 +50,15 @@ module _ (g : Geometry) (n : ℕ) where
 
 -- ---- a record and its length
 
-pub record-length : (uuid : List ℕ) (unit lsn tail : ℕ) → length (recordBytes uuid unit lsn tail) ≡ 512 * blocksOf unit
-unfolding recordBytes
+pub record-length : (uuid : List ℕ) (unit lsn tail : ℕ) → length (logRecordBytes uuid unit lsn tail) ≡ 512 * basicBlocksOf unit
+unfolding logRecordBytes
 record-length uuid unit lsn tail =
-    write-length (recordFields uuid unit lsn tail) (replicate (512 * blocksOf unit) 0) ∙ length-replicate {A = ℕ} (512 * blocksOf unit) 0
+    write-length (recordFields uuid unit lsn tail) (replicate (512 * basicBlocksOf unit) 0) ∙ length-replicate {A = ℕ} (512 * basicBlocksOf unit) 0
 
 -- what an accepted length is
-accepted-length : (unit n : ℕ) → recordNumber unit n ≡ 0 → n ≡ 512 * blocksOf unit
+accepted-length : (unit n : ℕ) → recordNumber unit n ≡ 0 → n ≡ 512 * basicBlocksOf unit
 unfolding recordNumber
-accepted-length unit n z = eqb-true n (512 * blocksOf unit) (passed 27 (require 35 (leb unit 16384) 0) (eqb n (512 * blocksOf unit)) (omega arith) z .0)
+accepted-length unit n z = eqb-true n (512 * basicBlocksOf unit) (passed 27 (require 35 (leb unit 16384) 0) (eqb n (512 * basicBlocksOf unit)) (omega arith) z .0)
 
 -- ---- the unit: none, or a block
 
@@ -83,8 +83,8 @@ module _ (g : Geometry) (z : Bounds g) where
       let k : g .blocklog ≡ 9 + (g .blocklog - 9) = let b = z .sizes .block-least in omega arith in
       z .sizes .block-power ∙ ap (λ (i : ℕ). 2 ^ i) k ∙ pow-add 2 9 (g .blocklog - 9) ∙ ap (λ (x : ℕ). 512 * x) (sym e)
 
-  whole-at : (t : Bool) → (max 1024 (when t (g .blocksize) 0) ≡ 512 * blocksOf (when t (g .blocksize) 0)) × (when t (g .blocksize) 0 ≤ g .blocksize)
-  unfolding when blocksOf roundedUp
+  whole-at : (t : Bool) → (max 1024 (when t (g .blocksize) 0) ≡ 512 * basicBlocksOf (when t (g .blocksize) 0)) × (when t (g .blocksize) 0 ≤ g .blocksize)
+  unfolding when basicBlocksOf roundedUp
   whole-at true =
       let m = 2 ^ (g .blocklog - 9) in
       let e : g .blocksize ≡ 512 * m = basic m refl in
@@ -92,7 +92,7 @@ module _ (g : Geometry) (z : Bounds g) where
       (omega arith, omega arith)
   whole-at false = (omega arith, omega arith)
 
-  pub record-whole : max 1024 (logUnit g) ≡ 512 * blocksOf (logUnit g)
+  pub record-whole : max 1024 (logUnit g) ≡ 512 * basicBlocksOf (logUnit g)
   record-whole = rw unit-is (whole-at large .0)
 
   pub record-fits : max 1024 (logUnit g) ≤ g .blocksize
@@ -103,19 +103,19 @@ module _ (g : Geometry) (z : Bounds g) where
   record-accepted =
       let h = record-fits in
       let m = size-most g z in
-      rw (eq-eqb (max 1024 (logUnit g)) (512 * blocksOf (logUnit g)) record-whole, le-leb (logUnit g) 16384 (omega arith)) refl
+      rw (eq-eqb (max 1024 (logUnit g)) (512 * basicBlocksOf (logUnit g)) record-whole, le-leb (logUnit g) 16384 (omega arith)) refl
 
 -- ---- the block
 
 -- the record in the first n bytes
 pub record-back : {r : ℕ} (uuid : List ℕ) (unit n : ℕ) (xs ys : List ℕ) → n ≤ length xs → recordNumber unit n ≡ 0
-    → Written (recordNumber unit (length (take (0 + n - 0) (drop 0 xs)))) (recordBytes uuid unit (2 ^ 32) (2 ^ 32)) (take (0 + n - 0) (drop 0 xs)) r ys
-    → putMid 0 (0 + n - 0) xs ys ≡ patch 0 (recordBytes uuid unit (2 ^ 32) (2 ^ 32)) xs
+    → Written (recordNumber unit (length (take (0 + n - 0) (drop 0 xs)))) (logRecordBytes uuid unit (2 ^ 32) (2 ^ 32)) (take (0 + n - 0) (drop 0 xs)) r ys
+    → putMid 0 (0 + n - 0) xs ys ≡ patch 0 (logRecordBytes uuid unit (2 ^ 32) (2 ^ 32)) xs
 record-back uuid unit n xs ys h z w =
     let e = accepted-length unit n z in
     let q : 0 + n ≤ length xs = omega arith in
     let p = part-length 0 n xs q in
-    let k : ys ≡ recordBytes uuid unit (2 ^ 32) (2 ^ 32) = written-in w (ap (recordNumber unit) p ∙ z) in
+    let k : ys ≡ logRecordBytes uuid unit (2 ^ 32) (2 ^ 32) = written-in w (ap (recordNumber unit) p ∙ z) in
     part-back 0 n xs ys q (ap (λ (l : List ℕ). length l) k ∙ record-length uuid unit (2 ^ 32) (2 ^ 32) ∙ sym e) ∙ ap (λ (l : List ℕ). patch 0 l xs) k
 
 drop-zeros : (a b : ℕ) → a ≤ b → drop a (zeros b) ≡ zeros (b - a)
@@ -126,18 +126,18 @@ drop-zeros a b h =
 
 module _ (g : Geometry) (z : Bounds g) (uuid : List ℕ) where
   pub log-made : {r : ℕ} (unit : ℕ) (xs ys zs : List ℕ) → unit ≡ logUnit g → length xs ≡ g .blocksize → Put (0 + length xs) (patch 0 (replicate (length xs) 0) xs) xs r ys
-      → zs ≡ patch 0 (recordBytes uuid unit (2 ^ 32) (2 ^ 32)) ys → zs ≡ logBlock g uuid
+      → zs ≡ patch 0 (logRecordBytes uuid unit (2 ^ 32) (2 ^ 32)) ys → zs ≡ logBlock g uuid
   unfolding logBlock firstRecord
   log-made unit xs ys zs u l w e =
-      let rec = recordBytes uuid (logUnit g) (2 ^ 32) (2 ^ 32) in
+      let rec = logRecordBytes uuid (logUnit g) (2 ^ 32) (2 ^ 32) in
       let n : ys ≡ zeros (g .blocksize) = put-in w (omega arith) ∙ patch-whole (replicate (length xs) 0) xs (length-replicate {A = ℕ} (length xs) 0) ∙ ap zeros l in
-      let m : length rec ≡ 512 * blocksOf (logUnit g) = record-length uuid (logUnit g) (2 ^ 32) (2 ^ 32) in
+      let m : length rec ≡ 512 * basicBlocksOf (logUnit g) = record-length uuid (logUnit g) (2 ^ 32) (2 ^ 32) in
       let s = record-whole g z in
       let f = record-fits g z in
       let lz : length (zeros (g .blocksize)) ≡ g .blocksize = length-replicate {A = ℕ} (g .blocksize) 0 in
       let k : 0 + length rec ≡ length rec = omega arith in
       e
-      ∙ ap (λ (v : ℕ). patch 0 (recordBytes uuid v (2 ^ 32) (2 ^ 32)) ys) u
+      ∙ ap (λ (v : ℕ). patch 0 (logRecordBytes uuid v (2 ^ 32) (2 ^ 32)) ys) u
       ∙ ap (λ (v : List ℕ). patch 0 rec v) n
       ∙ patch-split 0 rec (zeros (g .blocksize)) (omega arith)
       ∙ ap (λ (v : ℕ). rec ++ drop v (zeros (g .blocksize))) k

@@ -24,7 +24,7 @@ use Rattle.head_bytes.specs.Places.{headPlaces}
 use Rattle.head_bytes.proofs.Ready.{head-accepted}
 use Rattle.sb.specs.declared.SbState.{SbState}
 use Rattle.sb_states.specs.declared.Stated.{Stated}
-use Rattle.sb_states.specs.States.{stateOf, finishedState, stateNumber, stated, finished}
+use Rattle.sb_states.specs.States.{stateOf, finishedState, stateNumber, stated, finishedAnswer}
 use Rattle.list_spec.specs.Listing.{headWritten, headFinished, headLeft}
 use Rattle.list_spec.proofs.Whole.{group-planned}
 use Rattle.group_bytes.specs.Answers.{headRefusal, leftState}
@@ -77,12 +77,12 @@ module _ (g : Geometry) (uuid : List ℕ) (k : ℕ) (xs : List ℕ) (z : headRef
   unfolding headWritten
   written-made s ys e m = m ∙ ap (λ (x : SbState). headBytes g (planned g k .plan) uuid x) (ap (λ (x : Stated). x .state) e ∙ state-there)
 
-  finished-there : finished g uuid .state ≡ finishedState g uuid
-  unfolding finished
+  finished-there : finishedAnswer g uuid .state ≡ finishedState g uuid
+  unfolding finishedAnswer
   finished-there = rw (head-zero g k (length xs) z .0) refl
 
   -- group 0's with the finished superblock, or another's
-  left-at : (s : Stated) (ys : List ℕ) (t : Bool) → eqb k 0 ≡ t → s ≡ choose t (finished g uuid) (stated g uuid k)
+  left-at : (s : Stated) (ys : List ℕ) (t : Bool) → eqb k 0 ≡ t → s ≡ choose t (finishedAnswer g uuid) (stated g uuid k)
       → ys ≡ headBytes g (planned g k .plan) uuid (s .state) → ys ≡ choose t (headFinished g uuid) (headWritten g uuid k)
   unfolding headFinished
   left-at s ys true e b m = m ∙ rw (eqb-true k 0 e, b, finished-there) refl

@@ -10,7 +10,7 @@ use Rattle.geometry.specs.declared.Geometry.{Geometry}
 use Rattle.plan_totals.specs.Totals.{plansNumber}
 use Rattle.head_bytes.specs.Head.{headLength}
 use Rattle.sb_states.specs.declared.Stated.{Stated}
-use Rattle.sb_states.specs.States.{stated, finished}
+use Rattle.sb_states.specs.States.{stated, finishedAnswer}
 use Rattle.run.specs.Runs.{orNext}
 
 -- 31 for a geometry that is no answer, 25 for a plan that is refused, then 27 unless n bytes are a head's, then 29
@@ -23,4 +23,4 @@ logRefusal g n = orNext (plansNumber g) (require wrongLength (eqb n (g .blocksiz
 
 -- the state of group k's superblock at the end
 unfoldable pub leftState : Geometry → List ℕ → ℕ → Stated
-leftState g u k = choose (eqb k 0) (finished g u) (stated g u k)
+leftState g u k = choose (eqb k 0) (finishedAnswer g u) (stated g u k)

@@ -3,7 +3,7 @@ ghost use mathlib.Core.Path.{_≡_};
 ghost use Prim.Native.Nat.{_≤_, _^_};
 ghost use lib.ListN.{length};
 ghost use Rattle.endian.specs.Bytes.{patch};
-ghost use Rattle.log.specs.Record.{recordNumber, recordBytes};
+ghost use Rattle.log.specs.Record.{recordNumber, logRecordBytes};
 ghost use Rattle.list_spec.specs.Listing.{logUnit, logBlock};
 ghost use Rattle.group_bytes.specs.Answers.{logRefusal};
 use arith::choice::pick_u32;
@@ -44,7 +44,7 @@ fn log_unit(g: Geometry) -> u32
 // The log's record in the first n bytes.
 fn put_record(uuid: &[u8; 16], unit: u32, n: usize, block: &mut [u8])
     requires { ⌜ (recordNumber unit n ≡ 0) × (n ≤ length (now block)) ⌝ }
-    ensures { λ _. ⌜ now (block .exit) ≡ patch 0 (recordBytes (now (uuid .entry)) unit (2 ^ 32) (2 ^ 32)) (now (block .entry)) ⌝ }
+    ensures { λ _. ⌜ now (block .exit) ≡ patch 0 (logRecordBytes (now (uuid .entry)) unit (2 ^ 32) (2 ^ 32)) (now (block .entry)) ⌝ }
 {
     first_record(uuid, unit, &mut block[0..0 + n]);
 }

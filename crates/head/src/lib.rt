@@ -11,7 +11,7 @@ ghost use Rattle.geometry_answers.specs.Named.{isAnswer};
 ghost use Rattle.sb.specs.Superblock.{sbBytes};
 ghost use Rattle.plan_same.specs.Same.{isPlan};
 ghost use Rattle.head_frame.specs.Frames.{frameOf, Fine, Few, Counted};
-ghost use Rattle.head_bytes.specs.Head.{headBlocks, headBytes, headLength, headNumber};
+ghost use Rattle.head_bytes.specs.Head.{frameBlocks, headBytes, headLength, headNumber};
 ghost use Rattle.head_bytes.specs.Parts.{sectorOn, sectorsOn, rootsOn, moreOn};
 ghost use Rattle.head_bytes.specs.Places.{placesOf, headPlaces};
 
@@ -42,7 +42,7 @@ fn put_headers(g: Geometry, s: SbState, w: Frame, p: AgPlan, uuid: &[u8; 16], bu
 
 // The root blocks.
 fn put_trees(w: Frame, p: AgPlan, uuid: &[u8; 16], buf: &mut [u8])
-    requires { ⌜ (Fine w) × (Few p) × (headBlocks w * w .block ≤ length (now buf)) ⌝ }
+    requires { ⌜ (Fine w) × (Few p) × (frameBlocks w * w .block ≤ length (now buf)) ⌝ }
     ensures { λ _. ⌜ now (buf .exit) ≡ moreOn w p (now (uuid .entry)) (rootsOn w p (now (uuid .entry)) (now (buf .entry))) ⌝ }
 {
     roots::put_roots(w, p, uuid, buf);

@@ -5,12 +5,12 @@ ghost use Prim.Native.Nat.{_+_, _*_, _≤_};
 ghost use lib.ListN.{length};
 ghost use Rattle.endian.specs.Bytes.{patch};
 ghost use Rattle.geometry_layout.specs.Places.{fibtBlock, rmapBlock, refcBlock, daddrOf};
-ghost use Rattle.btree.specs.Records.{listed, allocBytes, rmapBytes};
+ghost use Rattle.btree.specs.Records.{recordsBytes, allocBytes, rmapBytes};
 ghost use Rattle.plan_free.specs.Free.{freeOf, smaller};
 ghost use Rattle.plan_rmap.specs.Rmap.{rmapOf};
 ghost use Rattle.head_frame.specs.Frames.{Fine, Few};
 ghost use Rattle.head_bytes.specs.Sorting.{bySize};
-ghost use Rattle.head_bytes.specs.Head.{finoMagic, rootBytes, inodeRoot, rmapRoot, refcRoot, headBlocks};
+ghost use Rattle.head_bytes.specs.Head.{finoMagic, rootBytes, inodeRoot, rmapRoot, refcRoot, frameBlocks};
 ghost use Rattle.head_bytes.specs.Parts.{blockIf, rootsOn, moreOn};
 use crate::sectors::refc_at;
 use crate::sectors::rmap_at;
@@ -59,7 +59,7 @@ fn by_size(l: FreeList) -> FreeList
 // Free extents into block b.
 fn put_free(w: Frame, magic: u32, b: u32, uuid: &[u8; 16], l: FreeList, buf: &mut [u8])
     requires { ⌜ (Fine w) × (l .len ≤ 2) × (b ≤ 10) × (b * w .block + w .block ≤ length (now buf)) ⌝ }
-    ensures { λ _. ⌜ now (buf .exit) ≡ patch (b * w .block) (rootBytes w (now (uuid .entry)) magic b (listed allocBytes (freeOf l)) (l .len)) (now (buf .entry)) ⌝ }
+    ensures { λ _. ⌜ now (buf .exit) ≡ patch (b * w .block) (rootBytes w (now (uuid .entry)) magic b (recordsBytes allocBytes (freeOf l)) (l .len)) (now (buf .entry)) ⌝ }
 {
     let bs = w.block as usize;
     let at = (b as usize) * bs;
@@ -91,7 +91,7 @@ fn put_chunk(w: Frame, magic: u32, b: u32, uuid: &[u8; 16], buf: &mut [u8])
 // Reverse mappings into block b.
 fn put_maps(w: Frame, magic: u32, b: u32, uuid: &[u8; 16], l: RmapList, buf: &mut [u8])
     requires { ⌜ (Fine w) × (l .len ≤ 8) × (b ≤ 10) × (b * w .block + w .block ≤ length (now buf)) ⌝ }
-    ensures { λ _. ⌜ now (buf .exit) ≡ patch (b * w .block) (rootBytes w (now (uuid .entry)) magic b (listed rmapBytes (rmapOf l)) (l .len)) (now (buf .entry)) ⌝ }
+    ensures { λ _. ⌜ now (buf .exit) ≡ patch (b * w .block) (rootBytes w (now (uuid .entry)) magic b (recordsBytes rmapBytes (rmapOf l)) (l .len)) (now (buf .entry)) ⌝ }
 {
     let bs = w.block as usize;
     let at = (b as usize) * bs;
@@ -147,7 +147,7 @@ fn put_refc(w: Frame, uuid: &[u8; 16], buf: &mut [u8])
 
 // The roots of finobt, rmapbt and reflink, where these are on.
 pub(crate) fn put_more(w: Frame, p: AgPlan, uuid: &[u8; 16], buf: &mut [u8])
-    requires { ⌜ (Fine w) × (Few p) × (headBlocks w * w .block ≤ length (now buf)) ⌝ }
+    requires { ⌜ (Fine w) × (Few p) × (frameBlocks w * w .block ≤ length (now buf)) ⌝ }
     ensures { λ _. ⌜ now (buf .exit) ≡ moreOn w p (now (uuid .entry)) (now (buf .entry)) ⌝ }
 {
     let maps = p.rmap;

@@ -11,7 +11,7 @@ ghost use Rattle.ag.specs.Agf.{agfBytes};
 ghost use Rattle.ag.specs.Agi.{agiBytes};
 ghost use Rattle.ag.specs.Agfl.{agflBytes};
 ghost use Rattle.sb.specs.Superblock.{sbNumber, sbBytes};
-ghost use Rattle.head_bytes.specs.Head.{agfWith, agiOf};
+ghost use Rattle.head_bytes.specs.Head.{agfWith, agiFor};
 ghost use Rattle.head_bytes.specs.Parts.{sectorOn, sectorsOn};
 use ag::Agf;
 use ag::Agi;
@@ -82,7 +82,7 @@ fn agf_of(w: Frame) -> Agf
 
 fn agi_of(w: Frame) -> Agi
     requires { ⌜ Fine w ⌝ }
-    ensures { λ r. ⌜ r ≡ agiOf w ⌝ }
+    ensures { λ r. ⌜ r ≡ agiFor w ⌝ }
 {
     let f = w.features;
     let free = flag(f.finobt);

@@ -8,11 +8,11 @@ use native.Mathlib.Nat.{mod-lt}
 use lib.Dec.{lit<}
 use lib.ListN.{length, set, replicate}
 use Rattle.seqs.specs.Lists.{choose}
-use Rattle.endian.specs.Bytes.{beBytes, runBytes, below, patch}
+use Rattle.endian.specs.Bytes.{beBytes, numbersBytes, below, patch}
 use Rattle.endian_little.specs.Bytes.{leBytes}
-use Rattle.endian.specs.Fields.{Field, write}
+use Rattle.endian.specs.Fields.{Field, writeFields}
 use Rattle.crc.specs.Crc.{cksumOf, stamped}
-use Rattle.btree.specs.Records.{listed}
+use Rattle.btree.specs.Records.{recordsBytes}
 
 pub byte : (v : ℕ) → v % 256 < 256
 byte v = mod-lt v (lit< tt)
@@ -45,10 +45,10 @@ unfolding leBytes
 below-le zero v = tt
 below-le (suc n) v = (byte v, below-le n (v / 256))
 
-pub below-run : (n : ℕ) (vs : List ℕ) → below 256 (runBytes n vs)
-unfolding runBytes
+pub below-run : (n : ℕ) (vs : List ℕ) → below 256 (numbersBytes n vs)
+unfolding numbersBytes
 below-run n [] = tt
-below-run n (v ∷ vs) = below-append 256 (beBytes n v) (runBytes n vs) (below-be n v) (below-run n vs)
+below-run n (v ∷ vs) = below-append 256 (beBytes n v) (numbersBytes n vs) (below-be n v) (below-run n vs)
 
 pub below-zeros : (n : ℕ) → below 256 (replicate n 0)
 below-zeros n = below-same 256 n 0 (lit< tt)
@@ -67,7 +67,7 @@ pub all-append : (fs gs : List Field) → allBelow fs → allBelow gs → allBel
 all-append [] gs a b = b
 all-append (f ∷ fs) gs a b = (a .0, all-append fs gs (a .1) b)
 
-pub below-write : (fs : List Field) (xs : List ℕ) → allBelow fs → below 256 xs → below 256 (write fs xs)
+pub below-write : (fs : List Field) (xs : List ℕ) → allBelow fs → below 256 xs → below 256 (writeFields fs xs)
 below-write [] xs a x = x
 below-write (f ∷ fs) xs a x = below-write fs (patch (f .at) (f .bytes) xs) (a .1) (below-patch 256 (f .at) (f .bytes) xs (a .0) x)
 
@@ -75,6 +75,6 @@ pub below-stamped : (off : ℕ) (xs : List ℕ) → below 256 xs → below 256 (
 unfolding stamped
 below-stamped off xs x = below-patch 256 off (leBytes 4 (cksumOf off xs)) xs (below-le 4 (cksumOf off xs)) x
 
-pub below-listed : {A : Type 0} (f : A → List ℕ) → ((a : A) → below 256 (f a)) → (rs : List A) → below 256 (listed f rs)
+pub below-listed : {A : Type 0} (f : A → List ℕ) → ((a : A) → below 256 (f a)) → (rs : List A) → below 256 (recordsBytes f rs)
 below-listed f b [] = tt
-below-listed f b (r ∷ rs) = below-append 256 (f r) (listed f rs) (b r) (below-listed f b rs)
+below-listed f b (r ∷ rs) = below-append 256 (f r) (recordsBytes f rs) (b r) (below-listed f b rs)

@@ -12,7 +12,7 @@ use Rattle.sb.specs.Superblock.{sbBytes}
 use Rattle.plan.specs.declared.AgPlan.{AgPlan}
 use Rattle.plan_same.specs.Same.{isPlan}
 use Rattle.head_frame.specs.Frames.{frameOf}
-use Rattle.head_bytes.specs.Head.{zeros, headBlocks, behindBytes, headBytes, headLength}
+use Rattle.head_bytes.specs.Head.{zeros, frameBlocks, behindBytes, headBytes, headLength}
 use Rattle.head_bytes.proofs.Lending.{sb-length}
 use Rattle.head_bytes.proofs.Ready.{blocks-are, ready, head-from}
 use Rattle.head_bytes.proofs.Whole.{whole-length}

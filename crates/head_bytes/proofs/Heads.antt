@@ -5,15 +5,15 @@ use mathlib.Core.Bool.{Bool, true, false}
 use mathlib.Core.List.{List, [], _∷_, _++_}
 use Prim.Native.Nat.{ℕ, _*_, _-_}
 use lib.ListN.{length, take, replicate}
-use Rattle.endian.specs.Bytes.{beBytes, runBytes, below}
-use Rattle.endian.specs.Fields.{Field, field, write}
+use Rattle.endian.specs.Bytes.{beBytes, numbersBytes, below}
+use Rattle.endian.specs.Fields.{Field, field, writeFields}
 use Rattle.seqs.specs.Lists.{choose}
 use Rattle.geometry.specs.declared.Geometry.{Geometry}
 use Rattle.geometry_layout.specs.Places.{ibtBlock, fibtBlock}
 use Rattle.btree.specs.declared.records.AllocRec.{AllocRec}
 use Rattle.btree.specs.declared.records.InobtRec.{InobtRec}
 use Rattle.btree.specs.declared.records.RmapRec.{RmapRec}
-use Rattle.btree.specs.Records.{listed, allocFields, allocBytes, inobtFields, inobtBytes, rmapFields, rmapBytes}
+use Rattle.btree.specs.Records.{recordsBytes, allocFields, allocBytes, inobtFields, inobtBytes, rmapFields, rmapBytes}
 use Rattle.btree.specs.Leaf.{leafHeader, leafFields, leafBytes}
 use Rattle.arith.specs.Choice.{bit}
 use Rattle.head_leaves.specs.Leaves.{chunkRec, few}
@@ -33,7 +33,7 @@ use Rattle.plan_same.specs.Same.{isPlan}
 use Rattle.plan_same.proofs.Planners.{is-plan-same}
 use Rattle.head_frame.specs.declared.Frame.{Frame}
 use Rattle.head_frame.specs.Frames.{frameOf}
-use Rattle.head_bytes.specs.Head.{zeros, agfOf, agiOf, inoMagic, finoMagic, rootBytes, bnoRoot, cntRoot, inodeRoot, rmapRoot, refcRoot, sectorsBytes, rootsBytes, behindBytes, headBytes}
+use Rattle.head_bytes.specs.Head.{zeros, agfFor, agiFor, inoMagic, finoMagic, rootBytes, bnoRoot, cntRoot, inodeRoot, rmapRoot, refcRoot, sectorsBytes, rootsBytes, behindBytes, headBytes}
 use Rattle.head_bytes.proofs.Below.{below-append, below-be, below-run, below-zeros, below-choose, allBelow, all-append, below-write, below-stamped, below-listed}
 
 -- ---- records
@@ -225,7 +225,7 @@ module _ (w : Frame) (p : AgPlan) (uuid : List ℕ) (u : below 256 uuid) where
   unfolding inodeRoot
   inode-below magic b =
       let recs = few (bit (w .«has_chunk»)) (chunkRec (w .newino)) in
-      root-below magic b (listed (inobtBytes (w .features .sparse)) recs) (bit (w .«has_chunk»)) (below-listed (inobtBytes (w .features .sparse)) (inobt-below (w .features .sparse)) recs)
+      root-below magic b (recordsBytes (inobtBytes (w .features .sparse)) recs) (bit (w .«has_chunk»)) (below-listed (inobtBytes (w .features .sparse)) (inobt-below (w .features .sparse)) recs)
 
   roots-below : below 256 (rootsBytes w p uuid)
   unfolding rootsBytes bnoRoot cntRoot rmapRoot refcRoot
@@ -242,8 +242,8 @@ module _ (w : Frame) (p : AgPlan) (uuid : List ℕ) (u : below 256 uuid) where
   behind-below =
       let z = below-zeros (w .sector) in
       below-append 256 (sectorsBytes w p uuid) _
-      (below-append 256 (agfBytes (agfOf w (p .free) (p .agfl .len)) uuid (zeros (w .sector))) _ (agf-below uuid u _ _ z)
-      (below-append 256 (agiBytes (agiOf w) uuid (zeros (w .sector))) _ (agi-below uuid u _ _ z) (agfl-below uuid u _ _ _ _ z)))
+      (below-append 256 (agfBytes (agfFor w (p .free) (p .agfl .len)) uuid (zeros (w .sector))) _ (agf-below uuid u _ _ z)
+      (below-append 256 (agiBytes (agiFor w) uuid (zeros (w .sector))) _ (agi-below uuid u _ _ z) (agfl-below uuid u _ _ _ _ z)))
       (below-append 256 (zeros (w .header * w .block - 4 * w .sector)) _ (below-zeros (w .header * w .block - 4 * w .sector)) roots-below)
 
 -- EVERY BYTE OF A HEAD IS BELOW 256

@@ -11,7 +11,7 @@ use lib.Seq.{length-take-le}
 use borrow.Author.Tests.{le-leb, le-ltb}
 use borrow.Rule.Slice.PartMut.{putMid}
 use Rattle.endian.specs.Bytes.{patch}
-use Rattle.endian.specs.Fields.{write}
+use Rattle.endian.specs.Fields.{writeFields}
 use Rattle.endian.proofs.Laws.{part-back}
 use Rattle.endian.proofs.Fields.{write-length}
 use Rattle.crc.proofs.Laws.{length-stamped}
@@ -38,25 +38,25 @@ use Rattle.head_bytes.specs.Parts.{sectorOn}
 
 pub sb-length : (g : Geometry) (s : SbState) (xs : List ℕ) → length (sbBytes g s xs) ≡ length xs
 unfolding sbBytes
-sb-length g s xs = length-stamped 224 (write (sbFields g s) xs) ∙ write-length (sbFields g s) xs
+sb-length g s xs = length-stamped 224 (writeFields (sbFields g s) xs) ∙ write-length (sbFields g s) xs
 
 pub agf-length : (a : Agf) (uuid xs : List ℕ) → length (agfBytes a uuid xs) ≡ length xs
 unfolding agfBytes
-agf-length a uuid xs = length-stamped 216 (write (agfFields a uuid) xs) ∙ write-length (agfFields a uuid) xs
+agf-length a uuid xs = length-stamped 216 (writeFields (agfFields a uuid) xs) ∙ write-length (agfFields a uuid) xs
 
 pub agi-length : (a : Agi) (uuid xs : List ℕ) → length (agiBytes a uuid xs) ≡ length xs
 unfolding agiBytes
-agi-length a uuid xs = length-stamped 312 (write (agiFields a uuid) xs) ∙ write-length (agiFields a uuid) xs
+agi-length a uuid xs = length-stamped 312 (writeFields (agiFields a uuid) xs) ∙ write-length (agiFields a uuid) xs
 
 pub agfl-length : (agno : ℕ) (uuid : List ℕ) (first : ℕ) (list xs : List ℕ) → length (agflBytes agno uuid first list xs) ≡ length xs
 unfolding agflBytes
 agfl-length agno uuid first list xs =
-    length-stamped 32 (write (agflFields (length xs) agno uuid first list) xs) ∙ write-length (agflFields (length xs) agno uuid first list) xs
+    length-stamped 32 (writeFields (agflFields (length xs) agno uuid first list) xs) ∙ write-length (agflFields (length xs) agno uuid first list) xs
 
 pub leaf-length : (magic daddr agno : ℕ) (uuid recs : List ℕ) (n len : ℕ) → length (leafBytes magic daddr agno uuid recs n len) ≡ len
 unfolding leafBytes
 leaf-length magic daddr agno uuid recs n len =
-    length-stamped 52 (write (leafFields magic daddr agno uuid recs n) (replicate len 0)) ∙ write-length (leafFields magic daddr agno uuid recs n) (replicate len 0) ∙ length-replicate len 0
+    length-stamped 52 (writeFields (leafFields magic daddr agno uuid recs n) (replicate len 0)) ∙ write-length (leafFields magic daddr agno uuid recs n) (replicate len 0) ∙ length-replicate len 0
 
 -- ---- parts
 

@@ -23,7 +23,7 @@ use Rattle.head_frame.specs.declared.Frame.{Frame}
 use Rattle.head_frame.specs.Frames.{frameOf, framed, Fine, Few, Counted}
 use Rattle.plan_summary.proofs.Narrow.{plan-answer}
 use Rattle.head_frame.proofs.Fitting.{plan-few, plan-fine, framed-number}
-use Rattle.head_bytes.specs.Head.{zeros, headBlocks, behindBytes, headBytes, headLength, headNumber}
+use Rattle.head_bytes.specs.Head.{zeros, frameBlocks, behindBytes, headBytes, headLength, headNumber}
 use Rattle.head_bytes.proofs.Whole.{three-inside}
 
 pub sb-accepted : (g : Geometry) (len : ℕ) → isAnswer g ≡ true → len ≡ g .sectsize → sbNumber g len ≡ 0
@@ -31,8 +31,8 @@ unfolding sbNumber
 sb-accepted g len h e = rw (h, eq-eqb len (g .sectsize) e) refl
 
 -- the head's blocks are the preallocated ones
-pub blocks-are : (g : Geometry) (p : AgPlan) → headBlocks (frameOf g p) * frameOf g p .block ≡ headLength g
-unfolding frameOf headBlocks headLength preallocOf
+pub blocks-are : (g : Geometry) (p : AgPlan) → frameBlocks (frameOf g p) * frameOf g p .block ≡ headLength g
+unfolding frameOf frameBlocks headLength preallocOf
 blocks-are g p = refl
 
 pub record Ready (g : Geometry) (p : AgPlan) (w : Frame) (len : ℕ) : Type 0 where
@@ -42,8 +42,8 @@ pub record Ready (g : Geometry) (p : AgPlan) (w : Frame) (len : ℕ) : Type 0 wh
   pub few : Few p
   pub counted : Counted w p
   pub headers : w .header * w .block ≤ len
-  pub exact : len ≡ headBlocks w * w .block
-  pub all : headBlocks w * w .block ≤ len
+  pub exact : len ≡ frameBlocks w * w .block
+  pub all : frameBlocks w * w .block ≤ len
 
 sector-is : (g : Geometry) (p : AgPlan) → frameOf g p .sector ≡ g .sectsize
 unfolding frameOf
@@ -55,9 +55,9 @@ counted-is g p = record { blocks = refl; longest = refl; list = refl }
 
 pub ready : (g : Geometry) (p : AgPlan) (w : Frame) (len : ℕ) → length (g .label) ≡ 12 → isPlan g p ≡ true → w ≡ frameOf g p → len ≡ headLength g → Ready g p w len
 ready g p w len l h e n =
-    let x : len ≡ headBlocks w * w .block = n ∙ sym (blocks-are g p) ∙ rw e refl in
+    let x : len ≡ frameBlocks w * w .block = n ∙ sym (blocks-are g p) ∙ rw e refl in
     let t = three-inside w in
-    let m : w .header * w .block ≤ headBlocks w * w .block = mul-le-mul-right (w .block) (omega arith) in
+    let m : w .header * w .block ≤ frameBlocks w * w .block = mul-le-mul-right (w .block) (omega arith) in
     record {
       answer = plan-answer g p l h .0;
       sector = rw e (sector-is g p);

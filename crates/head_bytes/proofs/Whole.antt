@@ -25,7 +25,7 @@ use Rattle.plan_rmap.specs.declared.RmapList.{RmapList}
 use Rattle.plan.specs.declared.AgPlan.{AgPlan}
 use Rattle.head_frame.specs.declared.Frame.{Frame}
 use Rattle.head_frame.specs.Frames.{Fine}
-use Rattle.head_bytes.specs.Head.{zeros, headBlocks, agfOf, agiOf, inoMagic, finoMagic, rootBytes, bnoRoot, cntRoot, inodeRoot, rmapRoot, refcRoot, sectorsBytes, rootsBytes, behindBytes}
+use Rattle.head_bytes.specs.Head.{zeros, frameBlocks, agfFor, agiFor, inoMagic, finoMagic, rootBytes, bnoRoot, cntRoot, inodeRoot, rmapRoot, refcRoot, sectorsBytes, rootsBytes, behindBytes}
 use Rattle.head_bytes.specs.Parts.{sectorOn, blockIf, sectorsOn, rootsOn, moreOn}
 use Rattle.head_bytes.proofs.Lending.{sb-length, agf-length, agi-length, agfl-length, leaf-length}
 use Rattle.head_bytes.proofs.Laying.{Starts, next, next-if, next-sector, all-laid}
@@ -43,20 +43,20 @@ unfolding bit
 bit-true b e = rw e refl
 
 module _ (w : Frame) where
-  pub fibt-inside : w .features .finobt ≡ true → fibtBlock (w .header) < headBlocks w
-  unfolding headBlocks fibtBlock
+  pub fibt-inside : w .features .finobt ≡ true → fibtBlock (w .header) < frameBlocks w
+  unfolding frameBlocks fibtBlock
   fibt-inside e = let n = bit-true (w .features .finobt) e in omega arith
 
-  pub rmap-inside : w .features .rmapbt ≡ true → rmapBlock (w .features) (w .header) < headBlocks w
-  unfolding headBlocks rmapBlock
+  pub rmap-inside : w .features .rmapbt ≡ true → rmapBlock (w .features) (w .header) < frameBlocks w
+  unfolding frameBlocks rmapBlock
   rmap-inside e = let n = bit-true (w .features .rmapbt) e in omega arith
 
-  pub refc-inside : w .features .reflink ≡ true → refcBlock (w .features) (w .header) < headBlocks w
-  unfolding headBlocks refcBlock
+  pub refc-inside : w .features .reflink ≡ true → refcBlock (w .features) (w .header) < frameBlocks w
+  unfolding frameBlocks refcBlock
   refc-inside e = let n = bit-true (w .features .reflink) e in omega arith
 
-  pub three-inside : w .header + 3 ≤ headBlocks w
-  unfolding headBlocks
+  pub three-inside : w .header + 3 ≤ frameBlocks w
+  unfolding frameBlocks
   three-inside = omega arith
 
 -- ---- lengths
@@ -120,7 +120,7 @@ block-off on a new xs e = rw e refl
 
 -- ---- part by part over the lent bytes
 
-module _ (w : Frame) (p : AgPlan) (g : Geometry) (s : SbState) (uuid xs : List ℕ) (ok : Fine w) (fits : length xs ≡ headBlocks w * w .block) where
+module _ (w : Frame) (p : AgPlan) (g : Geometry) (s : SbState) (uuid xs : List ℕ) (ok : Fine w) (fits : length xs ≡ frameBlocks w * w .block) where
   abbrev ss : ℕ
   ss = w .sector
 
@@ -131,10 +131,10 @@ module _ (w : Frame) (p : AgPlan) (g : Geometry) (s : SbState) (uuid xs : List �
   SB = sbBytes g s (zeros ss)
 
   abbrev AGF : List ℕ
-  AGF = agfBytes (agfOf w (p .free) (p .agfl .len)) uuid (zeros ss)
+  AGF = agfBytes (agfFor w (p .free) (p .agfl .len)) uuid (zeros ss)
 
   abbrev AGI : List ℕ
-  AGI = agiBytes (agiOf w) uuid (zeros ss)
+  AGI = agiBytes (agiFor w) uuid (zeros ss)
 
   abbrev LIST : List ℕ
   LIST = agflBytes (w .agno) uuid 1 (take (p .agfl .len) (p .agfl .blocks)) (zeros ss)
@@ -146,16 +146,16 @@ module _ (w : Frame) (p : AgPlan) (g : Geometry) (s : SbState) (uuid xs : List �
   l1 = sb-length g s (zeros ss) ∙ zs ss
 
   l2 : length AGF ≡ ss
-  l2 = agf-length (agfOf w (p .free) (p .agfl .len)) uuid (zeros ss) ∙ zs ss
+  l2 = agf-length (agfFor w (p .free) (p .agfl .len)) uuid (zeros ss) ∙ zs ss
 
   l3 : length AGI ≡ ss
-  l3 = agi-length (agiOf w) uuid (zeros ss) ∙ zs ss
+  l3 = agi-length (agiFor w) uuid (zeros ss) ∙ zs ss
 
   l4 : length LIST ≡ ss
   l4 = agfl-length (w .agno) uuid 1 (take (p .agfl .len) (p .agfl .blocks)) (zeros ss) ∙ zs ss
 
   room : hb ≤ length xs
-  room = let m : w .header * w .block ≤ headBlocks w * w .block = mul-le-mul-right (w .block) (let t = three-inside w in omega arith) in omega arith
+  room = let m : w .header * w .block ≤ frameBlocks w * w .block = mul-le-mul-right (w .block) (let t = three-inside w in omega arith) in omega arith
 
   abbrev x0 : List ℕ
   x0 = patch 0 (replicate hb 0) xs
@@ -174,17 +174,17 @@ module _ (w : Frame) (p : AgPlan) (g : Geometry) (s : SbState) (uuid xs : List �
   s1 = next-sector 0 ss hb (sbBytes g s) [] x0 x1 s0 refl (let k = ok .sectors-fit in omega arith) l1 refl
 
   abbrev x2 : List ℕ
-  x2 = sectorOn ss ss (agfBytes (agfOf w (p .free) (p .agfl .len)) uuid) x1
+  x2 = sectorOn ss ss (agfBytes (agfFor w (p .free) (p .agfl .len)) uuid) x1
 
   s2 : Starts ((SB ++ AGF) ++ zeros (hb - ss - ss)) x2
-  s2 = next-sector ss ss (hb - ss) (agfBytes (agfOf w (p .free) (p .agfl .len)) uuid) SB x1 x2 s1 l1 (let k = ok .sectors-fit in omega arith) l2 refl
+  s2 = next-sector ss ss (hb - ss) (agfBytes (agfFor w (p .free) (p .agfl .len)) uuid) SB x1 x2 s1 l1 (let k = ok .sectors-fit in omega arith) l2 refl
 
   abbrev x3 : List ℕ
-  x3 = sectorOn (2 * ss) ss (agiBytes (agiOf w) uuid) x2
+  x3 = sectorOn (2 * ss) ss (agiBytes (agiFor w) uuid) x2
 
   s3 : Starts (((SB ++ AGF) ++ AGI) ++ zeros (hb - ss - ss - ss)) x3
   s3 =
-      next-sector (2 * ss) ss (hb - ss - ss) (agiBytes (agiOf w) uuid) (SB ++ AGF) x2 x3 s2
+      next-sector (2 * ss) ss (hb - ss - ss) (agiBytes (agiFor w) uuid) (SB ++ AGF) x2 x3 s2
       (let a = length-append SB AGF in let b = l1 in let c = l2 in omega arith) (let k = ok .sectors-fit in omega arith) l3 refl
 
   abbrev x4 : List ℕ
@@ -240,9 +240,9 @@ module _ (w : Frame) (p : AgPlan) (g : Geometry) (s : SbState) (uuid xs : List �
   REFC = refcRoot w uuid
 
   -- block b of the head has room for a root
-  fit : (b : ℕ) (new ys : List ℕ) → b < headBlocks w → length new ≡ w .block → length ys ≡ length xs → b * w .block + length new ≤ length ys
+  fit : (b : ℕ) (new ys : List ℕ) → b < frameBlocks w → length new ≡ w .block → length ys ≡ length xs → b * w .block + length new ≤ length ys
   fit b new ys h l e =
-      let r : b * w .block + w .block ≤ length xs = block-room b (headBlocks w) (w .block) (length xs) h (let f = fits in omega arith) in
+      let r : b * w .block + w .block ≤ length xs = block-room b (frameBlocks w) (w .block) (length xs) h (let f = fits in omega arith) in
       rw (l, e) r
 
   abbrev y1 : List ℕ
@@ -338,8 +338,8 @@ module _ (w : Frame) (p : AgPlan) (g : Geometry) (s : SbState) (uuid xs : List �
   abbrev ALL : List ℕ
   ALL = FIVE ++ choose (w .features .reflink) REFC []
 
-  m6 : length ALL ≡ headBlocks w * w .block
-  unfolding headBlocks
+  m6 : length ALL ≡ frameBlocks w * w .block
+  unfolding frameBlocks
   m6 = longer-if (w .features .reflink) FIVE REFC (w .header + 3 + bit (w .features .finobt) + bit (w .features .rmapbt)) (w .block) m5 (refc-length w uuid)
 
   k6 : length y6 ≡ length xs
@@ -358,5 +358,5 @@ module _ (w : Frame) (p : AgPlan) (g : Geometry) (s : SbState) (uuid xs : List �
   unfolding moreOn rootsOn sectorsOn
   whole = laid ∙ in-order
 
-  pub whole-length : length (SB ++ behindBytes w p uuid) ≡ headBlocks w * w .block
+  pub whole-length : length (SB ++ behindBytes w p uuid) ≡ frameBlocks w * w .block
   whole-length = ap (λ (l : List ℕ). length l) (sym in-order) ∙ m6

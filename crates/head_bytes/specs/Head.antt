@@ -14,7 +14,7 @@ use Rattle.geometry.specs.declared.Geometry.{Geometry}
 use Rattle.geometry.specs.Log.{preallocOf}
 use Rattle.geometry_layout.specs.Places.{cntBlock, ibtBlock, fibtBlock, rmapBlock, refcBlock, agflSize, daddrOf}
 use Rattle.btree.specs.declared.records.InobtRec.{InobtRec}
-use Rattle.btree.specs.Records.{listed, allocBytes, inobtBytes, rmapBytes}
+use Rattle.btree.specs.Records.{recordsBytes, allocBytes, inobtBytes, rmapBytes}
 use Rattle.btree.specs.Leaf.{leafBytes}
 use Rattle.ag.specs.declared.agf.Agf.{Agf}
 use Rattle.ag.specs.declared.agi.Agi.{Agi}
@@ -40,8 +40,8 @@ abbrev pub zeros : ℕ → List ℕ
 zeros n = replicate n 0
 
 -- the blocks of the head: header blocks, three roots, and one more for each of finobt, rmapbt and reflink
-unfoldable pub headBlocks : Frame → ℕ
-headBlocks w = w .header + 3 + bit (w .features .finobt) + bit (w .features .rmapbt) + bit (w .features .reflink)
+unfoldable pub frameBlocks : Frame → ℕ
+frameBlocks w = w .header + 3 + bit (w .features .finobt) + bit (w .features .rmapbt) + bit (w .features .reflink)
 
 -- ---- the header sectors
 
@@ -69,12 +69,12 @@ agfWith w list freeblks longest =
       btreeblks = 0;
     }
 
-unfoldable pub agfOf : Frame → FreeList → ℕ → Agf
-agfOf w free list = agfWith w list (freeblksOf free) (longestOf free)
+unfoldable pub agfFor : Frame → FreeList → ℕ → Agf
+agfFor w free list = agfWith w list (freeblksOf free) (longestOf free)
 
 -- the AGI: the group, its inodes, where it has the root chunk, and the roots of the inode trees
-unfoldable pub agiOf : Frame → Agi
-agiOf w =
+unfoldable pub agiFor : Frame → Agi
+agiFor w =
     record {
       seqno = w .agno;
       length = w .length;
@@ -116,18 +116,18 @@ rootBytes w uuid magic b recs n = leafBytes magic (daddrOf (w .block) (w .agsize
 
 -- free extents by block, and by size
 unfoldable pub bnoRoot : Frame → List ℕ → FreeList → List ℕ
-bnoRoot w uuid free = rootBytes w uuid bnoMagic (w .header) (listed allocBytes (freeOf free)) (free .len)
+bnoRoot w uuid free = rootBytes w uuid bnoMagic (w .header) (recordsBytes allocBytes (freeOf free)) (free .len)
 
 unfoldable pub cntRoot : Frame → List ℕ → FreeList → List ℕ
-cntRoot w uuid free = rootBytes w uuid cntMagic (cntBlock (w .header)) (listed allocBytes (bySize (freeOf free))) (free .len)
+cntRoot w uuid free = rootBytes w uuid cntMagic (cntBlock (w .header)) (recordsBytes allocBytes (bySize (freeOf free))) (free .len)
 
 -- inodes, and free inodes: the root chunk, where the group has it
 unfoldable pub inodeRoot : Frame → List ℕ → ℕ → ℕ → List ℕ
 inodeRoot w uuid magic b =
-    rootBytes w uuid magic b (listed (inobtBytes (w .features .sparse)) (few (bit (w .«has_chunk»)) (chunkRec (w .newino)))) (bit (w .«has_chunk»))
+    rootBytes w uuid magic b (recordsBytes (inobtBytes (w .features .sparse)) (few (bit (w .«has_chunk»)) (chunkRec (w .newino)))) (bit (w .«has_chunk»))
 
 unfoldable pub rmapRoot : Frame → List ℕ → RmapList → List ℕ
-rmapRoot w uuid maps = rootBytes w uuid rmapMagic (rmapBlock (w .features) (w .header)) (listed rmapBytes (rmapOf maps)) (maps .len)
+rmapRoot w uuid maps = rootBytes w uuid rmapMagic (rmapBlock (w .features) (w .header)) (recordsBytes rmapBytes (rmapOf maps)) (maps .len)
 
 -- reference counts: none
 unfoldable pub refcRoot : Frame → List ℕ → List ℕ
@@ -138,8 +138,8 @@ refcRoot w uuid = rootBytes w uuid refcMagic (refcBlock (w .features) (w .header
 -- AGF, AGI and free list, each in a sector of zeros
 unfoldable pub sectorsBytes : Frame → AgPlan → List ℕ → List ℕ
 sectorsBytes w p uuid =
-    agfBytes (agfOf w (p .free) (p .agfl .len)) uuid (zeros (w .sector))
-    ++ (agiBytes (agiOf w) uuid (zeros (w .sector))
+    agfBytes (agfFor w (p .free) (p .agfl .len)) uuid (zeros (w .sector))
+    ++ (agiBytes (agiFor w) uuid (zeros (w .sector))
     ++ agflBytes (w .agno) uuid 1 (take (p .agfl .len) (p .agfl .blocks)) (zeros (w .sector)))
 
 -- three roots, and one more for each of finobt, rmapbt and reflink

@@ -11,7 +11,7 @@ use Rattle.ag.specs.Agi.{agiBytes}
 use Rattle.ag.specs.Agfl.{agflBytes}
 use Rattle.plan.specs.declared.AgPlan.{AgPlan}
 use Rattle.head_frame.specs.declared.Frame.{Frame}
-use Rattle.head_bytes.specs.Head.{agfOf, agiOf, inoMagic, finoMagic, bnoRoot, cntRoot, inodeRoot, rmapRoot, refcRoot}
+use Rattle.head_bytes.specs.Head.{agfFor, agiFor, inoMagic, finoMagic, bnoRoot, cntRoot, inodeRoot, rmapRoot, refcRoot}
 use Rattle.endian.specs.Bytes.{patch}
 use Rattle.endian.specs.Fields.{part}
 
@@ -27,8 +27,8 @@ blockIf on a new xs = choose on (patch a new xs) xs
 unfoldable pub sectorsOn : Frame → AgPlan → List ℕ → List ℕ → List ℕ
 sectorsOn w p uuid xs =
     sectorOn (3 * w .sector) (w .sector) (agflBytes (w .agno) uuid 1 (take (p .agfl .len) (p .agfl .blocks)))
-    (sectorOn (2 * w .sector) (w .sector) (agiBytes (agiOf w) uuid)
-    (sectorOn (w .sector) (w .sector) (agfBytes (agfOf w (p .free) (p .agfl .len)) uuid) xs))
+    (sectorOn (2 * w .sector) (w .sector) (agiBytes (agiFor w) uuid)
+    (sectorOn (w .sector) (w .sector) (agfBytes (agfFor w (p .free) (p .agfl .len)) uuid) xs))
 
 -- the three roots of every group in their blocks
 unfoldable pub rootsOn : Frame → AgPlan → List ℕ → List ℕ → List ℕ

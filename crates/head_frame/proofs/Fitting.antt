@@ -23,7 +23,7 @@ use Rattle.geometry_layout.proofs.Inside.{blocks-least, inodes-most}
 use Rattle.geometry_places.proofs.Room.{room-at}
 use Rattle.geometry_places.specs.Answers.{groupRefusal}
 use Rattle.plan_site.specs.declared.Site.{Site}
-use Rattle.plan_site.specs.Sites.{siteOf, Sound}
+use Rattle.plan_site.specs.Sites.{siteOf, SoundSite}
 use Rattle.plan_site.proofs.Sites.{site-sound}
 use Rattle.structs.specs.Sizes.{isPower, isSector, isBlock}
 use Rattle.plan.specs.declared.AgPlan.{AgPlan}
@@ -31,7 +31,7 @@ use Rattle.params.specs.declared.OptU64.{OptU64}
 use Rattle.params.specs.declared.OptU64.the-variants.{Absent, Given}
 use Rattle.btree.specs.declared.records.RmapRec.{RmapRec}
 use Rattle.plan.specs.Plan.{ownAg, ownLog, ownInodes, ownRefc, mapRec, refcMap, logMap}
-use Rattle.plan_closed.specs.Closed.{isFirst, isJoined, listAt, headParts, listParts, chunkParts, closedList, closedRmap, closedAgPlan}
+use Rattle.plan_closed.specs.Closed.{hasRootChunk, isJoined, listAt, headMappings, listParts, chunkMapping, closedList, closedRmap, closedAgPlan}
 use Rattle.plan_totals.specs.Totals.{freeblksOf, longestOf}
 use Rattle.plan_totals.proofs.Rows.{list-is}
 use Rattle.plan_same.specs.Same.{isPlan}
@@ -75,17 +75,17 @@ unfolding closedRmap
 rmap-few s =
     choose-elim (λ (l : List RmapRec). length l ≤ 8) (s .rmapbt) _ _
     (λ t. let a = between-few s in
-    let b = maybe-few (isFirst s) (mapRec (s .«chunk_at») (s .«chunk_blocks») ownInodes) in
-    let n = length-append (headParts s) (listParts s ++ chunkParts s) in
-    let m = length-append (listParts s) (chunkParts s) in
+    let b = maybe-few (hasRootChunk s) (mapRec (s .«chunk_at») (s .«chunk_blocks») ownInodes) in
+    let n = length-append (headMappings s) (listParts s ++ chunkMapping s) in
+    let m = length-append (listParts s) (chunkMapping s) in
     omega arith)
     (λ t. omega arith)
 
 -- the chunk's first inode, for at most 32 inodes a block
-ino-least : (s : Site) (log : ℕ) → Sound s → 2 ^ log ≤ 32 → chunkIno log (choose (isFirst s) (Given (s .«chunk_at»)) Absent) < 2 ^ 32
+ino-least : (s : Site) (log : ℕ) → SoundSite s → 2 ^ log ≤ 32 → chunkIno log (choose (hasRootChunk s) (Given (s .«chunk_at»)) Absent) < 2 ^ 32
 unfolding chunkIno
 ino-least s log ok h =
-    choose-elim (λ (x : OptU64). chunkIno log x < 2 ^ 32) (isFirst s) _ _
+    choose-elim (λ (x : OptU64). chunkIno log x < 2 ^ 32) (hasRootChunk s) _ _
     (λ t. let c = ok .chunk-ends in let b : s .«chunk_at» ≤ 80 = omega arith in let m : s .«chunk_at» * 2 ^ log ≤ 80 * 32 = mul-le-mul b h in omega arith)
     (λ t. omega arith)
 
@@ -107,7 +107,7 @@ module _ (g : Geometry) (p : AgPlan) (l : length (g .label) ≡ 12) (h : isPlan 
   bounds : Bounds g
   bounds = answer-bounds g l (plan-answer g p l h .0)
 
-  sound : Sound its
+  sound : SoundSite its
   sound = site-sound g (p .agno) l (plan-answer g p l h .0)
 
   pub plan-narrow : Narrow g p

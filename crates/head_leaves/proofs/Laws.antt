@@ -10,7 +10,7 @@ use mathlib.Core.Bool.{Bool}
 use borrow.Author.Tests.{eq-eqb, le-leb}
 use borrow.Rule.Slice.PartMut.{postOf}
 use Rattle.structs.specs.Encoded.{Encoded}
-use Rattle.btree.specs.Records.{listed, inobtBytes, recsNumber}
+use Rattle.btree.specs.Records.{recordsBytes, inobtBytes, recsNumber}
 use Rattle.btree.specs.declared.records.InobtRec.{InobtRec}
 use Rattle.btree.proofs.Laws.{length-listed, inobt-size}
 use Rattle.head_leaves.specs.Leaves.{few}
@@ -30,7 +30,7 @@ pub lent-length : (k m : ℕ) (xs : List ℕ) → length xs ≡ m → k ≤ m �
 lent-length k m xs e h = let z : k - 0 ≡ k = omega arith in rw z (length-take-le k xs (rw e h))
 
 pub listed-length : {A : Type 0} (f : A → List ℕ) (size : ℕ) → ((a : A) → length (f a) ≡ size) → (n m : ℕ) (xs : List A) → length xs ≡ m → n ≤ m
-    → length (listed f (take n xs)) ≡ size * n
+    → length (recordsBytes f (take n xs)) ≡ size * n
 listed-length f size s n m xs e h = length-listed f size s (take n xs) ∙ ap (λ (k : ℕ). size * k) (length-take-le n xs (rw e h))
 
 -- a leaf of the records that were lent
@@ -47,8 +47,8 @@ take-alike {A} n m x h =
     ∙ ap (λ (l : List A). take n l) (sym (replicate-append-replicate n (m - n) x))
     ∙ take-at (replicate n x) (replicate (m - n) x) n (length-replicate n x)
 
-pub few-alike : (sparse : Bool) (n : ℕ) (r s : InobtRec) → n ≤ 64 → r ≡ s → listed (inobtBytes sparse) (take n (replicate 64 r)) ≡ listed (inobtBytes sparse) (few n s)
-few-alike sparse n r s h e = ap (λ (l : List InobtRec). listed (inobtBytes sparse) l) (take-alike n 64 r h ∙ ap (λ (x : InobtRec). replicate n x) e)
+pub few-alike : (sparse : Bool) (n : ℕ) (r s : InobtRec) → n ≤ 64 → r ≡ s → recordsBytes (inobtBytes sparse) (take n (replicate 64 r)) ≡ recordsBytes (inobtBytes sparse) (few n s)
+few-alike sparse n r s h e = ap (λ (l : List InobtRec). recordsBytes (inobtBytes sparse) l) (take-alike n 64 r h ∙ ap (λ (x : InobtRec). replicate n x) e)
 
-pub few-length : (sparse : Bool) (n : ℕ) (r : InobtRec) → length (listed (inobtBytes sparse) (few n r)) ≡ 16 * n
+pub few-length : (sparse : Bool) (n : ℕ) (r : InobtRec) → length (recordsBytes (inobtBytes sparse) (few n r)) ≡ 16 * n
 few-length sparse n r = length-listed (inobtBytes sparse) 16 (inobt-size sparse) (replicate n r) ∙ ap (λ (k : ℕ). 16 * k) (length-replicate n r)

@@ -7,7 +7,7 @@ ghost use Prim.Native.Nat.{_*_, _≤_};
 ghost use lib.ListN.{length, take};
 ghost use Rattle.arith.specs.Choice.{bit};
 ghost use Rattle.structs.specs.Encoded.{Encoded};
-ghost use Rattle.btree.specs.Records.{listed, allocBytes, inobtBytes, rmapBytes};
+ghost use Rattle.btree.specs.Records.{recordsBytes, allocBytes, inobtBytes, rmapBytes};
 ghost use Rattle.btree.specs.Leaf.{leafCrcAt, leafNumber, leafBytes};
 ghost use Rattle.head_leaves.specs.Leaves.{listNumber, few, chunkRec};
 use arith::choice::bit_of;
@@ -39,7 +39,7 @@ fn put_free(
     block: &mut [u8],
 ) -> Stamped
     requires { ⌜ (l .len ≤ 64) × (length (now work) ≡ 1536) ⌝ }
-    ensures { λ r. ⌜ Encoded (leafNumber (8 * l .len) (length (now (block .entry)))) (leafCrcAt ∷ []) (leafBytes magic daddr agno (now (uuid .entry)) (listed allocBytes (take (l .len) (l .recs))) (l .len) (length (now (block .entry)))) (now (block .entry)) (r .number) (r .right) (now (block .exit)) ⌝ }
+    ensures { λ r. ⌜ Encoded (leafNumber (8 * l .len) (length (now (block .entry)))) (leafCrcAt ∷ []) (leafBytes magic daddr agno (now (uuid .entry)) (recordsBytes allocBytes (take (l .len) (l .recs))) (l .len) (length (now (block .entry)))) (now (block .entry)) (r .number) (r .right) (now (block .exit)) ⌝ }
 {
     let n = l.len;
     let used = ALLOC_REC * n;
@@ -57,7 +57,7 @@ pub fn free_leaf(
     l: FreeList,
     block: &mut [u8],
 ) -> Stamped
-    ensures { λ r. ⌜ Encoded (listNumber 8 (l .len) (length (now (block .entry)))) (leafCrcAt ∷ []) (leafBytes magic daddr agno (now (uuid .entry)) (listed allocBytes (take (l .len) (l .recs))) (l .len) (length (now (block .entry)))) (now (block .entry)) (r .number) (r .right) (now (block .exit)) ⌝ }
+    ensures { λ r. ⌜ Encoded (listNumber 8 (l .len) (length (now (block .entry)))) (leafCrcAt ∷ []) (leafBytes magic daddr agno (now (uuid .entry)) (recordsBytes allocBytes (take (l .len) (l .recs))) (l .len) (length (now (block .entry)))) (now (block .entry)) (r .number) (r .right) (now (block .exit)) ⌝ }
 {
     if !is_block(block.len()) {
         return Stamped {
@@ -85,7 +85,7 @@ fn put_maps(
     block: &mut [u8],
 ) -> Stamped
     requires { ⌜ (l .len ≤ 64) × (length (now work) ≡ 1536) ⌝ }
-    ensures { λ r. ⌜ Encoded (leafNumber (24 * l .len) (length (now (block .entry)))) (leafCrcAt ∷ []) (leafBytes magic daddr agno (now (uuid .entry)) (listed rmapBytes (take (l .len) (l .recs))) (l .len) (length (now (block .entry)))) (now (block .entry)) (r .number) (r .right) (now (block .exit)) ⌝ }
+    ensures { λ r. ⌜ Encoded (leafNumber (24 * l .len) (length (now (block .entry)))) (leafCrcAt ∷ []) (leafBytes magic daddr agno (now (uuid .entry)) (recordsBytes rmapBytes (take (l .len) (l .recs))) (l .len) (length (now (block .entry)))) (now (block .entry)) (r .number) (r .right) (now (block .exit)) ⌝ }
 {
     let n = l.len;
     let used = RMAP_REC * n;
@@ -103,7 +103,7 @@ pub fn rmap_leaf(
     l: RmapList,
     block: &mut [u8],
 ) -> Stamped
-    ensures { λ r. ⌜ Encoded (listNumber 24 (l .len) (length (now (block .entry)))) (leafCrcAt ∷ []) (leafBytes magic daddr agno (now (uuid .entry)) (listed rmapBytes (take (l .len) (l .recs))) (l .len) (length (now (block .entry)))) (now (block .entry)) (r .number) (r .right) (now (block .exit)) ⌝ }
+    ensures { λ r. ⌜ Encoded (listNumber 24 (l .len) (length (now (block .entry)))) (leafCrcAt ∷ []) (leafBytes magic daddr agno (now (uuid .entry)) (recordsBytes rmapBytes (take (l .len) (l .recs))) (l .len) (length (now (block .entry)))) (now (block .entry)) (r .number) (r .right) (now (block .exit)) ⌝ }
 {
     if !is_block(block.len()) {
         return Stamped {
@@ -146,7 +146,7 @@ fn put_chunk(
     block: &mut [u8],
 ) -> Stamped
     requires { ⌜ (n ≤ 64) × (length (now work) ≡ 1536) ⌝ }
-    ensures { λ r. ⌜ Encoded (leafNumber (16 * n) (length (now (block .entry)))) (leafCrcAt ∷ []) (leafBytes magic daddr agno (now (uuid .entry)) (listed (inobtBytes sparse) (few n (chunkRec startino))) n (length (now (block .entry)))) (now (block .entry)) (r .number) (r .right) (now (block .exit)) ⌝ }
+    ensures { λ r. ⌜ Encoded (leafNumber (16 * n) (length (now (block .entry)))) (leafCrcAt ∷ []) (leafBytes magic daddr agno (now (uuid .entry)) (recordsBytes (inobtBytes sparse) (few n (chunkRec startino))) n (length (now (block .entry)))) (now (block .entry)) (r .number) (r .right) (now (block .exit)) ⌝ }
 {
     let used = INOBT_REC * n;
     let rec = chunk_rec(startino);
@@ -166,7 +166,7 @@ pub fn chunk_leaf(
     sparse: bool,
     block: &mut [u8],
 ) -> Stamped
-    ensures { λ r. ⌜ Encoded (leafNumber (16 * bit there) (length (now (block .entry)))) (leafCrcAt ∷ []) (leafBytes magic daddr agno (now (uuid .entry)) (listed (inobtBytes sparse) (few (bit there) (chunkRec startino))) (bit there) (length (now (block .entry)))) (now (block .entry)) (r .number) (r .right) (now (block .exit)) ⌝ }
+    ensures { λ r. ⌜ Encoded (leafNumber (16 * bit there) (length (now (block .entry)))) (leafCrcAt ∷ []) (leafBytes magic daddr agno (now (uuid .entry)) (recordsBytes (inobtBytes sparse) (few (bit there) (chunkRec startino))) (bit there) (length (now (block .entry)))) (now (block .entry)) (r .number) (r .right) (now (block .exit)) ⌝ }
 {
     let n = bit_of(there) as usize;
     let mut work = record_buffer();

@@ -21,22 +21,22 @@ use Rattle.plan_same.specs.Same.{isPlan}
 use Rattle.sb.specs.declared.SbState.{SbState}
 use Rattle.head_frame.specs.declared.Frame.{Frame}
 use Rattle.head_frame.specs.Frames.{frameOf, Fine}
-use Rattle.head_bytes.specs.Head.{headBlocks, headBytes, headLength, headNumber}
+use Rattle.head_bytes.specs.Head.{frameBlocks, headBytes, headLength, headNumber}
 use Rattle.head_bytes.specs.Places.{placesOf, headPlaces}
 use Rattle.head_bytes.proofs.Asked.{frame-places}
 use Rattle.head_bytes.proofs.Ready.{ready}
 use Rattle.chunk.specs.Chunk.{chunkPlaces}
 
 -- the blocks of a head: header blocks and roots
-pub roots-fit : (w : Frame) → w .header * w .block + (3 + bit (w .features .finobt) + bit (w .features .rmapbt) + bit (w .features .reflink)) * w .block ≤ headBlocks w * w .block
-unfolding headBlocks
+pub roots-fit : (w : Frame) → w .header * w .block + (3 + bit (w .features .finobt) + bit (w .features .rmapbt) + bit (w .features .reflink)) * w .block ≤ frameBlocks w * w .block
+unfolding frameBlocks
 roots-fit w =
     let n = 3 + bit (w .features .finobt) + bit (w .features .rmapbt) + bit (w .features .reflink) in
     let e : w .header + 3 + bit (w .features .finobt) + bit (w .features .rmapbt) + bit (w .features .reflink) ≡ w .header + n = omega arith in
     rw e (omega (arith, add-mul (w .header) n (w .block)))
 
 module _ (w : Frame) (f : Fine w) where
-  pub frame-inside : Inside (placesOf (w .header) (w .sector) (w .block) (w .features)) (headBlocks w * w .block)
+  pub frame-inside : Inside (placesOf (w .header) (w .sector) (w .block) (w .features)) (frameBlocks w * w .block)
   unfolding placesOf
   frame-inside =
       let n = 3 + bit (w .features .finobt) + bit (w .features .rmapbt) + bit (w .features .reflink) in

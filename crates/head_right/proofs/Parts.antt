@@ -17,17 +17,17 @@ use Rattle.plan.specs.declared.AgPlan.{AgPlan}
 use Rattle.plan_same.specs.Same.{isPlan}
 use Rattle.head_frame.specs.declared.Frame.{Frame}
 use Rattle.head_frame.specs.Frames.{frameOf, Fine}
-use Rattle.head_bytes.specs.Head.{headBlocks, headLength}
+use Rattle.head_bytes.specs.Head.{frameBlocks, headLength}
 use Rattle.head_bytes.specs.Places.{placesOf, headPlaces}
 use Rattle.head_bytes.proofs.Asked.{frame-places}
 use Rattle.head_bytes.proofs.Ready.{ready}
 use Rattle.chunk.specs.Chunk.{chunkPlaces}
-use Rattle.head_right.specs.Parts.{headParts, chunkParts}
+use Rattle.head_right.specs.Parts.{headRight, inodesRight}
 use Rattle.head_right.proofs.Inside.{roots-fit}
 
-module _ (w : Frame) (f : Fine w) (xs ys : List ℕ) (lx : length xs ≡ headBlocks w * w .block) (ly : length ys ≡ headBlocks w * w .block) where
-  pub frame-parts : alreadyRight (placesOf (w .header) (w .sector) (w .block) (w .features)) xs ys ≡ headParts (w .header) (w .sector) (w .block) (w .features) xs ys
-  unfolding placesOf headParts
+module _ (w : Frame) (f : Fine w) (xs ys : List ℕ) (lx : length xs ≡ frameBlocks w * w .block) (ly : length ys ≡ frameBlocks w * w .block) where
+  pub frame-parts : alreadyRight (placesOf (w .header) (w .sector) (w .block) (w .features)) xs ys ≡ headRight (w .header) (w .sector) (w .block) (w .features) xs ys
+  unfolding placesOf headRight
   frame-parts =
       let n = 3 + bit (w .features .finobt) + bit (w .features .rmapbt) + bit (w .features .reflink) in
       let s = sector-least (w .sector) (f .sector-is) in
@@ -49,13 +49,13 @@ module _ (w : Frame) (f : Fine w) (xs ys : List ℕ) (lx : length xs ≡ headBlo
 
 module _ (g : Geometry) (p : AgPlan) (l : length (g .label) ≡ 12) (h : isPlan g p ≡ true) (xs ys : List ℕ) (lx : length xs ≡ headLength g) (ly : length ys ≡ headLength g) where
   -- A HEAD SAYS YES exactly if its four sectors and its roots do, each by its own bytes before and after.
-  pub head-parts : alreadyRight (headPlaces g) xs ys ≡ headParts (frameOf g p .header) (frameOf g p .sector) (frameOf g p .block) (frameOf g p .features) xs ys
+  pub head-parts : alreadyRight (headPlaces g) xs ys ≡ headRight (frameOf g p .header) (frameOf g p .sector) (frameOf g p .block) (frameOf g p .features) xs ys
   head-parts =
       let r = ready g p (frameOf g p) (headLength g) l h refl refl in
       ap (λ (ps : List ℕ). alreadyRight ps xs ys) (sym (frame-places g p (frameOf g p) refl))
       ∙ frame-parts (frameOf g p) (r .fine) xs ys (lx ∙ r .exact) (ly ∙ r .exact)
 
 -- A ROOT CHUNK SAYS YES exactly if each of its 64 inodes does.
-pub chunk-parts : (size : ℕ) (xs ys : List ℕ) → isInode size ≡ true → length xs ≡ 64 * size → length ys ≡ 64 * size → alreadyRight (chunkPlaces size) xs ys ≡ chunkParts size xs ys
-unfolding chunkPlaces chunkParts
+pub chunk-parts : (size : ℕ) (xs ys : List ℕ) → isInode size ≡ true → length xs ≡ 64 * size → length ys ≡ 64 * size → alreadyRight (chunkPlaces size) xs ys ≡ inodesRight size xs ys
+unfolding chunkPlaces inodesRight
 chunk-parts size xs ys i lx ly = let s = inode-least size i in parts-all 100 size xs ys (omega arith) 0 64 (omega arith) (omega arith)

@@ -14,8 +14,8 @@ use Rattle.inode.specs.Dinode.{inodeCrcAt}
 use Rattle.sb.specs.Superblock.{crcAt}
 
 -- superblock, AGF, AGI and free list in their sectors, and the roots in their blocks behind the header blocks
-unfoldable pub headParts : ℕ → ℕ → ℕ → Features → List ℕ → List ℕ → Bool
-headParts header sector block f before after =
+unfoldable pub headRight : ℕ → ℕ → ℕ → Features → List ℕ → List ℕ → Bool
+headRight header sector block f before after =
     partRight crcAt 0 sector before after
     && (partRight agfCrcAt sector sector before after
     && (partRight agiCrcAt (2 * sector) sector before after
@@ -23,5 +23,5 @@ headParts header sector block f before after =
     && partsRight leafCrcAt (header * block) block (3 + bit (f .finobt) + bit (f .rmapbt) + bit (f .reflink)) before after)))
 
 -- 64 inodes
-unfoldable pub chunkParts : ℕ → List ℕ → List ℕ → Bool
-chunkParts size before after = partsRight inodeCrcAt 0 size 64 before after
+unfoldable pub inodesRight : ℕ → List ℕ → List ℕ → Bool
+inodesRight size before after = partsRight inodeCrcAt 0 size 64 before after

@@ -8,13 +8,13 @@ use native.Mathlib.Omega.{arith}
 use lib.Dec.{eqb, lit<}
 use borrow.Author.Tests.{lt-ltb, le-ltb}
 use Rattle.endian.specs.Bytes.{beBytes, patch}
-use Rattle.endian.specs.Fields.{write}
+use Rattle.endian.specs.Fields.{writeFields}
 use Rattle.structs.specs.Written.{require}
 use Rattle.structs.proofs.Written.{passed}
 use Rattle.params.specs.declared.Timestamp.{Timestamp}
 use Rattle.inode.specs.declared.dinode.Dinode.{Dinode}
-use Rattle.inode_time.specs.Time.{timeInside, accepted, StoredAs}
-use Rattle.inode.specs.Dinode.{isBig, inside, raw, orElse, timesNumber, TimesAs, coreFields, dinodeFields}
+use Rattle.inode_time.specs.Time.{timeInside, valueIf, StoredAs}
+use Rattle.inode.specs.Dinode.{isBig, timeStorable, raw, orElse, timesNumber, TimesAs, coreFields, dinodeFields}
 use Rattle.inode.specs.Directory.{emptyDir, EmptyDir}
 
 -- ---- the number of the times
@@ -50,22 +50,22 @@ four-refuse false b c d x h = refl
 
 pub times-refuse : (flags2 : ℕ) (a m c r : Timestamp) (x : ℕ) → (timesNumber flags2 a m c r 0 ≡ 0 → ⊥) → timesNumber flags2 a m c r x ≡ timesNumber flags2 a m c r 0
 unfolding timesNumber
-times-refuse flags2 a m c r x h = four-refuse (inside flags2 a) (inside flags2 m) (inside flags2 c) (inside flags2 r) x h
+times-refuse flags2 a m c r x h = four-refuse (timeStorable flags2 a) (timeStorable flags2 m) (timeStorable flags2 c) (timeStorable flags2 r) x h
 
 -- times that are accepted
 pub record Fit (flags2 : ℕ) (a m c r : Timestamp) : Type 0 where
-  pub a-fits : inside flags2 a ≡ true
-  pub m-fits : inside flags2 m ≡ true
-  pub c-fits : inside flags2 c ≡ true
-  pub r-fits : inside flags2 r ≡ true
+  pub a-fits : timeStorable flags2 a ≡ true
+  pub m-fits : timeStorable flags2 m ≡ true
+  pub c-fits : timeStorable flags2 c ≡ true
+  pub r-fits : timeStorable flags2 r ≡ true
 
 pub times-fit : (flags2 : ℕ) (a m c r : Timestamp) → timesNumber flags2 a m c r 0 ≡ 0 → Fit flags2 a m c r
 unfolding timesNumber
 times-fit flags2 a m c r e =
-    let p = passed 26 (require 26 (inside flags2 m) (require 26 (inside flags2 c) (require 26 (inside flags2 r) 0))) (inside flags2 a) (lit< tt) e in
-    let q = passed 26 (require 26 (inside flags2 c) (require 26 (inside flags2 r) 0)) (inside flags2 m) (lit< tt) (p .1) in
-    let s = passed 26 (require 26 (inside flags2 r) 0) (inside flags2 c) (lit< tt) (q .1) in
-    let t = passed 26 0 (inside flags2 r) (lit< tt) (s .1) in
+    let p = passed 26 (require 26 (timeStorable flags2 m) (require 26 (timeStorable flags2 c) (require 26 (timeStorable flags2 r) 0))) (timeStorable flags2 a) (lit< tt) e in
+    let q = passed 26 (require 26 (timeStorable flags2 c) (require 26 (timeStorable flags2 r) 0)) (timeStorable flags2 m) (lit< tt) (p .1) in
+    let s = passed 26 (require 26 (timeStorable flags2 r) 0) (timeStorable flags2 c) (lit< tt) (q .1) in
+    let t = passed 26 0 (timeStorable flags2 r) (lit< tt) (s .1) in
     record { a-fits = p .0; m-fits = q .0; c-fits = s .0; r-fits = t .0 }
 
 pub times-pass : (flags2 : ℕ) (a m c r : Timestamp) (x : ℕ) → Fit flags2 a m c r → timesNumber flags2 a m c r x ≡ x
@@ -75,14 +75,14 @@ times-pass flags2 a m c r x f = rw (f .a-fits, f .m-fits, f .c-fits, f .r-fits) 
 -- ---- core, UUID, data fork
 pub dinode-written : (d : Dinode) (forkData uuid : List ℕ) (n at mt ct rt : ℕ) (xs ys zs ws : List ℕ)
     → TimesAs (d .flags2) (d .atime) (d .mtime) (d .ctime) (d .crtime) n at mt ct rt → Fit (d .flags2) (d .atime) (d .mtime) (d .ctime) (d .crtime)
-    → ys ≡ write (coreFields (d .mode) (d .format) (d .nlink) at mt ct (d .size) (d .flags) (d .generation) (d .changecount) (d .flags2) rt (d .ino)) xs
-    → zs ≡ patch 160 uuid ys → ws ≡ patch 176 forkData zs → ws ≡ write (dinodeFields d forkData uuid) xs
+    → ys ≡ writeFields (coreFields (d .mode) (d .format) (d .nlink) at mt ct (d .size) (d .flags) (d .generation) (d .changecount) (d .flags2) rt (d .ino)) xs
+    → zs ≡ patch 160 uuid ys → ws ≡ patch 176 forkData zs → ws ≡ writeFields (dinodeFields d forkData uuid) xs
 unfolding dinodeFields
 dinode-written d forkData uuid n at mt ct rt xs ys zs ws t f a b c =
-    let ea : at ≡ raw (d .flags2) (d .atime) = t .atime-is ∙ ap (λ (x : Bool). accepted x (raw (d .flags2) (d .atime))) (f .a-fits) in
-    let em : mt ≡ raw (d .flags2) (d .mtime) = t .mtime-is ∙ ap (λ (x : Bool). accepted x (raw (d .flags2) (d .mtime))) (f .m-fits) in
-    let ec : ct ≡ raw (d .flags2) (d .ctime) = t .ctime-is ∙ ap (λ (x : Bool). accepted x (raw (d .flags2) (d .ctime))) (f .c-fits) in
-    let er : rt ≡ raw (d .flags2) (d .crtime) = t .crtime-is ∙ ap (λ (x : Bool). accepted x (raw (d .flags2) (d .crtime))) (f .r-fits) in
+    let ea : at ≡ raw (d .flags2) (d .atime) = t .atime-is ∙ ap (λ (x : Bool). valueIf x (raw (d .flags2) (d .atime))) (f .a-fits) in
+    let em : mt ≡ raw (d .flags2) (d .mtime) = t .mtime-is ∙ ap (λ (x : Bool). valueIf x (raw (d .flags2) (d .mtime))) (f .m-fits) in
+    let ec : ct ≡ raw (d .flags2) (d .ctime) = t .ctime-is ∙ ap (λ (x : Bool). valueIf x (raw (d .flags2) (d .ctime))) (f .c-fits) in
+    let er : rt ≡ raw (d .flags2) (d .crtime) = t .crtime-is ∙ ap (λ (x : Bool). valueIf x (raw (d .flags2) (d .crtime))) (f .r-fits) in
     c ∙ ap (patch 176 forkData) (b ∙ ap (patch 160 uuid) (rw (ea, em, ec, er) at a))
 
 -- ---- an empty directory

@@ -6,13 +6,13 @@ use mathlib.Core.Bool.{Bool, true, false, _&&_}
 use Prim.Native.Nat.{ℕ, _+_, _/_, _%_}
 use lib.Dec.{leb, eqb}
 use Rattle.refusals.specs.Numbers.{wrongLength, timeOutOfRange}
-use Rattle.endian.specs.Fields.{Field, field, run, write}
+use Rattle.endian.specs.Fields.{Field, field, byteRun, writeFields}
 use Rattle.crc.specs.Crc.{stamped}
 use Rattle.structs.specs.Sizes.{isInode}
 use Rattle.structs.specs.Written.{null32, require}
 use Rattle.params.specs.declared.Timestamp.{Timestamp}
 use Rattle.inode.specs.declared.dinode.Dinode.{Dinode}
-use Rattle.inode_time.specs.Time.{timeInside, timeRaw, accepted}
+use Rattle.inode_time.specs.Time.{timeInside, timeRaw, valueIf}
 
 -- "IN"
 abbrev pub inodeMagic : ℕ
@@ -38,8 +38,8 @@ unfoldable pub isBig : ℕ → Bool
 isBig flags2 = eqb (flags2 / 8 % 2) 1
 
 -- a time of an inode with these flags can be stored, and what is stored
-abbrev pub inside : ℕ → Timestamp → Bool
-inside flags2 t = timeInside (isBig flags2) (t .secs) (t .nsecs)
+abbrev pub timeStorable : ℕ → Timestamp → Bool
+timeStorable flags2 t = timeInside (isBig flags2) (t .secs) (t .nsecs)
 
 abbrev pub raw : ℕ → Timestamp → ℕ
 raw flags2 t = timeRaw (isBig flags2) (t .secs) (t .nsecs)
@@ -47,7 +47,7 @@ raw flags2 t = timeRaw (isBig flags2) (t .secs) (t .nsecs)
 -- 26 where one of the four times can't be stored, else what follows
 unfoldable pub timesNumber : ℕ → Timestamp → Timestamp → Timestamp → Timestamp → ℕ → ℕ
 timesNumber flags2 a m c r rest =
-    require timeOutOfRange (inside flags2 a) (require timeOutOfRange (inside flags2 m) (require timeOutOfRange (inside flags2 c) (require timeOutOfRange (inside flags2 r) rest)))
+    require timeOutOfRange (timeStorable flags2 a) (require timeOutOfRange (timeStorable flags2 m) (require timeOutOfRange (timeStorable flags2 c) (require timeOutOfRange (timeStorable flags2 r) rest)))
 
 -- an inode's length, with the data inside
 unfoldable pub dinodeNumber : Dinode → ℕ → ℕ → ℕ
@@ -62,10 +62,10 @@ orElse false a b = a
 -- What the four times of an inode are stored as.
 pub record TimesAs (flags2 : ℕ) (a m c r : Timestamp) (number at mt ct rt : ℕ) : Type 0 where
   pub number-is : number ≡ timesNumber flags2 a m c r 0
-  pub atime-is : at ≡ accepted (inside flags2 a) (raw flags2 a)
-  pub mtime-is : mt ≡ accepted (inside flags2 m) (raw flags2 m)
-  pub ctime-is : ct ≡ accepted (inside flags2 c) (raw flags2 c)
-  pub crtime-is : rt ≡ accepted (inside flags2 r) (raw flags2 r)
+  pub atime-is : at ≡ valueIf (timeStorable flags2 a) (raw flags2 a)
+  pub mtime-is : mt ≡ valueIf (timeStorable flags2 m) (raw flags2 m)
+  pub ctime-is : ct ≡ valueIf (timeStorable flags2 c) (raw flags2 c)
+  pub crtime-is : rt ≡ valueIf (timeStorable flags2 r) (raw flags2 r)
 
 -- the numbers of the core
 abbrev pub coreFields : ℕ → ℕ → ℕ → ℕ → ℕ → ℕ → ℕ → ℕ → ℕ → ℕ → ℕ → ℕ → ℕ → List Field
@@ -94,13 +94,13 @@ unfoldable pub dinodeFields : Dinode → List ℕ → List ℕ → List Field
 dinodeFields d forkData uuid =
     coreFields (d .mode) (d .format) (d .nlink) (raw (d .flags2) (d .atime)) (raw (d .flags2) (d .mtime)) (raw (d .flags2) (d .ctime)) (d .size) (d .flags) (d .generation) (d .changecount)
     (d .flags2) (raw (d .flags2) (d .crtime)) (d .ino)
-    ++ (run 160 uuid  -- di_uuid
-    ∷ run coreSize forkData  -- the data fork
+    ++ (byteRun 160 uuid  -- di_uuid
+    ∷ byteRun coreSize forkData  -- the data fork
     ∷ [])
 
 -- the fields over the old bytes, and then the checksum
 unfoldable pub dinodeBytes : Dinode → List ℕ → List ℕ → List ℕ → List ℕ
-dinodeBytes d forkData uuid xs = stamped inodeCrcAt (write (dinodeFields d forkData uuid) xs)
+dinodeBytes d forkData uuid xs = stamped inodeCrcAt (writeFields (dinodeFields d forkData uuid) xs)
 
 -- an inode that was never allocated
 abbrev pub freeNumber : ℕ → ℕ
@@ -113,8 +113,8 @@ freeFields ino generation uuid =
     ∷ field 92 4 generation  -- di_gen
     ∷ field 96 4 null32  -- di_next_unlinked
     ∷ field 152 8 ino  -- di_ino
-    ∷ run 160 uuid  -- di_uuid
+    ∷ byteRun 160 uuid  -- di_uuid
     ∷ []
 
 unfoldable pub freeBytes : ℕ → ℕ → List ℕ → List ℕ → List ℕ
-freeBytes ino generation uuid xs = stamped inodeCrcAt (write (freeFields ino generation uuid) xs)
+freeBytes ino generation uuid xs = stamped inodeCrcAt (writeFields (freeFields ino generation uuid) xs)

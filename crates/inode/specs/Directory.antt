@@ -9,13 +9,13 @@ use lib.ListN.{length, replicate}
 use Rattle.endian.specs.Bytes.{beBytes}
 
 -- count: no entries; i8count: how many inode numbers need 8 bytes; parent
-abbrev pub header : Bool → ℕ → List ℕ
-header true parent = 0 ∷ (0 ∷ beBytes 4 parent)
-header false parent = 0 ∷ (1 ∷ beBytes 8 parent)
+abbrev pub directoryHeader : Bool → ℕ → List ℕ
+directoryHeader true parent = 0 ∷ (0 ∷ beBytes 4 parent)
+directoryHeader false parent = 0 ∷ (1 ∷ beBytes 8 parent)
 
 -- 6 bytes, or 10 where the parent is above 2^32 − 1
 unfoldable pub emptyDir : ℕ → List ℕ
-emptyDir parent = header (ltb parent (2 ^ 32)) parent
+emptyDir parent = directoryHeader (ltb parent (2 ^ 32)) parent
 
 -- What `empty_sf_dir` answers: the bytes, zeros behind them, and how many they are.
 pub record EmptyDir (parent : ℕ) (bytes : List ℕ) (len : ℕ) : Type 0 where

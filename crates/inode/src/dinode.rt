@@ -5,7 +5,7 @@ ghost use mathlib.Core.List.{[], _∷_};
 ghost use Prim.Native.Nat.{_+_, _≤_};
 ghost use lib.Dec.{leb, eqb};
 ghost use lib.ListN.{length};
-ghost use Rattle.endian.specs.Fields.{write};
+ghost use Rattle.endian.specs.Fields.{writeFields};
 ghost use Rattle.structs.specs.Sizes.{isInode};
 ghost use Rattle.structs.specs.Encoded.{Encoded};
 ghost use Rattle.inode.specs.Dinode.{inodeCrcAt, isBig, orElse, TimesAs, coreFields, dinodeNumber, dinodeBytes, freeNumber, freeBytes};
@@ -176,7 +176,7 @@ fn put_core(
     t: Times,
 )
     requires { ⌜ 512 ≤ length (now slot) ⌝ }
-    ensures { λ _. ⌜ now (slot .exit) ≡ write (coreFields mode format nlink (t .atime) (t .mtime) (t .ctime) size flags generation changecount flags2 (t .crtime) ino) (now (slot .entry)) ⌝ }
+    ensures { λ _. ⌜ now (slot .exit) ≡ writeFields (coreFields mode format nlink (t .atime) (t .mtime) (t .ctime) size flags generation changecount flags2 (t .crtime) ino) (now (slot .entry)) ⌝ }
 {
     let at: [usize; 36] = [
         off::MAGIC,

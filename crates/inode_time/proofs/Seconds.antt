@@ -12,7 +12,7 @@ use mir.Val.{SFits, toZ, ofZ}
 use mir.ValLaws.{toZ-pos, toZ-ofZ}
 use borrow.Author.Tests.{lt-ltb, le-ltb, le-leb, lt-leb, ltb-true, ltb-false, leb-true, leb-false}
 use Rattle.structs.specs.Written.{require}
-use Rattle.inode_time.specs.Time.{second, epoch, notEarly, shifted, in32, timeInside, timeRaw, accepted, StoredAs, storable, Inside, signed32, decoded}
+use Rattle.inode_time.specs.Time.{second, epoch, notEarly, shifted, in32, timeInside, timeRaw, valueIf, StoredAs, storable, ShiftedTime, signed32, decoded}
 use Rattle.params.specs.declared.Timestamp.{Timestamp}
 
 never : {A : Type 0} → false ≡ true → A
@@ -51,10 +51,10 @@ sum-fits x s e t = rw (sum-is x s e t) (record { sfits = let h = shifted-most s 
 pub sum-read : (x s : ℤ) → x ≡ s → storable s ≡ true → toZ w64 (ofZ w64 (x +ℤ pos 2147483648)) ≡ pos (shifted s)
 sum-read x s e t = rw (sum-is x s e t) (toZ-pos w64 (shifted s) (let h = shifted-most s t in let g : shifted s < 2 ^ 63 = omega arith in g))
 
-pub inside-no : (s : ℤ) → storable s ≡ false → Inside s false 0
+pub inside-no : (s : ℤ) → storable s ≡ false → ShiftedTime s false 0
 inside-no s e = record { test = sym e; value-is = rw e refl }
 
-pub inside-yes : (s : ℤ) (v : ℕ) → storable s ≡ true → v ≡ shifted s → Inside s true v
+pub inside-yes : (s : ℤ) (v : ℕ) → storable s ≡ true → v ≡ shifted s → ShiftedTime s true v
 inside-yes s v e d = record { test = sym e; value-is = rw e d }
 
 -- ---- which times are inside
@@ -96,12 +96,12 @@ in32-is (negsuc k) t h = let g = leb-true (suc k) epoch t in omega arith
 pub time-no : (big : Bool) (s : ℤ) (n r v : ℕ) → timeInside big s n ≡ false → r ≡ 26 → v ≡ 0 → StoredAs big s n r v
 time-no big s n r v e a b = record { number-is = rw e a; value-is = rw e b }
 
-same-accepted : (b : Bool) (x y : ℕ) → (b ≡ true → x ≡ y) → accepted b x ≡ accepted b y
+same-accepted : (b : Bool) (x y : ℕ) → (b ≡ true → x ≡ y) → valueIf b x ≡ valueIf b y
 same-accepted true x y f = f refl
 same-accepted false x y f = refl
 
 pub time-big : (s : ℤ) (n w r v : ℕ) → n < second → storable s ≡ true → w ≡ shifted s
-    → (r ≡ require 26 (ltb (w * 1000000000 + n) (2 ^ 64)) 0) × (v ≡ accepted (ltb (w * 1000000000 + n) (2 ^ 64)) (w * 1000000000 + n)) → StoredAs true s n r v
+    → (r ≡ require 26 (ltb (w * 1000000000 + n) (2 ^ 64)) 0) × (v ≡ valueIf (ltb (w * 1000000000 + n) (2 ^ 64)) (w * 1000000000 + n)) → StoredAs true s n r v
 unfolding timeRaw
 time-big s n w r v h t e p =
     let i = inside-big s n h t in
@@ -109,7 +109,7 @@ time-big s n w r v h t e p =
     record { number-is = rw i (q .0); value-is = rw i (q .1) }
 
 pub time-small : (s : ℤ) (n w r v : ℕ) → n < second → storable s ≡ true → w ≡ shifted s
-    → (r ≡ require 26 (ltb w (2 ^ 32)) 0) × (v ≡ accepted (ltb w (2 ^ 32)) ((w + 2147483648) % 2 ^ 32 * 2 ^ 32 + n)) → StoredAs false s n r v
+    → (r ≡ require 26 (ltb w (2 ^ 32)) 0) × (v ≡ valueIf (ltb w (2 ^ 32)) ((w + 2147483648) % 2 ^ 32 * 2 ^ 32 + n)) → StoredAs false s n r v
 unfolding timeRaw
 time-small s n w r v h t e p =
     let i = inside-small s n h t in

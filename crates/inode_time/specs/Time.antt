@@ -47,23 +47,23 @@ abbrev pub timeNumber : Bool → ℤ → ℕ → ℕ
 timeNumber bigtime secs nsecs = require timeOutOfRange (timeInside bigtime secs nsecs) 0
 
 -- a value that was accepted, 0 where it was not
-abbrev pub accepted : Bool → ℕ → ℕ
-accepted true v = v
-accepted false v = 0
+abbrev pub valueIf : Bool → ℕ → ℕ
+valueIf true v = v
+valueIf false v = 0
 
 -- What `encode_time` answers.
 pub record StoredAs (bigtime : Bool) (secs : ℤ) (nsecs number value : ℕ) : Type 0 where
   pub number-is : number ≡ timeNumber bigtime secs nsecs
-  pub value-is : value ≡ accepted (timeInside bigtime secs nsecs) (timeRaw bigtime secs nsecs)
+  pub value-is : value ≡ valueIf (timeInside bigtime secs nsecs) (timeRaw bigtime secs nsecs)
 
 -- not before the least time, and at most 16,299,260,425 s, the last second that either form can store
 unfoldable pub storable : ℤ → Bool
 storable (pos n) = leb n 16_299_260_425
 storable (negsuc n) = leb (suc n) epoch
 
-pub record Inside (secs : ℤ) (inside : Bool) (value : ℕ) : Type 0 where
+pub record ShiftedTime (secs : ℤ) (inside : Bool) (value : ℕ) : Type 0 where
   pub test : inside ≡ storable secs
-  pub value-is : value ≡ accepted (storable secs) (shifted secs)
+  pub value-is : value ≡ valueIf (storable secs) (shifted secs)
 
 -- a number of 32 bits as a signed one
 abbrev pub byTest : Bool → ℤ → ℤ → ℤ

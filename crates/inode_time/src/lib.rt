@@ -3,7 +3,7 @@ ghost use mathlib.Core.Path.{_≡_};
 ghost use Prim.Native.Nat.{_+_, _*_, _%_, _^_, _≤_, _<_};
 ghost use lib.Dec.{ltb};
 ghost use Rattle.structs.specs.Written.{require};
-ghost use Rattle.inode_time.specs.Time.{Inside, StoredAs, accepted, decoded};
+ghost use Rattle.inode_time.specs.Time.{ShiftedTime, StoredAs, valueIf, decoded};
 use params::Timestamp;
 
 pub const NANOSECONDS: u64 = 1_000_000_000;
@@ -21,7 +21,7 @@ struct Shifted {
 }
 
 fn shift(secs: i64) -> Shifted
-    ensures { λ r. ⌜ Inside secs (r .inside) (r .value) ⌝ }
+    ensures { λ r. ⌜ ShiftedTime secs (r .inside) (r .value) ⌝ }
 {
     if secs < -2147483648 {
         return Shifted {
@@ -53,7 +53,7 @@ fn refused() -> Stored
 // With bigtime.
 fn encode_big(shifted: u64, nsecs: u64) -> Stored
     requires { ⌜ (shifted ≤ 18446744073) × (nsecs < 1000000000) ⌝ }
-    ensures { λ r. ⌜ (r .number ≡ require 26 (ltb (shifted * 1000000000 + nsecs) (2 ^ 64)) 0) × (r .value ≡ accepted (ltb (shifted * 1000000000 + nsecs) (2 ^ 64)) (shifted * 1000000000 + nsecs)) ⌝ }
+    ensures { λ r. ⌜ (r .number ≡ require 26 (ltb (shifted * 1000000000 + nsecs) (2 ^ 64)) 0) × (r .value ≡ valueIf (ltb (shifted * 1000000000 + nsecs) (2 ^ 64)) (shifted * 1000000000 + nsecs)) ⌝ }
 {
     if shifted < 18446744073 {
         return Stored {
@@ -73,7 +73,7 @@ fn encode_big(shifted: u64, nsecs: u64) -> Stored
 // Without bigtime.
 fn encode_small(shifted: u64, nsecs: u64) -> Stored
     requires { ⌜ (shifted ≤ 18446744073) × (nsecs < 1000000000) ⌝ }
-    ensures { λ r. ⌜ (r .number ≡ require 26 (ltb shifted (2 ^ 32)) 0) × (r .value ≡ accepted (ltb shifted (2 ^ 32)) ((shifted + 2147483648) % 2 ^ 32 * 2 ^ 32 + nsecs)) ⌝ }
+    ensures { λ r. ⌜ (r .number ≡ require 26 (ltb shifted (2 ^ 32)) 0) × (r .value ≡ valueIf (ltb shifted (2 ^ 32)) ((shifted + 2147483648) % 2 ^ 32 * 2 ^ 32 + nsecs)) ⌝ }
 {
     if 4294967295 < shifted {
         return refused();

@@ -5,8 +5,8 @@ use mathlib.Core.List.{[]}
 use Prim.Native.Nat.{ℕ}
 use Rattle.run.specs.Runs.{orNext}
 use Rattle.run.proofs.Accepted.{empty-malformed}
-use Rattle.inquire_holds.specs.Calls.{openedOf, opened}
+use Rattle.inquire_holds.specs.Calls.{openedOf, holdsOpened}
 
-pub empty-opened : (k : ℕ) → opened [] k .number ≡ 28
-unfolding opened openedOf
+pub empty-opened : (k : ℕ) → holdsOpened [] k .number ≡ 28
+unfolding holdsOpened openedOf
 empty-opened k = rw empty-malformed refl

@@ -10,15 +10,15 @@ use lib.ListN.{length, take, drop, length-drop}
 use lib.Seq.{take-all}
 use native.Mathlib.Nat.{le-of-eq}
 use Rattle.seqs.specs.Lists.{fold}
-use Rattle.request_texts.specs.Texts.{letter, named, packed, leading, within, malformed}
+use Rattle.request_texts.specs.Texts.{letter, named, packedName, leading, within, malformedValue}
 use Rattle.inquire_holds.specs.Words.{holdName, releaseName, numberAlone}
 
 pub hold-name : holdName ≡ 426207
-unfolding packed named letter fold
+unfolding packedName named letter fold
 hold-name = refl
 
 pub release-name : releaseName ≡ 46552540421
-unfolding packed named letter fold
+unfolding packedName named letter fold
 release-name = refl
 
 -- `&xs[n..]`, as the borrow checker has it
@@ -31,6 +31,6 @@ module _ (text : List ℕ) (n : ℕ) (at : n ≡ leading text) where
   unfolding numberAlone
   alone-is t = rw (← at, t)
 
-  pub alone-not : (ltb 0 n && eqb n (length text)) ≡ false → malformed ≡ numberAlone text
+  pub alone-not : (ltb 0 n && eqb n (length text)) ≡ false → malformedValue ≡ numberAlone text
   unfolding numberAlone
   alone-not t = rw (← at, t)

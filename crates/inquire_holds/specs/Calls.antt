@@ -25,16 +25,16 @@ openedOf q k =
     }
 
 -- 28, then the geometry step's number, then that of the group's start
-unfoldable pub opened : List ℕ → ℕ → Opened
-opened input k = openedOf (parseDef input) k
+unfoldable pub holdsOpened : List ℕ → ℕ → Opened
+holdsOpened input k = openedOf (parseDef input) k
 
 -- what a call answers
-unfoldable pub answered : Geometry → Holds → Call → Held
-answered g s c = choose (c .release) (releaseDef g s (c .at) (c .length)) (holdDef g s (c .at) (c .length))
+unfoldable pub callAnswer : Geometry → Holds → Call → Held
+callAnswer g s c = choose (c .release) (releaseDef g s (c .at) (c .length)) (holdDef g s (c .at) (c .length))
 
 -- the same with the state for the next call: a refused one leaves it as it was
-unfoldable pub stepped : Geometry → Holds → Call → Held
-stepped g s c =
-    choose (eqb (answered g s c .number) 0)
-    (answered g s c)
-    (record { number = answered g s c .number; state = s })
+unfoldable pub callStepped : Geometry → Holds → Call → Held
+callStepped g s c =
+    choose (eqb (callAnswer g s c .number) 0)
+    (callAnswer g s c)
+    (record { number = callAnswer g s c .number; state = s })

@@ -8,12 +8,12 @@ use lib.ListN.{length, take, drop, getD}
 use Rattle.seqs.specs.Lists.{choose}
 use Rattle.table_lines.specs.Decimal.{valueAfter}
 use Rattle.request_texts.specs.declared.Value.{Value}
-use Rattle.request_texts.specs.Texts.{packed, leading, within, malformed}
+use Rattle.request_texts.specs.Texts.{packedName, leading, within, malformedValue}
 use Rattle.inquire_holds.specs.declared.Call.{Call}
 
 -- digits, one at least, and nothing else; a number of more than 64 bits is too large
 unfoldable pub numberAlone : List ℕ → Value
-numberAlone text = choose (ltb 0 (leading text) && eqb (leading text) (length text)) (within (valueAfter 0 text)) malformed
+numberAlone text = choose (ltb 0 (leading text) && eqb (leading text) (length text)) (within (valueAfter 0 text)) malformedValue
 
 -- what is wrong with a word, beside zeros
 abbrev pub noCall : ℕ → Call
@@ -38,14 +38,14 @@ runIn release text =
 
 -- the names `hold` and `release` as numbers
 abbrev pub holdName : ℕ
-holdName = packed (104 ∷ 111 ∷ 108 ∷ 100 ∷ [])
+holdName = packedName (104 ∷ 111 ∷ 108 ∷ 100 ∷ [])
 
 abbrev pub releaseName : ℕ
-releaseName = packed (114 ∷ 101 ∷ 108 ∷ 101 ∷ 97 ∷ 115 ∷ 101 ∷ [])
+releaseName = packedName (114 ∷ 101 ∷ 108 ∷ 101 ∷ 97 ∷ 115 ∷ 101 ∷ [])
 
 -- the text begins with a name of n bytes and a colon
 unfoldable pub wordIs : ℕ → ℕ → List ℕ → Bool
-wordIs n name text = ltb n (length text) && (eqb (packed (take n text)) name && eqb (getD text n 0) colon)
+wordIs n name text = ltb n (length text) && (eqb (packedName (take n text)) name && eqb (getD text n 0) colon)
 
 -- `hold:START:LENGTH` or `release:START:LENGTH`; any other word is malformed
 unfoldable pub callIn : List ℕ → Call

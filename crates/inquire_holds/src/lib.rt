@@ -3,7 +3,7 @@ pub mod words; // the words of the calls
 
 ghost use mathlib.Core.Path.{_≡_};
 ghost use Rattle.run.specs.Runs.{orNext};
-ghost use Rattle.inquire_holds.specs.Calls.{opened, answered, stepped};
+ghost use Rattle.inquire_holds.specs.Calls.{holdsOpened, callAnswer, callStepped};
 use geometry::Geometry;
 use plan_holds::Held;
 use plan_holds::Holds;
@@ -36,7 +36,7 @@ fn or_next(a: u32, b: u32) -> u32
 // The group that the calls are about, of the disk that input records ask for: 28, 1 to 24, 29, 25. Time and the other groups' plans aren't
 // looked at.
 pub fn open(input: &[u8], agno: u64) -> Opened
-    ensures { λ r. ⌜ r ≡ opened (now (input .entry)) agno ⌝ }
+    ensures { λ r. ⌜ r ≡ holdsOpened (now (input .entry)) agno ⌝ }
 {
     let q = request::parse(input);
     let c = Geometry::compute(q.params, q.device, q.logical, q.physical);
@@ -53,7 +53,7 @@ pub fn open(input: &[u8], agno: u64) -> Opened
 }
 
 fn answer(g: Geometry, s: Holds, c: Call) -> Held
-    ensures { λ r. ⌜ r ≡ answered g s c ⌝ }
+    ensures { λ r. ⌜ r ≡ callAnswer g s c ⌝ }
 {
     if c.release {
         return plan_holds::release(g, s, c.at, c.length);
@@ -63,7 +63,7 @@ fn answer(g: Geometry, s: Holds, c: Call) -> Held
 
 // A call made: its number, and the state for the next one. A refused call leaves the state as it was.
 pub fn step(g: Geometry, s: Holds, c: Call) -> Held
-    ensures { λ r. ⌜ r ≡ stepped g s c ⌝ }
+    ensures { λ r. ⌜ r ≡ callStepped g s c ⌝ }
 {
     let t = answer(g, s, c);
     if t.number == 0 {

@@ -8,13 +8,13 @@ use Rattle.table_lines.specs.Decimal.{decimal}
 use Rattle.table_lines.specs.Lines.{space, newline}
 
 -- bytes, and one behind them
-abbrev pub followed : List ℕ → ℕ → List ℕ
-followed bytes b = bytes ++ (b ∷ [])
+abbrev pub withByte : List ℕ → ℕ → List ℕ
+withByte bytes b = bytes ++ (b ∷ [])
 
 -- a word alone, as a line
 unfoldable pub wordBytes : List ℕ → List ℕ
-wordBytes word = followed word newline
+wordBytes word = withByte word newline
 
 -- a word, a space and a number in decimal; behind it a space, or a newline where the line ends
 unfoldable pub itemBytes : List ℕ → ℕ → Bool → List ℕ
-itemBytes word number last = followed word space ++ followed (decimal number) (choose last newline space)
+itemBytes word number last = withByte word space ++ withByte (decimal number) (choose last newline space)

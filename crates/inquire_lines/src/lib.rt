@@ -3,7 +3,7 @@
 ghost use mathlib.Core.Path.{_≡_};
 ghost use Rattle.seqs.specs.Lists.{choose};
 ghost use Rattle.table_lines.specs.Lines.{space, newline, PutLine};
-ghost use Rattle.inquire_lines.specs.Items.{followed, wordBytes, itemBytes};
+ghost use Rattle.inquire_lines.specs.Items.{withByte, wordBytes, itemBytes};
 use table_lines::Written;
 use table_lines::put_number;
 
@@ -28,7 +28,7 @@ fn behind(last: bool) -> u8
 
 // A word and the byte behind it.
 fn put_followed(word: &[u8], byte: u8, buf: &mut [u8], at: usize) -> Written
-    ensures { λ r. ⌜ PutLine at (followed (now (word .entry)) byte) (now (buf .entry)) (r .number) (r .end) (now (buf .exit)) ⌝ }
+    ensures { λ r. ⌜ PutLine at (withByte (now (word .entry)) byte) (now (buf .entry)) (r .number) (r .end) (now (buf .exit)) ⌝ }
 {
     let n = word.len();
     if endian::inside(buf.len(), at, n + 1) {

@@ -11,7 +11,7 @@ use lib.ListN.{length}
 use Rattle.arith.specs.Choice.{when}
 use Rattle.params.specs.declared.Params.{Params}
 use Rattle.run.proofs.Accepted.{none}
-use Rattle.inquire_sizes.specs.Ranges.{blockBytes, blocksNumber, rangeOf, optionsNumber, noRange, questionNumber, refusedCall, sizesAnswer}
+use Rattle.inquire_sizes.specs.Ranges.{blockBytes, blocksNumber, rangeOf, optionsNumber, noRange, sizesQuestion, sizesCallRefused, sizesAnswer}
 use Rattle.inquire_sizes.specs.Step.{fixedOf, numberAt}
 use Rattle.inquire_sizes.proofs.Turns.{range-alike}
 use Rattle.inquire_sizes.proofs.Blocks.{few-blocks}
@@ -34,17 +34,17 @@ module _ (p : Params) (logical physical smallest largest : ℕ) where
   to = largest / blockBytes p
 
   -- a question that is refused
-  pub question-refused : (n : ℕ) → n ≡ questionNumber p logical physical from to → (n ≡ 0 → ⊥) → refusedCall n ≡ sizesAnswer p logical physical smallest largest
+  pub question-refused : (n : ℕ) → n ≡ sizesQuestion p logical physical from to → (n ≡ 0 → ⊥) → sizesCallRefused n ≡ sizesAnswer p logical physical smallest largest
   unfolding sizesAnswer
   question-refused n e r = rw (← e, ne-eqb n 0 r)
 
-  module _ (z : questionNumber p logical physical from to ≡ 0) where
+  module _ (z : sizesQuestion p logical physical from to ≡ 0) where
     options-zero : optionsNumber p logical physical ≡ 0
-    unfolding questionNumber
+    unfolding sizesQuestion
     options-zero = none (optionsNumber p logical physical) (when (noRange from to) 36 0) z .0
 
     a-range : noRange from to ≡ false
-    unfolding questionNumber
+    unfolding sizesQuestion
     a-range = not-36 (noRange from to) (none (optionsNumber p logical physical) (when (noRange from to) 36 0) z .1)
 
     pub in-order : from ≤ to
@@ -67,4 +67,4 @@ module _ (p : Params) (logical physical smallest largest : ℕ) where
     range-found label h =
         range-alike (numberAt (fixedOf p logical physical)) (blocksNumber p logical physical) from to in-order
         (λ n l m. step-is p logical physical options-zero n label (fits h n m))
-        ∙ rw (eq-eqb (questionNumber p logical physical from to) 0 z)
+        ∙ rw (eq-eqb (sizesQuestion p logical physical from to) 0 z)

@@ -20,7 +20,7 @@ use Rattle.geometry.specs.declared.Geometry.{Geometry}
 use Rattle.geometry.specs.declared.Computed.{Computed}
 use Rattle.geometry.specs.Limits.{minGroup}
 use Rattle.geometry.specs.Groups.{askedBlocks, initialGroups, trim}
-use Rattle.geometry.specs.Compute.{withGroups, withSizes, chosenOf, refusals, refusalOf, geometryOf, answer, computeDef}
+use Rattle.geometry.specs.Compute.{withGroups, withSizes, chosenOf, refusals, refusalOf, geometryOf, stepAnswer, computeDef}
 use Rattle.geometry.proofs.Answer.{number-of}
 use Rattle.geometry_answers.proofs.Tests.{sizes-part, options-part, groups-part, last-part}
 use Rattle.plan_totals.specs.Totals.{plansNumber}
@@ -53,8 +53,8 @@ module _ (p : Params) (d e logical physical : ℕ) (h : d / blockBytes p ≡ e /
   pub step-alike : computeDef p d logical physical ≡ computeDef p e logical physical
   unfolding computeDef
   step-alike =
-      ap (λ (n : ℕ). answer n (geometryOf p (chosenOf p d logical physical))) refusal-alike
-      ∙ ap (λ (c : Chosen). answer (refusalOf p e c) (geometryOf p c)) chosen-alike
+      ap (λ (n : ℕ). stepAnswer n (geometryOf p (chosenOf p d logical physical))) refusal-alike
+      ∙ ap (λ (c : Chosen). stepAnswer (refusalOf p e c) (geometryOf p c)) chosen-alike
 
   pub size-alike : sizeNumber p logical physical d ≡ sizeNumber p logical physical e
   unfolding sizeNumber

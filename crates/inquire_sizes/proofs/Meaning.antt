@@ -24,7 +24,7 @@ use Rattle.profile.proofs.Labels.{not-under}
 use Rattle.run.specs.Runs.{stepOf, timeRefusal, bareNumber, runNumber}
 use Rattle.run.proofs.Accepted.{none}
 use Rattle.inquire_sizes.specs.declared.Range.{Range}
-use Rattle.inquire_sizes.specs.Ranges.{sizeNumber, blockBytes, blocksNumber, smallestRefused, allFormatted, refusedSize, rangeOf, optionsNumber, noRange, questionNumber, refusedCall, sizesAnswer, FormattedSize, Smallest}
+use Rattle.inquire_sizes.specs.Ranges.{sizeNumber, blockBytes, blocksNumber, smallestRefused, allFormatted, refusedSize, rangeOf, optionsNumber, noRange, sizesQuestion, sizesCallRefused, sizesAnswer, FormattedSize, Smallest}
 use Rattle.inquire_sizes.proofs.First.{first-within, first-passes, first-fails}
 use Rattle.inquire_sizes.proofs.Tables.{next-first, first-between}
 use Rattle.inquire_sizes.proofs.Turns.{isRefused}
@@ -77,7 +77,7 @@ module _ (p : Params) (logical physical : ℕ) where
   abbrev answerOn : ℕ → ℕ → Range
   answerOn least most = sizesAnswer p logical physical least most
 
-  asked-at : (n : ℕ) (r : Range) (t : Bool) → eqb n 0 ≡ t → choose t r (refusedCall n) .number ≡ 0 → n ≡ 0
+  asked-at : (n : ℕ) (r : Range) (t : Bool) → eqb n 0 ≡ t → choose t r (sizesCallRefused n) .number ≡ 0 → n ≡ 0
   asked-at n r true e h = eqb-true n 0 e
   asked-at n r false e h = absurd (eqb-false n 0 e h)
 
@@ -89,19 +89,19 @@ module _ (p : Params) (logical physical : ℕ) where
     to = most / blockBytes p
 
     -- the question isn't refused
-    question : questionNumber p logical physical from to ≡ 0
+    question : sizesQuestion p logical physical from to ≡ 0
     unfolding sizesAnswer
     question =
-        let n = questionNumber p logical physical from to in
+        let n = sizesQuestion p logical physical from to in
         asked-at n (rangeOf (blocksNumber p logical physical) from to) (eqb n 0) refl z
 
     options-zero : optionsNumber p logical physical ≡ 0
-    unfolding questionNumber
+    unfolding sizesQuestion
     options-zero = none (optionsNumber p logical physical) (when (noRange from to) 36 0) question .0
 
     its-range : answerOn least most ≡ rangeOf (blocksNumber p logical physical) from to
     unfolding sizesAnswer
-    its-range = rw (eq-eqb (questionNumber p logical physical from to) 0 question)
+    its-range = rw (eq-eqb (sizesQuestion p logical physical from to) 0 question)
 
     -- a size goes by its whole blocks
     of-blocks : (device : ℕ) → blocksNumber p logical physical (device / blockBytes p) ≡ 0 → FormattedSize p logical physical device

@@ -32,7 +32,7 @@ use Rattle.geometry_answers.proofs.Again.{its-geometry, label-kept}
 use Rattle.geometry_answers.proofs.Exact.{complete}
 use Rattle.geometry_answers.proofs.Tests.{options-part, groups-part, last-part}
 use Rattle.plan_site.specs.Sites.{siteOf}
-use Rattle.plan_closed.specs.Closed.{short}
+use Rattle.plan_closed.specs.Closed.{listShort}
 use Rattle.plan_totals.specs.Totals.{plansNumber, constNumber}
 use Rattle.plan_totals.proofs.Whole.{plans-number}
 use Rattle.plan_summary.proofs.Laws.{short-after, has-log}
@@ -41,7 +41,7 @@ use Rattle.inquire_sizes.specs.declared.step.Limits.{Limits}
 use Rattle.inquire_sizes.specs.declared.step.Fixed.{Fixed}
 use Rattle.inquire_sizes.specs.declared.step.At.{At}
 use Rattle.inquire_sizes.specs.Ranges.{sizeNumber, blockBytes, blocksNumber, optionsNumber}
-use Rattle.inquire_sizes.specs.Step.{inBlocks, limitsOf, earlyNumber, lateNumber, fixedWith, fixedOf, sizeAt, groupsWith, groupsAt, logAt, atWith, atOf, sizeRefusals, groupRefusals, diskRefusals, numberWith, numberAt}
+use Rattle.inquire_sizes.specs.Step.{inBlocks, limitsOf, earlyNumber, lateNumber, fixedWith, fixedOf, defaultGroupSize, groupsWith, groupsAt, logAt, atWith, atOf, sizeRefusals, groupRefusals, diskRefusals, numberWith, numberAt}
 use Rattle.inquire_sizes.proofs.Tables.{first-append, next-first}
 use Rattle.inquire_sizes.proofs.Blocks.{late-part, sizes, asked, kept, step-late, block-pos}
 
@@ -78,7 +78,7 @@ less-both x a b = omega arith
 abbrev behind : Geometry → ℕ
 behind g = groupBlocks (g .dblocks) (g .agsize) (g .agcount) (g .logagno) - (g .«log_agbno» + g .logblocks)
 
-short-is : (g : Geometry) → short (siteOf g (g .logagno)) ≡ ltb (behind g) (freelistOf (g .features))
+short-is : (g : Geometry) → listShort (siteOf g (g .logagno)) ≡ ltb (behind g) (freelistOf (g .features))
 unfolding siteOf
 short-is g = short-after (siteOf g (g .logagno)) (has-log g)
 
@@ -105,7 +105,7 @@ module _ (p : Params) (logical physical : ℕ) (z : optionsNumber p logical phys
   asked-is Absent = mul-div-cancel n (block-pos p logical physical z)
 
   groups-is : (a c : OptU64) (d : ℕ) → initialGroups a c bs d ≡ groupsWith (limitsOf bs) d (inBlocks a bs) c
-  unfolding initialGroups groupsWith inBlocks limitsOf sizeAt defaultSize
+  unfolding initialGroups groupsWith inBlocks limitsOf defaultGroupSize defaultSize
   groups-is (Given s) c d = refl
   groups-is Absent (Given m) d = refl
   groups-is Absent Absent d = refl

@@ -72,26 +72,26 @@ unfoldable pub noRange : ℕ → ℕ → Bool
 noRange from to = ltb to from || ltb mostApart (to - from)
 
 -- the number of the question itself: 1 to 8, then 36
-unfoldable pub questionNumber : Params → ℕ → ℕ → ℕ → ℕ → ℕ
-questionNumber p logical physical from to = orNext (optionsNumber p logical physical) (when (noRange from to) badRange 0)
+unfoldable pub sizesQuestion : Params → ℕ → ℕ → ℕ → ℕ → ℕ
+sizesQuestion p logical physical from to = orNext (optionsNumber p logical physical) (when (noRange from to) badRange 0)
 
-abbrev pub refusedCall : ℕ → Range
-refusedCall n = record { number = n; blocks = 0; refusal = 0 }
+abbrev pub sizesCallRefused : ℕ → Range
+sizesCallRefused n = record { number = n; blocks = 0; refusal = 0 }
 
 -- `sizes`: both ends are first cut down to whole blocks
 unfoldable pub sizesAnswer : Params → ℕ → ℕ → ℕ → ℕ → Range
 sizesAnswer p logical physical smallest largest =
     let from = smallest / blockBytes p in
     let to = largest / blockBytes p in
-    choose (eqb (questionNumber p logical physical from to) 0)
+    choose (eqb (sizesQuestion p logical physical from to) 0)
     (rangeOf (blocksNumber p logical physical) from to)
-    (refusedCall (questionNumber p logical physical from to))
+    (sizesCallRefused (sizesQuestion p logical physical from to))
 
 -- `sizes_of`: the same of input records, 28 before all; the device's size in them isn't read
 unfoldable pub sizesAsked : List ℕ → ℕ → ℕ → Range
 sizesAsked input smallest largest =
     let q = parseDef input in
-    choose (eqb (q .number) 0) (sizesAnswer (q .params) (q .logical) (q .physical) smallest largest) (refusedCall (q .number))
+    choose (eqb (q .number) 0) (sizesAnswer (q .params) (q .logical) (q .physical) smallest largest) (sizesCallRefused (q .number))
 
 -- ---- what the answers mean
 

@@ -74,8 +74,8 @@ fixedOf p logical physical = fixedWith p (sizesOf p logical physical .sector) (s
 -- ---- what the size decides
 
 -- blocks of a group where neither option is given
-unfoldable pub sizeAt : Limits → ℕ → ℕ
-sizeAt l d =
+unfoldable pub defaultGroupSize : Limits → ℕ → ℕ
+defaultGroupSize l d =
     when (leb (l .large) d) (l .most)
     (min (l .most) (ceilDiv d (when (leb (l .four) d) 4 (when (leb (l .two) d) 2 1))))
 
@@ -83,7 +83,7 @@ sizeAt l d =
 unfoldable pub groupsWith : Limits → ℕ → OptU64 → OptU64 → Groups
 groupsWith l d (Given s) count = groupsOf d s
 groupsWith l d Absent (Given n) = record { dblocks = d; agsize = ceilDiv d n; agcount = n }
-groupsWith l d Absent Absent = groupsOf d (sizeAt l d)
+groupsWith l d Absent Absent = groupsOf d (defaultGroupSize l d)
 
 unfoldable pub groupsAt : Fixed → ℕ → Groups
 groupsAt f d = groupsWith (f .limits) d (f .agsize) (f .agcount)

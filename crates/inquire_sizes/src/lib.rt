@@ -1,7 +1,7 @@
 // Whether every device size of a range is formatted: a loop over its sizes in whole blocks.
 ghost use mathlib.Core.Path.{_≡_};
 ghost use Prim.Native.Nat.{_≤_, _<_, _^_};
-ghost use Rattle.inquire_sizes.specs.Ranges.{refusedCall, optionsNumber, noRange, rangeOf, sizesAnswer, sizesAsked};
+ghost use Rattle.inquire_sizes.specs.Ranges.{sizesCallRefused, optionsNumber, noRange, rangeOf, sizesAnswer, sizesAsked};
 ghost use Rattle.inquire_sizes.specs.Step.{numberAt};
 
 pub mod step; // step.rt: the number of one size
@@ -39,7 +39,7 @@ pub fn options_number(p: Params, logical: u32, physical: u32) -> u32
 }
 
 fn refused(n: u32) -> Range
-    ensures { λ r. ⌜ r ≡ refusedCall n ⌝ }
+    ensures { λ r. ⌜ r ≡ sizesCallRefused n ⌝ }
 {
     Range {
         number: n,

@@ -5,7 +5,7 @@ ghost use Rattle.refusals.specs.Table.{first};
 ghost use Rattle.params.specs.Options.{or64, given64};
 ghost use Rattle.geometry.specs.Groups.{groupsOf, groupBlocks};
 ghost use Rattle.run.specs.Runs.{orNext};
-ghost use Rattle.inquire_sizes.specs.Step.{inBlocks, limitsOf, earlyNumber, lateNumber, fixedOf, sizeAt, groupsWith, logAt, atOf, groupRefusals, diskRefusals, numberAt};
+ghost use Rattle.inquire_sizes.specs.Step.{inBlocks, limitsOf, earlyNumber, lateNumber, fixedOf, defaultGroupSize, groupsWith, logAt, atOf, groupRefusals, diskRefusals, numberAt};
 use arith::choice::both;
 use arith::choice::pick_u64;
 use arith::numbers::div_ceil;
@@ -147,7 +147,7 @@ fn blocks_or(option: OptU64, n: u64) -> u64
 
 // Blocks of a group where neither option is given.
 fn size_at(l: Limits, d: u64) -> u64
-    ensures { λ r. ⌜ r ≡ sizeAt l d ⌝ }
+    ensures { λ r. ⌜ r ≡ defaultGroupSize l d ⌝ }
 {
     let groups = pick_u64(l.two <= d, 2, 1);
     let groups = pick_u64(l.four <= d, 4, groups);

@@ -21,40 +21,40 @@ use Rattle.inquire_sizes.specs.Ranges.{sizeNumber, optionsNumber, FormattedSize
 use Rattle.inquire_sizes.proofs.First.{first-passes, first-fails}
 use Rattle.inquire_sizes.proofs.Meaning.{early-most}
 use Rattle.inquire_smallest.specs.declared.Found.{Found}
-use Rattle.inquire_smallest.specs.Question.{defaultGroups, freeBlocks, reaches, sizeAt, firstReaching, refusedCall, foundIn, noSizes, questionNumber, smallestAnswer, NoneBelow, SmallestSize}
+use Rattle.inquire_smallest.specs.Question.{defaultGroups, freeOnDevice, reaches, sizeTried, firstReaching, smallestCallRefused, foundIn, noSizes, smallestQuestion, smallestAnswer, NoneBelow, SmallestSize}
 use Rattle.inquire_smallest.proofs.Rows.{enough}
 
 -- ---- one size
 
 module _ (q : Params) (logical physical wanted device : ℕ) where
-  pub reached : reaches q logical physical wanted device ≡ true → FormattedSize q logical physical device × (wanted ≤ freeBlocks q logical physical device)
+  pub reached : reaches q logical physical wanted device ≡ true → FormattedSize q logical physical device × (wanted ≤ freeOnDevice q logical physical device)
   unfolding reaches sizeNumber
   reached e =
       let n = sizeNumber q logical physical device in
-      let z = none (computeDef q device logical physical .number) (plansNumber (computeDef q device logical physical .geometry)) (eqb-true n 0 (left-true (eqb n 0) (leb wanted (freeBlocks q logical physical device)) e)) in
-      (record { geometry = z .0; plans = z .1 }, leb-true wanted (freeBlocks q logical physical device) (right-true (eqb n 0) (leb wanted (freeBlocks q logical physical device)) e))
+      let z = none (computeDef q device logical physical .number) (plansNumber (computeDef q device logical physical .geometry)) (eqb-true n 0 (left-true (eqb n 0) (leb wanted (freeOnDevice q logical physical device)) e)) in
+      (record { geometry = z .0; plans = z .1 }, leb-true wanted (freeOnDevice q logical physical device) (right-true (eqb n 0) (leb wanted (freeOnDevice q logical physical device)) e))
 
   number-zero : FormattedSize q logical physical device → sizeNumber q logical physical device ≡ 0
   unfolding sizeNumber
   number-zero f = rw (f .geometry, f .plans)
 
-  pub not-reached : reaches q logical physical wanted device ≡ false → FormattedSize q logical physical device → freeBlocks q logical physical device < wanted
+  pub not-reached : reaches q logical physical wanted device ≡ false → FormattedSize q logical physical device → freeOnDevice q logical physical device < wanted
   unfolding reaches
   not-reached e f =
-      leb-false wanted (freeBlocks q logical physical device)
+      leb-false wanted (freeOnDevice q logical physical device)
       (sym (rw (eq-eqb (sizeNumber q logical physical device) 0 (number-zero f))) ∙ e)
 
 -- ---- the question
 
-question-at : (n : ℕ) (r : Found) (t : Bool) → eqb n 0 ≡ t → choose t r (refusedCall n) .number ≡ 0 → n ≡ 0
+question-at : (n : ℕ) (r : Found) (t : Bool) → eqb n 0 ≡ t → choose t r (smallestCallRefused n) .number ≡ 0 → n ≡ 0
 question-at n r true e h = eqb-true n 0 e
 question-at n r false e h = absurd (eqb-false n 0 e h)
 
-found-at : (s : ℕ) (t : Bool) → choose {A = Found} t (record { number = 0; size = s }) (refusedCall 38) .number ≡ 0 → t ≡ true
+found-at : (s : ℕ) (t : Bool) → choose {A = Found} t (record { number = 0; size = s }) (smallestCallRefused 38) .number ≡ 0 → t ≡ true
 found-at s true e = refl
 found-at s false e = absurd (let z : _≡_ {A = ℕ} 38 0 = e in omega arith)
 
-none-at : (n : ℕ) (s : ℕ) (t u : Bool) → eqb n 0 ≡ t → (n ≡ 38 → ⊥) → choose {A = Found} t (choose u (record { number = 0; size = s }) (refusedCall 38)) (refusedCall n) .number ≡ 38
+none-at : (n : ℕ) (s : ℕ) (t u : Bool) → eqb n 0 ≡ t → (n ≡ 38 → ⊥) → choose {A = Found} t (choose u (record { number = 0; size = s }) (smallestCallRefused 38)) (smallestCallRefused n) .number ≡ 38
     → u ≡ false
 none-at n s true true e h z = absurd (let y : _≡_ {A = ℕ} 0 38 = z in omega arith)
 none-at n s true false e h z = refl
@@ -68,26 +68,26 @@ not-38 o true false e l z = let y : _≡_ {A = ℕ} 0 38 = z in omega arith
 not-38 o false u e l z = omega arith
 
 only-39 : (o : ℕ) (t u v : Bool) (s : ℕ) → eqb o 0 ≡ t → o ≤ 8
-    → choose {A = Found} (eqb (choose t (when u 39 0) o) 0) (choose v (record { number = 0; size = s }) (refusedCall 38)) (refusedCall (choose t (when u 39 0) o)) .number ≡ 39
+    → choose {A = Found} (eqb (choose t (when u 39 0) o) 0) (choose v (record { number = 0; size = s }) (smallestCallRefused 38)) (smallestCallRefused (choose t (when u 39 0) o)) .number ≡ 39
     → (o ≡ 0) × (u ≡ true)
 unfolding when
 only-39 o true true v s e l z = (eqb-true o 0 e, refl)
 only-39 o true false true s e l z = absurd (let y : _≡_ {A = ℕ} 0 39 = z in omega arith)
 only-39 o true false false s e l z = absurd (let y : _≡_ {A = ℕ} 38 39 = z in omega arith)
 only-39 o false u v s e l z =
-    let y : _≡_ {A = ℕ} o 39 = sym (ap (λ (b : Bool). choose {A = Found} b (choose v (record { number = 0; size = s }) (refusedCall 38)) (refusedCall o) .number) e) ∙ z in
+    let y : _≡_ {A = ℕ} o 39 = sym (ap (λ (b : Bool). choose {A = Found} b (choose v (record { number = 0; size = s }) (smallestCallRefused 38)) (smallestCallRefused o) .number) e) ∙ z in
     absurd (omega arith)
 
-which-of : (start count : ℕ) (a b c : Bool) → eqb count 0 ≡ a → ltb 65536 count ≡ b → leb (2 ^ 64) (sizeAt start (count - 1)) ≡ c → (a || (b || c)) ≡ true
-    → (count ≡ 0) ⊎ ((65536 < count) ⊎ (2 ^ 64 ≤ sizeAt start (count - 1)))
+which-of : (start count : ℕ) (a b c : Bool) → eqb count 0 ≡ a → ltb 65536 count ≡ b → leb (2 ^ 64) (sizeTried start (count - 1)) ≡ c → (a || (b || c)) ≡ true
+    → (count ≡ 0) ⊎ ((65536 < count) ⊎ (2 ^ 64 ≤ sizeTried start (count - 1)))
 which-of start count true b c x y w e = inl (eqb-true count 0 x)
 which-of start count false true c x y w e = inr (inl (ltb-true 65536 count y))
-which-of start count false false c x y w e = inr (inr (leb-true (2 ^ 64) (sizeAt start (count - 1)) (w ∙ e)))
+which-of start count false false c x y w e = inr (inr (leb-true (2 ^ 64) (sizeTried start (count - 1)) (w ∙ e)))
 
 -- what 39 is about
-pub no-sizes-are : (start count : ℕ) → noSizes start count ≡ true → (count ≡ 0) ⊎ ((65536 < count) ⊎ (2 ^ 64 ≤ sizeAt start (count - 1)))
+pub no-sizes-are : (start count : ℕ) → noSizes start count ≡ true → (count ≡ 0) ⊎ ((65536 < count) ⊎ (2 ^ 64 ≤ sizeTried start (count - 1)))
 unfolding noSizes
-no-sizes-are start count e = which-of start count (eqb count 0) (ltb 65536 count) (leb (2 ^ 64) (sizeAt start (count - 1))) refl refl refl e
+no-sizes-are start count e = which-of start count (eqb count 0) (ltb 65536 count) (leb (2 ^ 64) (sizeTried start (count - 1))) refl refl refl e
 
 module _ (p : Params) (logical physical start count wanted : ℕ) where
   abbrev q : Params
@@ -100,7 +100,7 @@ module _ (p : Params) (logical physical start count wanted : ℕ) where
   index = firstReaching q logical physical start count wanted
 
   abbrev question : ℕ
-  question = questionNumber q logical physical start count
+  question = smallestQuestion q logical physical start count
 
   abbrev found : Found
   found = foundIn q logical physical start count wanted
@@ -117,9 +117,9 @@ module _ (p : Params) (logical physical start count wanted : ℕ) where
   none-before : (n : ℕ) → n ≤ index → NoneBelow p logical physical start wanted n
   unfolding firstReaching
   none-before n l i h f =
-      not-reached q logical physical wanted (sizeAt start i) (first-fails (enough q logical physical start wanted) 0 count i (omega arith) (omega arith)) f
+      not-reached q logical physical wanted (sizeTried start i) (first-fails (enough q logical physical start wanted) 0 count i (omega arith) (omega arith)) f
 
-  reaches-index : index < count → reaches q logical physical wanted (sizeAt start index) ≡ true
+  reaches-index : index < count → reaches q logical physical wanted (sizeTried start index) ≡ true
   unfolding firstReaching
   reaches-index h = first-passes (enough q logical physical start wanted) 0 count (omega arith)
 
@@ -127,18 +127,18 @@ module _ (p : Params) (logical physical start count wanted : ℕ) where
   unfolding foundIn
   index-below z =
       ltb-true index count
-      (found-at (sizeAt start index) (ltb index count) (sym (ap (λ (r : Found). r .number) (is-found (question-zero z))) ∙ z))
+      (found-at (sizeTried start index) (ltb index count) (sym (ap (λ (r : Found). r .number) (is-found (question-zero z))) ∙ z))
 
-  size-is : its-answer .number ≡ 0 → its-answer .size ≡ sizeAt start index
+  size-is : its-answer .number ≡ 0 → its-answer .size ≡ sizeTried start index
   unfolding foundIn
   size-is z =
       ap (λ (r : Found). r .size) (is-found (question-zero z))
-      ∙ ap (λ (t : Bool). choose {A = Found} t (record { number = 0; size = sizeAt start index }) (refusedCall 38) .size) (lt-ltb index count (index-below z))
+      ∙ ap (λ (t : Bool). choose {A = Found} t (record { number = 0; size = sizeTried start index }) (smallestCallRefused 38) .size) (lt-ltb index count (index-below z))
 
   -- THE ANSWER IS AMONG THE SIZES, A CANDIDATE, REACHES THE COUNT, AND NO SMALLER CANDIDATE DOES
   pub smallest-found : its-answer .number ≡ 0 → SmallestSize p logical physical start count wanted (its-answer .size)
   smallest-found z =
-      let w = reached q logical physical wanted (sizeAt start index) (reaches-index (index-below z)) in
+      let w = reached q logical physical wanted (sizeTried start index) (reaches-index (index-below z)) in
       record {
         index = index;
         among = index-below z;
@@ -149,14 +149,14 @@ module _ (p : Params) (logical physical start count wanted : ℕ) where
       }
 
   question-not-38 : question ≡ 38 → ⊥
-  unfolding questionNumber
+  unfolding smallestQuestion
   question-not-38 = not-38 (optionsNumber q logical physical) (eqb (optionsNumber q logical physical) 0) (noSizes start count) refl (early-most q logical physical)
 
   -- 38: NO CANDIDATE REACHES THE COUNT
   pub none-reaches : its-answer .number ≡ 38 → NoneBelow p logical physical start wanted count
   unfolding smallestAnswer foundIn
   none-reaches z =
-      let u = none-at question (sizeAt start index) (eqb question 0) (ltb index count) refl question-not-38 z in
+      let u = none-at question (sizeTried start index) (eqb question 0) (ltb index count) refl question-not-38 z in
       none-before count (ltb-false index count u)
 
   -- AND WHERE NONE DOES, 38, AFTER 1 TO 8 AND 39
@@ -164,16 +164,16 @@ module _ (p : Params) (logical physical start count wanted : ℕ) where
   unfolding foundIn
   none-is-38 z n =
       let m : count ≤ index =
-      ⊎-elim (λ l. absurd (let w = reached q logical physical wanted (sizeAt start index) (reaches-index l) in let f = n index l (w .0) in let g = w .1 in omega arith)) (λ l. l) (lt-or-le index count)
+      ⊎-elim (λ l. absurd (let w = reached q logical physical wanted (sizeTried start index) (reaches-index l) in let f = n index l (w .0) in let g = w .1 in omega arith)) (λ l. l) (lt-or-le index count)
       in
       ap (λ (r : Found). r .number) (is-found z)
-      ∙ ap (λ (t : Bool). choose {A = Found} t (record { number = 0; size = sizeAt start index }) (refusedCall 38) .number) (le-ltb index count m)
+      ∙ ap (λ (t : Bool). choose {A = Found} t (record { number = 0; size = sizeTried start index }) (smallestCallRefused 38) .number) (le-ltb index count m)
 
   -- 39 AFTER 1 TO 8, WHERE THERE IS NO SIZE, TOO MANY, OR A LAST ONE THAT DOESN'T FIT
   pub no-sizes-39 : its-answer .number ≡ 39 → (optionsNumber q logical physical ≡ 0) × (noSizes start count ≡ true)
-  unfolding smallestAnswer questionNumber foundIn
+  unfolding smallestAnswer smallestQuestion foundIn
   no-sizes-39 z =
-      only-39 (optionsNumber q logical physical) (eqb (optionsNumber q logical physical) 0) (noSizes start count) (ltb index count) (sizeAt start index) refl (early-most q logical physical) z
+      only-39 (optionsNumber q logical physical) (eqb (optionsNumber q logical physical) 0) (noSizes start count) (ltb index count) (sizeTried start index) refl (early-most q logical physical) z
 
   -- AGSIZE AND AGCOUNT MAKE NO DIFFERENCE
   pub groups-ignored : (n : ℕ) → (smallestAnswer (withAgsize p n) logical physical start count wanted ≡ its-answer) × (smallestAnswer (withAgcount p n) logical physical start count wanted ≡ its-answer)

@@ -15,18 +15,18 @@ use Rattle.geometry.specs.Compute.{computeDef}
 use Rattle.plan_totals.specs.Totals.{plansNumber}
 use Rattle.sb.specs.declared.SbState.{SbState}
 use Rattle.sb_states.specs.declared.Stated.{Stated}
-use Rattle.sb_states.specs.States.{finishedState, noState, finished}
+use Rattle.sb_states.specs.States.{finishedState, stateRefused, finishedAnswer}
 use Rattle.request.specs.Defaults.{uuidOf}
 use Rattle.inquire_sizes.specs.Ranges.{sizeNumber}
-use Rattle.inquire_smallest.specs.Question.{freeBlocks, reaches, noSizes}
+use Rattle.inquire_smallest.specs.Question.{freeOnDevice, reaches, noSizes}
 
 -- the finished state's number is that of the plans
-state-number : (n : ℕ) (s : SbState) (t : Bool) → eqb n 0 ≡ t → choose t (record { number = 0; state = s }) (noState n) .number ≡ n
+state-number : (n : ℕ) (s : SbState) (t : Bool) → eqb n 0 ≡ t → choose t (record { number = 0; state = s }) (stateRefused n) .number ≡ n
 state-number n s true e = sym (eqb-true n 0 e)
 state-number n s false e = refl
 
-finished-number : (g : Geometry) (uuid : List ℕ) → finished g uuid .number ≡ plansNumber g
-unfolding finished
+finished-number : (g : Geometry) (uuid : List ℕ) → finishedAnswer g uuid .number ≡ plansNumber g
+unfolding finishedAnswer
 finished-number g uuid = state-number (plansNumber g) (finishedState g uuid) (eqb (plansNumber g) 0) refl
 
 module _ (p : Params) (logical physical wanted device : ℕ) where
@@ -34,7 +34,7 @@ module _ (p : Params) (logical physical wanted device : ℕ) where
   step = computeDef p device logical physical
 
   abbrev end : Stated
-  end = finished (step .geometry) (uuidOf p)
+  end = finishedAnswer (step .geometry) (uuidOf p)
 
   -- geometry refuses it
   pub step-refused : (step .number ≡ 0 → ⊥) → false ≡ reaches p logical physical wanted device
@@ -46,7 +46,7 @@ module _ (p : Params) (logical physical wanted device : ℕ) where
   number-is z = rw z
 
   state-is : plansNumber (step .geometry) ≡ 0 → end .state ≡ finishedState (step .geometry) (uuidOf p)
-  unfolding finished
+  unfolding finishedAnswer
   state-is z = rw (eq-eqb (plansNumber (step .geometry)) 0 z)
 
   enough-at : (t : Bool) → eqb (plansNumber (step .geometry)) 0 ≡ t
@@ -56,7 +56,7 @@ module _ (p : Params) (logical physical wanted device : ℕ) where
 
   -- geometry accepts it: the plans and the finished state decide
   pub step-accepted : step .number ≡ 0 → (eqb (end .number) 0 && leb wanted (end .state .fdblocks)) ≡ reaches p logical physical wanted device
-  unfolding reaches freeBlocks
+  unfolding reaches freeOnDevice
   step-accepted z =
       rw (finished-number (step .geometry) (uuidOf p), number-is z)
       (enough-at (eqb (plansNumber (step .geometry)) 0) refl)

@@ -32,32 +32,32 @@ defaultGroups p =
 -- ---- one size
 
 -- the free count of the finished superblock, on a device of so many bytes
-unfoldable pub freeBlocks : Params → ℕ → ℕ → ℕ → ℕ
-freeBlocks p logical physical device = finishedState (computeDef p device logical physical .geometry) (uuidOf p) .fdblocks
+unfoldable pub freeOnDevice : Params → ℕ → ℕ → ℕ → ℕ
+freeOnDevice p logical physical device = finishedState (computeDef p device logical physical .geometry) (uuidOf p) .fdblocks
 
 -- the size is a candidate, one that geometry and planning accept, and it has at least so many free blocks
 unfoldable pub reaches : Params → ℕ → ℕ → ℕ → ℕ → Bool
-reaches p logical physical wanted device = eqb (sizeNumber p logical physical device) 0 && leb wanted (freeBlocks p logical physical device)
+reaches p logical physical wanted device = eqb (sizeNumber p logical physical device) 0 && leb wanted (freeOnDevice p logical physical device)
 
 -- ---- the sizes
 
 -- size i of those that begin with `start`, in steps of 1 MiB
-abbrev pub sizeAt : ℕ → ℕ → ℕ
-sizeAt start i = start + i * mib
+abbrev pub sizeTried : ℕ → ℕ → ℕ
+sizeTried start i = start + i * mib
 
 -- which of the sizes is the first that reaches the count; their number where none does
 unfoldable pub firstReaching : Params → ℕ → ℕ → ℕ → ℕ → ℕ → ℕ
-firstReaching p logical physical start count wanted = firstFrom (λ i. reaches p logical physical wanted (sizeAt start i)) 0 count
+firstReaching p logical physical start count wanted = firstFrom (λ i. reaches p logical physical wanted (sizeTried start i)) 0 count
 
-abbrev pub refusedCall : ℕ → Found
-refusedCall n = record { number = n; size = 0 }
+abbrev pub smallestCallRefused : ℕ → Found
+smallestCallRefused n = record { number = n; size = 0 }
 
 -- its size, or 38
 unfoldable pub foundIn : Params → ℕ → ℕ → ℕ → ℕ → ℕ → Found
 foundIn p logical physical start count wanted =
     choose (ltb (firstReaching p logical physical start count wanted) count)
-    (record { number = 0; size = sizeAt start (firstReaching p logical physical start count wanted) })
-    (refusedCall noneReaches)
+    (record { number = 0; size = sizeTried start (firstReaching p logical physical start count wanted) })
+    (smallestCallRefused noneReaches)
 
 -- ---- the question
 
@@ -67,38 +67,38 @@ mostSizes = 65536
 
 -- 39: there is no size, there are too many, or the last doesn't fit 64 bits
 unfoldable pub noSizes : ℕ → ℕ → Bool
-noSizes start count = eqb count 0 || (ltb mostSizes count || leb (2 ^ 64) (sizeAt start (count - 1)))
+noSizes start count = eqb count 0 || (ltb mostSizes count || leb (2 ^ 64) (sizeTried start (count - 1)))
 
 -- the number of the question itself: 1 to 8, then 39
-unfoldable pub questionNumber : Params → ℕ → ℕ → ℕ → ℕ → ℕ
-questionNumber p logical physical start count = orNext (optionsNumber p logical physical) (when (noSizes start count) badSizes 0)
+unfoldable pub smallestQuestion : Params → ℕ → ℕ → ℕ → ℕ → ℕ
+smallestQuestion p logical physical start count = orNext (optionsNumber p logical physical) (when (noSizes start count) badSizes 0)
 
 -- `smallest`, with the groups left to default
 unfoldable pub smallestAnswer : Params → ℕ → ℕ → ℕ → ℕ → ℕ → Found
 smallestAnswer p logical physical start count wanted =
     let q = defaultGroups p in
-    choose (eqb (questionNumber q logical physical start count) 0)
+    choose (eqb (smallestQuestion q logical physical start count) 0)
     (foundIn q logical physical start count wanted)
-    (refusedCall (questionNumber q logical physical start count))
+    (smallestCallRefused (smallestQuestion q logical physical start count))
 
 -- `smallest_of`: the same of input records, 28 before all; the device's size in them isn't read
 unfoldable pub smallestAsked : List ℕ → ℕ → ℕ → ℕ → Found
 smallestAsked input start count wanted =
     let q = parseDef input in
-    choose (eqb (q .number) 0) (smallestAnswer (q .params) (q .logical) (q .physical) start count wanted) (refusedCall (q .number))
+    choose (eqb (q .number) 0) (smallestAnswer (q .params) (q .logical) (q .physical) start count wanted) (smallestCallRefused (q .number))
 
 -- ---- what the answers mean, with the groups left to default
 
 -- no candidate among the first n sizes reaches the count
 abbrev pub NoneBelow : Params → ℕ → ℕ → ℕ → ℕ → ℕ → Type 0
 NoneBelow p logical physical start wanted n =
-    (i : ℕ) → i < n → FormattedSize (defaultGroups p) logical physical (sizeAt start i) → freeBlocks (defaultGroups p) logical physical (sizeAt start i) < wanted
+    (i : ℕ) → i < n → FormattedSize (defaultGroups p) logical physical (sizeTried start i) → freeOnDevice (defaultGroups p) logical physical (sizeTried start i) < wanted
 
 -- a size is the smallest candidate that reaches the count
 pub record SmallestSize (p : Params) (logical physical start count wanted size : ℕ) : Type 0 where
   pub index : ℕ
   pub among : index < count
-  pub its-size : size ≡ sizeAt start index
+  pub its-size : size ≡ sizeTried start index
   pub candidate : FormattedSize (defaultGroups p) logical physical size
-  pub enough : wanted ≤ freeBlocks (defaultGroups p) logical physical size
+  pub enough : wanted ≤ freeOnDevice (defaultGroups p) logical physical size
   pub none-smaller : NoneBelow p logical physical start wanted index

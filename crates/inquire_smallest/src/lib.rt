@@ -1,7 +1,7 @@
 // The smallest device size, among some in steps of 1 MiB, whose finished superblock has so many free blocks: a loop over the sizes.
 ghost use mathlib.Core.Path.{_≡_};
 ghost use Prim.Native.Nat.{_+_, _*_, _-_, _≤_, _<_, _^_};
-ghost use Rattle.inquire_smallest.specs.Question.{defaultGroups, reaches, refusedCall, foundIn, noSizes, smallestAnswer, smallestAsked};
+ghost use Rattle.inquire_smallest.specs.Question.{defaultGroups, reaches, smallestCallRefused, foundIn, noSizes, smallestAnswer, smallestAsked};
 use arith::choice::both;
 use geometry::Geometry;
 use inquire_sizes::options_number;
@@ -50,7 +50,7 @@ fn is_enough(p: Params, logical: u32, physical: u32, wanted: u64, device: u64) -
 }
 
 fn refused(n: u32) -> Found
-    ensures { λ r. ⌜ r ≡ refusedCall n ⌝ }
+    ensures { λ r. ⌜ r ≡ smallestCallRefused n ⌝ }
 {
     Found { number: n, size: 0 }
 }

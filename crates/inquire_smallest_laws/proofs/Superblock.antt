@@ -18,7 +18,7 @@ use Rattle.list_accepted.specs.Superblocks.{freeField, freeNamed, Says}
 use Rattle.list_accepted.proofs.Runs.{run-geometry, source-label, source-plans}
 use Rattle.list_accepted.proofs.Superblocks.{finished-says}
 use Rattle.inquire_smallest.specs.declared.Found.{Found}
-use Rattle.inquire_smallest.specs.Question.{defaultGroups, freeBlocks, smallestAnswer, SmallestSize}
+use Rattle.inquire_smallest.specs.Question.{defaultGroups, freeOnDevice, smallestAnswer, SmallestSize}
 use Rattle.inquire_smallest.proofs.Meaning.{smallest-found}
 
 module _ (r : Request) (a : AcceptedRun r) where
@@ -38,8 +38,8 @@ module _ (r : Request) (a : AcceptedRun r) where
       finished-says geometry uuid source (some-group geometry (source-label geometry uuid source) (source-plans geometry uuid source)) .free
 
   -- THE FREE COUNT OF A SIZE STANDS IN THE FINISHED SUPERBLOCK THAT AN ACCEPTED RUN ON IT LEAVES
-  pub free-left : freeField (headFinished geometry uuid) ≡ freeBlocks (r .params) (r .logical) (r .physical) (r .device)
-  unfolding freeBlocks finishedState stepOf
+  pub free-left : freeField (headFinished geometry uuid) ≡ freeOnDevice (r .params) (r .logical) (r .physical) (r .device)
+  unfolding freeOnDevice finishedState stepOf
   free-left = bytes-say ∙ ap freeCount (run-geometry r a)
 
   -- SO A RUN ON THE SIZE THAT IS FOUND LEAVES AT LEAST THE WANTED COUNT

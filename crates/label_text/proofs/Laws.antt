@@ -13,7 +13,7 @@ use Rattle.arith.specs.Choice.{when}
 use Rattle.seqs.specs.Lists.{choose}
 use Rattle.endian.specs.Bytes.{patch}
 use Rattle.endian.proofs.Laws.{patch-append, drop-turn}
-use Rattle.label_text.specs.Text.{isPlain, hexDigit, escape, shown, labelText, textOf}
+use Rattle.label_text.specs.Text.{isPlain, hexDigit, escape, shownByte, labelText, textOf}
 
 -- ---- a byte
 module _ (b : ℕ) where
@@ -66,20 +66,20 @@ module _ (b : ℕ) where
 
 -- ---- a byte before a text of n bytes
 module _ (b n : ℕ) where
-  pub hidden : b ≡ 0 → n ≡ 0 → shown b n ≡ []
-  unfolding shown
+  pub hidden : b ≡ 0 → n ≡ 0 → shownByte b n ≡ []
+  unfolding shownByte
   hidden e f = rw (eq-eqb b 0 e, eq-eqb n 0 f) refl
 
-  pub zero-shown : b ≡ 0 → (n ≡ 0 → ⊥) → shown b n ≡ escape b
-  unfolding shown
+  pub zero-shown : b ≡ 0 → (n ≡ 0 → ⊥) → shownByte b n ≡ escape b
+  unfolding shownByte
   zero-shown e f = rw (eq-eqb b 0 e, ne-eqb n 0 f) refl
 
-  pub other-shown : (b ≡ 0 → ⊥) → shown b n ≡ escape b
-  unfolding shown
+  pub other-shown : (b ≡ 0 → ⊥) → shownByte b n ≡ escape b
+  unfolding shownByte
   other-shown e = rw (ne-eqb b 0 e) refl
 
-  pub shown-most : length (shown b n) ≤ 4
-  unfolding shown
+  pub shown-most : length (shownByte b n) ≤ 4
+  unfolding shownByte
   shown-most = by (eqb b 0 && eqb n 0)
     where
       by : (t : Bool) → length (choose t [] (escape b)) ≤ 4
@@ -115,27 +115,27 @@ module _ (i : ℕ) (label : List ℕ) (pos : 0 < i) (le : i ≤ length label) wh
   last-first : drop (i - 1) label ≡ getD label (i - 1) 0 ∷ drop i label
   last-first = sym (drop-turn 0 i pos label le)
 
-  text-turn : labelText (drop (i - 1) label) ≡ shown (getD label (i - 1) 0) (length (labelText (drop i label))) ++ labelText (drop i label)
+  text-turn : labelText (drop (i - 1) label) ≡ shownByte (getD label (i - 1) 0) (length (labelText (drop i label))) ++ labelText (drop i label)
   unfolding labelText
   text-turn = rw last-first refl
 
   -- the byte before the text that stands from `to` on
   module _ (at to : ℕ) (xs ys zs : List ℕ) (ends : to + length (labelText (drop i label)) ≡ 48) (so : ys ≡ patch to (labelText (drop i label)) xs)
-      (begins : at + length (shown (getD label (i - 1) 0) (48 - to)) ≡ to) (put : zs ≡ patch at (shown (getD label (i - 1) 0) (48 - to)) ys) where
+      (begins : at + length (shownByte (getD label (i - 1) 0) (48 - to)) ≡ to) (put : zs ≡ patch at (shownByte (getD label (i - 1) 0) (48 - to)) ys) where
     behind : 48 - to ≡ length (labelText (drop i label))
     behind = omega arith
 
     pub turn-bytes : zs ≡ patch at (labelText (drop (i - 1) label)) xs
     turn-bytes =
-        let s = shown (getD label (i - 1) 0) (48 - to) in
+        let s = shownByte (getD label (i - 1) 0) (48 - to) in
         put ∙ ap (patch at s) (so ∙ ap (λ (k : ℕ). patch k (labelText (drop i label)) xs) (sym begins))
         ∙ sym (patch-append at s (labelText (drop i label)) xs)
-        ∙ ap (λ (bs : List ℕ). patch at bs xs) (ap (λ (k : ℕ). shown (getD label (i - 1) 0) k ++ labelText (drop i label)) behind ∙ sym text-turn)
+        ∙ ap (λ (bs : List ℕ). patch at bs xs) (ap (λ (k : ℕ). shownByte (getD label (i - 1) 0) k ++ labelText (drop i label)) behind ∙ sym text-turn)
 
     pub turn-ends : at + length (labelText (drop (i - 1) label)) ≡ 48
     turn-ends =
-        let e = ap length text-turn ∙ length-append (shown (getD label (i - 1) 0) (length (labelText (drop i label)))) (labelText (drop i label)) in
-        let f = ap (λ (k : ℕ). length (shown (getD label (i - 1) 0) k)) behind in
+        let e = ap length text-turn ∙ length-append (shownByte (getD label (i - 1) 0) (length (labelText (drop i label)))) (labelText (drop i label)) in
+        let f = ap (λ (k : ℕ). length (shownByte (getD label (i - 1) 0) k)) behind in
         omega arith
 
 pub none-left : (label : List ℕ) (n : ℕ) → length label ≡ n → labelText (drop n label) ≡ []

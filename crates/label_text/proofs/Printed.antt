@@ -11,7 +11,7 @@ use borrow.Author.Tests.{le-leb, ltb-true, ltb-false}
 use Rattle.arith.specs.Choice.{when}
 use Rattle.seqs.specs.Lists.{choose}
 use Rattle.endian.specs.Bytes.{below}
-use Rattle.label_text.specs.Text.{printable, isPlain, hexDigit, escape, shown, labelText, allPrintable}
+use Rattle.label_text.specs.Text.{printable, isPlain, hexDigit, escape, shownByte, labelText, allPrintable}
 
 -- ---- every byte is printable
 
@@ -44,8 +44,8 @@ escape-printable b h = by (isPlain b) refl
     by true e = rw (and-left (printable b) (not (eqb b 34) && not (eqb b 92)) e) refl
     by false e = rw (digit-printable (b / 16) (omega arith), digit-printable (b % 16) (omega arith)) refl
 
-shown-printable : (b n : ℕ) → b < 256 → allPrintable (shown b n) ≡ true
-unfolding shown allPrintable
+shown-printable : (b n : ℕ) → b < 256 → allPrintable (shownByte b n) ≡ true
+unfolding shownByte allPrintable
 shown-printable b n h = by (eqb b 0 && eqb n 0)
   where
     by : (t : Bool) → allPrintable (choose t [] (escape b)) ≡ true
@@ -56,4 +56,4 @@ pub text-printable : (label : List ℕ) → below 256 label → allPrintable (la
 unfolding labelText allPrintable
 text-printable [] h = refl
 text-printable (b ∷ bs) h =
-    all-append (shown b (length (labelText bs))) (labelText bs) (shown-printable b (length (labelText bs)) (h .0)) (text-printable bs (h .1))
+    all-append (shownByte b (length (labelText bs))) (labelText bs) (shown-printable b (length (labelText bs)) (h .0)) (text-printable bs (h .1))

@@ -27,13 +27,13 @@ unfoldable pub escape : ℕ → List ℕ
 escape b = choose (isPlain b) (b ∷ []) (92 ∷ 120 ∷ hexDigit (b / 16) ∷ hexDigit (b % 16) ∷ [])
 
 -- a byte before a text of n bytes: zeros with nothing behind them only fill the label up, and aren't shown
-unfoldable pub shown : ℕ → ℕ → List ℕ
-shown b n = choose (eqb b 0 && eqb n 0) [] (escape b)
+unfoldable pub shownByte : ℕ → ℕ → List ℕ
+shownByte b n = choose (eqb b 0 && eqb n 0) [] (escape b)
 
 -- the text of a label
 unfoldable pub labelText : List ℕ → List ℕ
 labelText [] = []
-labelText (b ∷ bs) = shown b (length (labelText bs)) ++ labelText bs
+labelText (b ∷ bs) = shownByte b (length (labelText bs)) ++ labelText bs
 
 -- the same at the end of 48 bytes, and where it begins
 unfoldable pub textOf : List ℕ → LabelText

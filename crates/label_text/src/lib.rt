@@ -4,7 +4,7 @@ ghost use mathlib.Core.Bool.{false};
 ghost use Prim.Native.Nat.{_+_, _-_, _≤_, _<_};
 ghost use lib.ListN.{length};
 ghost use Rattle.endian.specs.Bytes.{patch};
-ghost use Rattle.label_text.specs.Text.{isPlain, hexDigit, escape, shown, labelText, textOf};
+ghost use Rattle.label_text.specs.Text.{isPlain, hexDigit, escape, shownByte, labelText, textOf};
 
 // The bytes of a text, from `start` on.
 pub struct LabelText {
@@ -68,7 +68,7 @@ fn store_byte(b: u8, buf: &mut [u8], end: usize) -> usize
 // The same before a text of 48 − `end` bytes.
 fn store_before(b: u8, buf: &mut [u8], end: usize) -> usize
     requires { ⌜ (4 ≤ end) × (end ≤ 48) × (length (now buf) ≡ 48) ⌝ }
-    ensures { λ r. ⌜ (r + length (shown b (48 - end)) ≡ end) × (now (buf .exit) ≡ patch r (shown b (48 - end)) (now (buf .entry))) ⌝ }
+    ensures { λ r. ⌜ (r + length (shownByte b (48 - end)) ≡ end) × (now (buf .exit) ≡ patch r (shownByte b (48 - end)) (now (buf .entry))) ⌝ }
 {
     if b == 0 {
         if end == 48 {

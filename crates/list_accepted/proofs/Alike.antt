@@ -8,7 +8,7 @@ use native.Mathlib.Omega.{arith}
 use lib.ListN.{length, getD, set}
 use lib.Seq.{getD-set-other}
 use Rattle.endian.specs.Bytes.{patch}
-use Rattle.endian.specs.Fields.{Field, write}
+use Rattle.endian.specs.Fields.{Field, writeFields}
 use Rattle.endian.proofs.Laws.{length-patch}
 
 -- ---- the same bytes
@@ -28,7 +28,7 @@ patch-alike off [] xs ys i l e = e
 patch-alike off (b ∷ bs) xs ys i l e =
     set-alike (patch (suc off) bs xs) (patch (suc off) bs ys) off b i (length-patch (suc off) bs xs ∙ l ∙ sym (length-patch (suc off) bs ys)) (patch-alike (suc off) bs xs ys i l e)
 
-write-alike : (fs : List Field) (xs ys : List ℕ) (i : ℕ) → length xs ≡ length ys → getD xs i 0 ≡ getD ys i 0 → getD (write fs xs) i 0 ≡ getD (write fs ys) i 0
+write-alike : (fs : List Field) (xs ys : List ℕ) (i : ℕ) → length xs ≡ length ys → getD xs i 0 ≡ getD ys i 0 → getD (writeFields fs xs) i 0 ≡ getD (writeFields fs ys) i 0
 write-alike [] xs ys i l e = e
 write-alike (f ∷ fs) xs ys i l e =
     write-alike fs (patch (f .at) (f .bytes) xs) (patch (f .at) (f .bytes) ys) i (length-patch (f .at) (f .bytes) xs ∙ l ∙ sym (length-patch (f .at) (f .bytes) ys))
@@ -66,7 +66,7 @@ patch-away off bs xs i (inr h) = behind off bs xs i h
 
 -- fields that are the same but for one: they leave the same away from it
 pub one-differs : (es : List Field) (f h : Field) (bs : List Field) (xs : List ℕ) (i : ℕ) → Away i (f .at) (length (f .bytes)) → Away i (h .at) (length (h .bytes))
-    → getD (write (es ++ (f ∷ bs)) xs) i 0 ≡ getD (write (es ++ (h ∷ bs)) xs) i 0
+    → getD (writeFields (es ++ (f ∷ bs)) xs) i 0 ≡ getD (writeFields (es ++ (h ∷ bs)) xs) i 0
 one-differs [] f h bs xs i a b =
     write-alike bs (patch (f .at) (f .bytes) xs) (patch (h .at) (h .bytes) xs) i (length-patch (f .at) (f .bytes) xs ∙ sym (length-patch (h .at) (h .bytes) xs))
     (patch-away (f .at) (f .bytes) xs i a ∙ sym (patch-away (h .at) (h .bytes) xs i b))

@@ -12,7 +12,7 @@ use lib.ListN.{getD, take, drop}
 use Rattle.arith.specs.Choice.{bit}
 use Rattle.endian.specs.Bytes.{beBytes}
 use Rattle.endian_little.specs.Bytes.{leBytes}
-use Rattle.endian.specs.Fields.{field, write}
+use Rattle.endian.specs.Fields.{field, writeFields}
 use Rattle.crc.specs.Crc.{cksumOf, stamped}
 use Rattle.geometry.specs.declared.Geometry.{Geometry}
 use Rattle.sb.specs.declared.SbState.{SbState}
@@ -52,7 +52,7 @@ kept i e =
 -- ---- the superblock
 
 module _ (g : Geometry) (s : SbState) (t u : Bool) (i : ℕ) (h : changedByte i ≡ false) where
-  fields-same : (large : Bool) (xs : List ℕ) → getD (write (fieldsWith large g (marked t s)) xs) i 0 ≡ getD (write (fieldsWith large g (marked u s)) xs) i 0
+  fields-same : (large : Bool) (xs : List ℕ) → getD (writeFields (fieldsWith large g (marked t s)) xs) i 0 ≡ getD (writeFields (fieldsWith large g (marked u s)) xs) i 0
   unfolding fieldsWith beBytes
   fields-same large xs =
       let fs = fieldsWith large g s in
@@ -67,7 +67,7 @@ module _ (g : Geometry) (s : SbState) (t u : Bool) (i : ℕ) (h : changedByte i 
   pub marked-same : (xs : List ℕ) → getD (sbBytes g (marked t s) xs) i 0 ≡ getD (sbBytes g (marked u s) xs) i 0
   unfolding sbBytes sbFields
   marked-same xs =
-      stamped-same (write (fieldsWith (largeSector g) g (marked t s)) xs) (write (fieldsWith (largeSector g) g (marked u s)) xs) (fields-same (largeSector g) xs)
+      stamped-same (writeFields (fieldsWith (largeSector g) g (marked t s)) xs) (writeFields (fieldsWith (largeSector g) g (marked u s)) xs) (fields-same (largeSector g) xs)
 
   -- in a whole head too
   pub head-marked : (p : AgPlan) (uuid : List ℕ) → getD (headBytes g p uuid (marked t s)) i 0 ≡ getD (headBytes g p uuid (marked u s)) i 0

@@ -12,7 +12,7 @@ use Rattle.list_records.specs.Device.{Device, applied}
 use Rattle.request.specs.declared.Request.{Request}
 use Rattle.run.specs.Runs.{runOf}
 use Rattle.list_spec.specs.Listing.{headLeft, listOf}
-use Rattle.list_spec.specs.Left.{unfinished, Left, Alone, Early}
+use Rattle.list_spec.specs.Left.{unfinished, DeviceLeft, OwnRecords, Early}
 use Rattle.list_spec.specs.Order.{Ordered}
 use Rattle.list_spec.proofs.Left.{left}
 use Rattle.list_spec.proofs.Alone.{alone}
@@ -31,11 +31,11 @@ after r d = applied (listOf (runOf r) (r .device)) d
 
 module _ (r : Request) (a : AcceptedRun r) where
   -- WHAT AN ACCEPTED RUN LEAVES
-  pub run-left : (d : Device) → Left (runOf r) (r .device) (after r d)
+  pub run-left : (d : Device) → DeviceLeft (runOf r) (r .device) (after r d)
   run-left d = left (runOf r) (r .device) (sound r a) d
 
   -- no record but those named touches a head
-  pub run-alone : (k : ℕ) → k < runOf r .geometry .agcount → Alone (runOf r) (r .device) k
+  pub run-alone : (k : ℕ) → k < runOf r .geometry .agcount → OwnRecords (runOf r) (r .device) k
   run-alone k h = alone (runOf r) (r .device) (sound r a) k h
 
   -- the form of its list

@@ -17,11 +17,11 @@ use Rattle.params.specs.declared.OptU64.{OptU64}
 use Rattle.params.specs.declared.OptU64.the-variants.{Absent, Given}
 use Rattle.geometry_answers.specs.Answers.{TypedOptions}
 use Rattle.request.specs.declared.Request.{Request}
-use Rattle.request_input.specs.Records.{option, optionBits, lookup, records, wellFormed}
+use Rattle.request_input.specs.Records.{option, optionBits, valueWith, records, wellFormed}
 use Rattle.request_input.specs.Records as keys
 use Rattle.request.specs.Options.{short32, short8, signed, timeGiven, labelInside, uuidInside, labelAt, labelGiven, uuidGiven, paramsOf}
 use Rattle.request.specs.Options as options
-use Rattle.request.specs.Parse.{parseDef, answer}
+use Rattle.request.specs.Parse.{parseDef, parsedIf}
 use Rattle.request.specs.Defaults.{orEpoch, timeOf, seedOf}
 use Rattle.request.proofs.Values.{option-fits, label-inside, uuid-inside}
 use Rattle.run.specs.Runs.{accepted}
@@ -91,31 +91,31 @@ module _ (xs : List ℕ) (bytes : (i : ℕ) → getD xs i 0 < 256) where
   -- ---- the request
 
   module _ (well : wellFormed xs ≡ true) where
-    fits : (code : ℕ) → options.below (2 ^ getD optionBits code 0) (lookup (option code) (records 0 xs))
+    fits : (code : ℕ) → options.below (2 ^ getD optionBits code 0) (valueWith (option code) (records 0 xs))
     fits code = option-fits xs well code
 
     options-typed : TypedOptions (paramsOf xs)
     unfolding paramsOf optionBits
     options-typed =
-        let l = label-fits (lookup keys.label (records 0 xs)) (label-inside xs) in
+        let l = label-fits (valueWith keys.label (records 0 xs)) (label-inside xs) in
         record {
-          size = or-64 (2 ^ 64) (lookup (option 1) (records 0 xs)) (lit< tt) (fits 1);
-          block-size = or-32 (2 ^ 32) (lookup (option 2) (records 0 xs)) (lit< tt) (fits 2);
-          sector-size = or-32 (2 ^ 32) (lookup (option 3) (records 0 xs)) (lit< tt) (fits 3);
-          inode-size = or-32 (2 ^ 32) (lookup (option 4) (records 0 xs)) (lit< tt) (fits 4);
-          agcount = or-64 (2 ^ 64) (lookup (option 5) (records 0 xs)) (lit< tt) (fits 5);
-          agsize = or-64 (2 ^ 64) (lookup (option 6) (records 0 xs)) (lit< tt) (fits 6);
-          imaxpct = or-8 (2 ^ 8) (lookup (option 7) (records 0 xs)) (lit< tt) (fits 7);
+          size = or-64 (2 ^ 64) (valueWith (option 1) (records 0 xs)) (lit< tt) (fits 1);
+          block-size = or-32 (2 ^ 32) (valueWith (option 2) (records 0 xs)) (lit< tt) (fits 2);
+          sector-size = or-32 (2 ^ 32) (valueWith (option 3) (records 0 xs)) (lit< tt) (fits 3);
+          inode-size = or-32 (2 ^ 32) (valueWith (option 4) (records 0 xs)) (lit< tt) (fits 4);
+          agcount = or-64 (2 ^ 64) (valueWith (option 5) (records 0 xs)) (lit< tt) (fits 5);
+          agsize = or-64 (2 ^ 64) (valueWith (option 6) (records 0 xs)) (lit< tt) (fits 6);
+          imaxpct = or-8 (2 ^ 8) (valueWith (option 7) (records 0 xs)) (lit< tt) (fits 7);
           label-length = l .0;
           label-size = l .1;
           label-bytes = below-at 256 (paramsOf xs .label .bytes) (lit< tt) (l .2);
         }
 
-    request-typed : TypedRequest (answer true xs)
+    request-typed : TypedRequest (parsedIf true xs)
     unfolding timeOf seedOf paramsOf optionBits
     request-typed =
-        let u = uuid-fits (lookup keys.uuid (records 0 xs)) (uuid-inside xs) in
-        let t = time-fits (lookup (option 10) (records 0 xs)) (lookup (option 11) (records 0 xs)) (fits 10) (fits 11) in
+        let u = uuid-fits (valueWith keys.uuid (records 0 xs)) (uuid-inside xs) in
+        let t = time-fits (valueWith (option 10) (records 0 xs)) (valueWith (option 11) (records 0 xs)) (fits 10) (fits 11) in
         record {
           options = options-typed;
           device = at-bound 8 2 xs bytes;
@@ -125,7 +125,7 @@ module _ (xs : List ℕ) (bytes : (i : ℕ) → getD xs i 0 < 256) where
           uuid-bytes = below-at 256 (paramsOf xs .uuid .bytes) (lit< tt) (u .1);
           seconds = t .0;
           nanoseconds = t .1;
-          seed = or-64 (2 ^ 64) (lookup (option 8) (records 0 xs)) (lit< tt) (fits 8);
+          seed = or-64 (2 ^ 64) (valueWith (option 8) (records 0 xs)) (lit< tt) (fits 8);
         }
 
   -- WHAT `parse` ACCEPTS HAS ITS TYPES
@@ -135,7 +135,7 @@ module _ (xs : List ℕ) (bytes : (i : ℕ) → getD xs i 0 < 256) where
 
 -- ---- what is accepted
 
-well-at : (xs : List ℕ) (t : Bool) → answer t xs .number ≡ 0 → t ≡ true
+well-at : (xs : List ℕ) (t : Bool) → parsedIf t xs .number ≡ 0 → t ≡ true
 well-at xs true e = refl
 well-at xs false e = absurd (omega arith)
 

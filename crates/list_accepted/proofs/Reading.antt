@@ -23,7 +23,7 @@ use Rattle.sb.specs.Superblock.{sbBytes}
 use Rattle.sb.proofs.Read.{dblocks-back, uuid-back, rootino-back, agcount-back, inprogress-back, fdblocks-back}
 use Rattle.plan.specs.declared.AgPlan.{AgPlan}
 use Rattle.head_frame.specs.Frames.{frameOf}
-use Rattle.head_bytes.specs.Head.{zeros, agfOf, agiOf, sectorsBytes, rootsBytes, behindBytes, headBytes}
+use Rattle.head_bytes.specs.Head.{zeros, agfFor, agiFor, sectorsBytes, rootsBytes, behindBytes, headBytes}
 use Rattle.head_bytes.proofs.Bytes.{head-first, head-behind}
 use Rattle.head_bytes.proofs.Lending.{agf-length}
 use Rattle.list_accepted.specs.Superblocks.{markAt, rootField, freeField}
@@ -72,20 +72,20 @@ module _ (g : Geometry) (label : length (g .label) ≡ 12) (sector : 512 ≤ g .
   -- ---- the AGF stands in the second sector
 
   abbrev agf : Agf
-  agf = agfOf (frameOf g p) (p .free) (p .agfl .len)
+  agf = agfFor (frameOf g p) (p .free) (p .agfl .len)
 
   agf-part : part (g .sectsize) (g .sectsize) head ≡ agfBytes agf uuid (zeros (g .sectsize))
   unfolding behindBytes sectorsBytes frameOf
   agf-part =
       let w = frameOf g p in
       let xs = agfBytes agf uuid (zeros (g .sectsize)) in
-      let ys = agiBytes (agiOf w) uuid (zeros (g .sectsize)) ++ agflBytes (w .agno) uuid 1 (take (p .agfl .len) (p .agfl .blocks)) (zeros (g .sectsize)) in
+      let ys = agiBytes (agiFor w) uuid (zeros (g .sectsize)) ++ agflBytes (w .agno) uuid 1 (take (p .agfl .len) (p .agfl .blocks)) (zeros (g .sectsize)) in
       let zs = zeros (w .header * w .block - 4 * w .sector) ++ rootsBytes w p uuid in
       ap (take (g .sectsize)) (head-behind g p uuid s ∙ append-assoc xs ys zs)
       ∙ take-at xs (ys ++ zs) (g .sectsize) (agf-length agf uuid (zeros (g .sectsize)) ∙ length-replicate {A = ℕ} (g .sectsize) 0)
 
   pub group-of : length uuid ≡ 16 → p .agno < 2 ^ 32 → beAt 4 (g .sectsize + 8) head ≡ p .agno
-  unfolding agfOf agfFields frameOf
+  unfolding agfFor agfFields frameOf
   group-of u h =
       let xs = zeros (g .sectsize) in
       let l : 216 ≤ length xs = let r = room in omega arith in

@@ -16,8 +16,8 @@ use Rattle.request.specs.declared.Request.{Request}
 use Rattle.run.specs.declared.Run.{Run}
 use Rattle.run.specs.Runs.{runOf}
 use Rattle.list_spec.specs.Listing.{headLeft, closing, listOf}
-use Rattle.list_spec.specs.Left.{headAt, headSize, unfinished}
-use Rattle.list_spec.specs.Sound.{Sound}
+use Rattle.list_spec.specs.Left.{headAt, headBytesOf, unfinished}
+use Rattle.list_spec.specs.Sound.{SoundRun}
 use Rattle.list_spec.proofs.Spans.{spans}
 use Rattle.list_spec.proofs.Parts.{list-parts}
 use Rattle.list_spec.proofs.Alone.{closing-miss}
@@ -27,7 +27,7 @@ use Rattle.list_accepted.specs.Superblocks.{changedByte}
 use Rattle.list_accepted.proofs.Finished.{finished-same}
 use Rattle.list_accepted.proofs.Sound.{sound}
 
-module _ (run : Run) (device : ℕ) (s : Sound run device) (d : Device) where
+module _ (run : Run) (device : ℕ) (s : SoundRun run device) (d : Device) where
   abbrev before : Device
   before = applied (unfinished run device) d
 
@@ -35,13 +35,13 @@ module _ (run : Run) (device : ℕ) (s : Sound run device) (d : Device) where
   after = applied (listOf run device) d
 
   -- a byte of group 0's head, in either
-  at-head : (e : Device) (xs : List ℕ) (x : ℕ) → x < headSize run → read e (headAt run 0) (headSize run) ≡ xs → e x ≡ getD xs x 0
+  at-head : (e : Device) (xs : List ℕ) (x : ℕ) → x < headBytesOf run → read e (headAt run 0) (headBytesOf run) ≡ xs → e x ≡ getD xs x 0
   at-head e xs x h q =
       let p = spans run device s .first in
       let o : headAt run 0 + x ≡ x = omega arith in
-      ap e (sym o) ∙ sym (getD-read e (headAt run 0) (headSize run) x h) ∙ ap (λ (ys : List ℕ). getD ys x 0) q
+      ap e (sym o) ∙ sym (getD-read e (headAt run 0) (headBytesOf run) x h) ∙ ap (λ (ys : List ℕ). getD ys x 0) q
 
-  in-head : (x : ℕ) → changedByte x ≡ false → x < headSize run → after x ≡ before x
+  in-head : (x : ℕ) → changedByte x ≡ false → x < headBytesOf run → after x ≡ before x
   unfolding headLeft
   in-head x c h =
       let z : 0 < run .geometry .agcount = omega (arith, s .two) in
@@ -49,7 +49,7 @@ module _ (run : Run) (device : ℕ) (s : Sound run device) (d : Device) where
       ∙ finished-same (run .geometry) (run .uuid) x c
       ∙ sym (at-head before _ x h (unfinished-head run device s 0 z d))
 
-  behind-head : (x : ℕ) → headSize run ≤ x → after x ≡ before x
+  behind-head : (x : ℕ) → headBytesOf run ≤ x → after x ≡ before x
   behind-head x h =
       let p = spans run device s in
       let m : read after x 1 ≡ read before x 1 = rw (list-parts run device) (missed-after x 1 (unfinished run device) (closing run) d (closing-miss run x 1 (omega (arith, p .header-head)))) in
@@ -58,7 +58,7 @@ module _ (run : Run) (device : ℕ) (s : Sound run device) (d : Device) where
 
   -- EVERY OTHER BYTE OF THE DEVICE STAYS
   pub rewrite-same : (x : ℕ) → changedByte x ≡ false → after x ≡ before x
-  rewrite-same x c = ⊎-elim (in-head x c) (behind-head x) (lt-or-le x (headSize run))
+  rewrite-same x c = ⊎-elim (in-head x c) (behind-head x) (lt-or-le x (headBytesOf run))
 
 -- of every accepted run, on a device of any old contents
 pub finished-on-disk : (r : Request) → AcceptedRun r → (d : Device) (x : ℕ) → changedByte x ≡ false

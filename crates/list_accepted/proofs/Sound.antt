@@ -21,10 +21,10 @@ use Rattle.geometry_layout.proofs.Inside.{inside, blocks-least}
 use Rattle.geometry_places.specs.Answers.{rootChunk}
 use Rattle.plan_site.specs.Sites.{siteOf}
 use Rattle.plan_site.proofs.Sites.{bounds-sound}
-use Rattle.plan_closed.specs.Closed.{short, listAt}
+use Rattle.plan_closed.specs.Closed.{listShort, listAt}
 use Rattle.plan_totals.specs.Totals.{plansNumber}
 use Rattle.plan_totals.proofs.Whole.{all-planned}
-use Rattle.log.specs.Record.{clearSunit, roundedUp, blocksOf, recordFields, recordBytes}
+use Rattle.log.specs.Record.{clearSunit, roundedUp, basicBlocksOf, recordFields, logRecordBytes}
 use Rattle.sb.specs.declared.SbState.{SbState}
 use Rattle.plan.specs.Plan.{planned}
 use Rattle.plan_same.proofs.Planners.{planned-is-plan}
@@ -36,7 +36,7 @@ use Rattle.sb_states.specs.States.{stateOf, finishedState}
 use Rattle.request.specs.declared.Request.{Request}
 use Rattle.run.specs.Runs.{runOf}
 use Rattle.list_spec.specs.Listing.{headBlocks, headerBlocks, logUnit, firstRecord, logBlock, headWritten, headFinished}
-use Rattle.list_spec.specs.Sound.{Sound}
+use Rattle.list_spec.specs.Sound.{SoundRun}
 use Rattle.list_spec.proofs.Whole.{group-planned}
 use Rattle.list_accepted.specs.Accepted.{AcceptedRun}
 use Rattle.list_accepted.specs.Superblocks.{changedByte}
@@ -52,8 +52,8 @@ unfolding clearSunit logsunitOf when
 unit-at s b true h = rw (ne-eqb b 0 (λ e. omega arith), ne-eqb b 1 (λ e. omega arith)) refl
 unit-at s b false h = refl
 
-unit-blocks : (b m : ℕ) (t : Bool) → 1024 ≤ b → b ≡ m * 512 → 512 * blocksOf (when t b 0) ≤ b
-unfolding blocksOf roundedUp when
+unit-blocks : (b m : ℕ) (t : Bool) → 1024 ≤ b → b ≡ m * 512 → 512 * basicBlocksOf (when t b 0) ≤ b
+unfolding basicBlocksOf roundedUp when
 unit-blocks b m true h e = omega arith
 unit-blocks b m false h e = omega arith
 
@@ -68,10 +68,10 @@ module _ (g : Geometry) (z : Bounds g) (uuid : List ℕ) where
       let e : g .blocklog ≡ g .blocklog - 9 + 9 = omega arith in
       z .sizes .block-power ∙ ap (λ (n : ℕ). 2 ^ n) e ∙ pow-add 2 (g .blocklog - 9) 9
 
-  record-length : length (firstRecord g uuid) ≡ 512 * blocksOf (logUnit g)
-  unfolding firstRecord recordBytes
+  record-length : length (firstRecord g uuid) ≡ 512 * basicBlocksOf (logUnit g)
+  unfolding firstRecord logRecordBytes
   record-length =
-      write-length (recordFields uuid (logUnit g) (2 ^ 32) (2 ^ 32)) (replicate (512 * blocksOf (logUnit g)) 0) ∙ length-replicate {A = ℕ} (512 * blocksOf (logUnit g)) 0
+      write-length (recordFields uuid (logUnit g) (2 ^ 32) (2 ^ 32)) (replicate (512 * basicBlocksOf (logUnit g)) 0) ∙ length-replicate {A = ℕ} (512 * basicBlocksOf (logUnit g)) 0
 
   -- it is at most a block long
   record-most : length (firstRecord g uuid) ≤ g .blocksize
@@ -120,7 +120,7 @@ module _ (g : Geometry) (z : Bounds g) where
 -- the log group has its free list behind the log: the log ends inside it
 module _ (g : Geometry) (z : Bounds g) (l : length (g .label) ≡ 12) (p : plansNumber g ≡ 0) where
   not-short : both (eqb (g .logagno) (g .logagno)) (ltb (groupBlocks (g .dblocks) (g .agsize) (g .agcount) (g .logagno) - choose (eqb (g .logagno) (g .logagno)) (g .«log_agbno» + g .logblocks) (headBlocks g)) (freelistOf (g .features))) ≡ false
-  unfolding short listAt siteOf
+  unfolding listShort listAt siteOf
   not-short = all-planned g l p .1
 
   log-ends : g .«log_agbno» + g .logblocks < groupBlocks (g .dblocks) (g .agsize) (g .agcount) (g .logagno)
@@ -150,7 +150,7 @@ unfolding changedByte
 behind-changed i h = rw (ne-eqb i 126 (λ e. omega arith), le-leb 224 i (omega arith), le-ltb i 228 (omega arith)) refl
 
 -- EVERY ACCEPTED RUN IS SOUND
-pub sound : (r : Request) → AcceptedRun r → Sound (runOf r) (r .device)
+pub sound : (r : Request) → AcceptedRun r → SoundRun (runOf r) (r .device)
 unfolding headWritten headFinished rootChunk chunkLength
 sound r a =
     let g = runOf r .geometry in

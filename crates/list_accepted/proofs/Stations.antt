@@ -27,7 +27,7 @@ use Rattle.request.specs.Parse.{request}
 use Rattle.request.specs.Defaults.{orEpoch, timeOf}
 use Rattle.profile.proofs.Labels.{not-under}
 use Rattle.run.specs.Runs.{stepOf, timeRefusal, runOf}
-use Rattle.stations.specs.Stations.{Case, refused, acceptedPlans, plansBy, plansOf, shown, same, passes, all, stations, exampleRows, example}
+use Rattle.stations.specs.Stations.{StationCase, stationRefused, acceptedPlans, plansBy, plansOf, shownStep, same, passes, allStations, stations, exampleRows, example}
 use Rattle.stations.proofs.StationCases.{hold}
 use Rattle.list_accepted.specs.Accepted.{TypedRequest, AcceptedRun}
 use Rattle.list_accepted.specs.Superblocks.{leftIn, rootField, freeField, rootNamed, freeNamed}
@@ -62,7 +62,7 @@ epoch-stored false = refl
 absent-stored : (big : Bool) (o : OptTime) → o ≡ Absent → timeNumber big (orEpoch o .secs) (orEpoch o .nsecs) ≡ 0
 absent-stored big o e = ap (λ (t : OptTime). timeNumber big (orEpoch t .secs) (orEpoch t .nsecs)) e ∙ epoch-stored big
 
-module _ (c : Case) (root free : ℕ) (rest : List ℕ) (row : c .plans ≡ 0 ∷ root ∷ free ∷ rest) (pass : T (passes c)) (plain : c .options .time ≡ Absent) (typed : TypedRequest (requestOf c)) where
+module _ (c : StationCase) (root free : ℕ) (rest : List ℕ) (row : c .plans ≡ 0 ∷ root ∷ free ∷ rest) (pass : T (passes c)) (plain : c .options .time ≡ Absent) (typed : TypedRequest (requestOf c)) where
   abbrev step : Computed
   step = computeDef (c .options) (c .device) 512 512
 
@@ -70,7 +70,7 @@ module _ (c : Case) (root free : ℕ) (rest : List ℕ) (row : c .plans ≡ 0 �
   unfolding passes plansOf
   planned-row =
       step-row root free rest (step .geometry) (step .number) (eqb (step .number) 0) refl
-      (rw row at (and-right (same (shown step) (c .geometry)) _ pass))
+      (rw row at (and-right (same (shownStep step) (c .geometry)) _ pass))
 
   timely : timeRefusal (step .geometry) (timeOf (c .options)) ≡ 0
   unfolding timeRefusal timeOf
@@ -94,14 +94,14 @@ module _ (c : Case) (root free : ℕ) (rest : List ℕ) (row : c .plans ≡ 0 �
 
 -- ---- K1 and K2
 
-every : (cs : List Case) (n : ℕ) (d : Case) → n < length cs → T (all cs) → T (passes (getD cs n d))
-unfolding all
+every : (cs : List StationCase) (n : ℕ) (d : StationCase) → n < length cs → T (allStations cs) → T (passes (getD cs n d))
+unfolding allStations
 every [] n d h t = absurd (omega arith)
-every (c ∷ cs) zero d h t = and-left (passes c) (all cs) t
-every (c ∷ cs) (suc n) d h t = every cs n d (omega arith) (and-right (passes c) (all cs) t)
+every (c ∷ cs) zero d h t = and-left (passes c) (allStations cs) t
+every (c ∷ cs) (suc n) d h t = every cs n d (omega arith) (and-right (passes c) (allStations cs) t)
 
 passed : (n : ℕ) → n < length stations → T (passes (station n))
-passed n h = every stations n (refused noOptions 0 0) h (and-left (all stations) (same exampleRows example) hold)
+passed n h = every stations n (stationRefused noOptions 0 0) h (and-left (allStations stations) (same exampleRows example) hold)
 
 -- K1: a disk of 1 GiB is accepted, and its superblock has root inode 128 and free count 245,724
 pub k1-accepted : AcceptedRun (requestOf (station 0))

@@ -10,11 +10,11 @@ use borrow.Author.Tests.{eq-eqb, ne-eqb, lt-ltb, le-ltb, le-leb, lt-leb}
 use Rattle.seqs.specs.Lists.{choose}
 use Rattle.list_read.specs.declared.Decoded.{Decoded}
 use Rattle.list_read.specs.declared.Passed.{Passed}
-use Rattle.list_read.specs.Records.{flush, zeros, decodeDef, withinDef}
+use Rattle.list_read.specs.Records.{flush, zerosKind, decodeDef, withinDef}
 use Rattle.list_read.specs.Flushes.{nextDef, endedDef}
 use Rattle.list_apply.specs.declared.Applying.{Applying as State}
 use Rattle.list_apply.specs.declared.Step.{Step}
-use Rattle.list_apply.specs.Applying.{goesOn, ended, cut, malformed, behind, tooFar, held, past, firstDone, state, headNext, headSize, pieceOf, wantedOf, idleStep, stoppedBy, markedStep, endedBy, followingOf, takenUp, waitsDef, heldBack, released, acceptedBy, putPiece, inLimit, fedRecord, fedDecoded, fedHead, fedBytes, fed}
+use Rattle.list_apply.specs.Applying.{goesOn, ended, listCut, listMalformed, recordBehind, tooFar, held, past, firstDone, state, headNext, headBytesWanted, pieceLength, applyingWanted, idleStep, stoppedBy, markedStep, inputEnded, followingOf, takenUp, waitsDef, heldBack, released, acceptedBy, putPiece, inLimit, fedRecord, fedDecoded, applyingFedHead, fedBytes, applyingFed}
 
 pick-first : (b : Bool) (x y : Step) → b ≡ true → x ≡ choose b x y
 pick-first b x y e = rw e refl
@@ -42,7 +42,7 @@ module _ (a : State) where
   unfolding headNext
   next-whole r h e = rw (ne-eqb (a .first) held h) e
 
-  pub held-step : (o at len : ℕ) (r : Step) → o ≡ followingOf (a .ordinal) 0 → r ≡ idleStep (state (a .limit) held goesOn false o (a .flushes) zeros at len) → r ≡ heldBack a at len
+  pub held-step : (o at len : ℕ) (r : Step) → o ≡ followingOf (a .ordinal) 0 → r ≡ idleStep (state (a .limit) held goesOn false o (a .flushes) zerosKind at len) → r ≡ heldBack a at len
   unfolding heldBack
   held-step o at len r e f = rw (← e) f
 
@@ -68,30 +68,30 @@ module _ (a : State) where
 
   -- ---- what is wanted
   module _ (size n : ℕ) where
-    pub wants-none : (a .stop ≡ 0 → ⊥) → 0 ≡ wantedOf a size
-    unfolding wantedOf
+    pub wants-none : (a .stop ≡ 0 → ⊥) → 0 ≡ applyingWanted a size
+    unfolding applyingWanted
     wants-none h = rw (ne-eqb (a .stop) 0 h) refl
 
-    pub wants-head : a .stop ≡ 0 → headNext a ≡ true → n ≡ headSize (a .marked) → n ≡ wantedOf a size
-    unfolding wantedOf
+    pub wants-head : a .stop ≡ 0 → headNext a ≡ true → n ≡ headBytesWanted (a .marked) → n ≡ applyingWanted a size
+    unfolding applyingWanted
     wants-head s l e = rw (eq-eqb (a .stop) 0 s, l) e
 
-    pub wants-zeros : a .stop ≡ 0 → headNext a ≡ false → a .kind ≡ zeros → 0 ≡ wantedOf a size
-    unfolding wantedOf
-    wants-zeros s l k = rw (eq-eqb (a .stop) 0 s, l, eq-eqb (a .kind) zeros k) refl
+    pub wants-zeros : a .stop ≡ 0 → headNext a ≡ false → a .kind ≡ zerosKind → 0 ≡ applyingWanted a size
+    unfolding applyingWanted
+    wants-zeros s l k = rw (eq-eqb (a .stop) 0 s, l, eq-eqb (a .kind) zerosKind k) refl
 
-    pub wants-piece : a .stop ≡ 0 → headNext a ≡ false → (a .kind ≡ zeros → ⊥) → n ≡ pieceOf a size → n ≡ wantedOf a size
-    unfolding wantedOf
-    wants-piece s l k e = rw (eq-eqb (a .stop) 0 s, l, ne-eqb (a .kind) zeros k) e
+    pub wants-piece : a .stop ≡ 0 → headNext a ≡ false → (a .kind ≡ zerosKind → ⊥) → n ≡ pieceLength a size → n ≡ applyingWanted a size
+    unfolding applyingWanted
+    wants-piece s l k e = rw (eq-eqb (a .stop) 0 s, l, ne-eqb (a .kind) zerosKind k) e
 
   -- ---- the end of the input
   module _ (n : ℕ) (r : Step) (e : n ≡ endedDef (a .flushes)) where
-    pub end-whole : n ≡ 0 → r ≡ stoppedBy a ended → r ≡ endedBy a
-    unfolding endedBy
+    pub end-whole : n ≡ 0 → r ≡ stoppedBy a ended → r ≡ inputEnded a
+    unfolding inputEnded
     end-whole z f = rw (← e, eq-eqb n 0 z) f
 
-    pub end-cut : (n ≡ 0 → ⊥) → r ≡ stoppedBy a cut → r ≡ endedBy a
-    unfolding endedBy
+    pub end-cut : (n ≡ 0 → ⊥) → r ≡ stoppedBy a listCut → r ≡ inputEnded a
+    unfolding inputEnded
     end-cut z f = rw (← e, ne-eqb n 0 z) f
 
   -- ---- a record's head, and a piece of what it writes
@@ -110,7 +110,7 @@ module _ (a : State) where
   piece-put n left o at l e f = rw (e, f, l) refl
 
   module _ (kind at len : ℕ) (p : Passed) (r : Step) (e : p ≡ nextDef (a .flushes) kind) where
-    pub record-behind : (p .number ≡ 0 → ⊥) → r ≡ stoppedBy a behind → r ≡ fedRecord a kind at len
+    pub record-behind : (p .number ≡ 0 → ⊥) → r ≡ stoppedBy a recordBehind → r ≡ fedRecord a kind at len
     unfolding fedRecord
     record-behind h f = rw (← e, ne-eqb (p .number) 0 h) f
 
@@ -124,8 +124,8 @@ module _ (a : State) where
       record-far t f = rw (← e, eq-eqb (p .number) 0 z, ← w, t) f
 
   -- ---- a head
-  module _ (xs : List ℕ) (n : ℕ) (d : Decoded) (r : Step) (h : n ≡ headSize (a .marked)) (e : d ≡ decodeDef (ltb (length xs) n) xs) where
-    pub head-malformed : (d .number ≡ 0 → ⊥) → r ≡ stoppedBy a malformed → r ≡ fedDecoded a xs
+  module _ (xs : List ℕ) (n : ℕ) (d : Decoded) (r : Step) (h : n ≡ headBytesWanted (a .marked)) (e : d ≡ decodeDef (ltb (length xs) n) xs) where
+    pub head-malformed : (d .number ≡ 0 → ⊥) → r ≡ stoppedBy a listMalformed → r ≡ fedDecoded a xs
     unfolding fedDecoded
     head-malformed z f = rw (← h, ← e, ne-eqb (d .number) 0 z) f
 
@@ -138,46 +138,46 @@ module _ (a : State) where
     head-whole z k f = rw (← h, ← e, eq-eqb (d .number) 0 z, ne-eqb (d .kind) 0 k) f
 
   module _ (xs : List ℕ) (r : Step) where
-    pub head-rest : a .marked ≡ true → r ≡ fedDecoded a xs → r ≡ fedHead a xs
-    unfolding fedHead
+    pub head-rest : a .marked ≡ true → r ≡ fedDecoded a xs → r ≡ applyingFedHead a xs
+    unfolding applyingFedHead
     head-rest m f = f ∙ pick-first (a .marked) _ _ m
 
-    pub head-ended : a .marked ≡ false → length xs ≡ 0 → r ≡ endedBy a → r ≡ fedHead a xs
-    unfolding fedHead
+    pub head-ended : a .marked ≡ false → length xs ≡ 0 → r ≡ inputEnded a → r ≡ applyingFedHead a xs
+    unfolding applyingFedHead
     head-ended m l f = f ∙ pick-first (eqb (length xs) 0) _ _ (eq-eqb (length xs) 0 l) ∙ pick-second (a .marked) (fedDecoded a xs) _ m
 
-    pub head-first : a .marked ≡ false → (length xs ≡ 0 → ⊥) → r ≡ fedDecoded a xs → r ≡ fedHead a xs
-    unfolding fedHead
-    head-first m l f = f ∙ pick-second (eqb (length xs) 0) (endedBy a) _ (ne-eqb (length xs) 0 l) ∙ pick-second (a .marked) (fedDecoded a xs) _ m
+    pub head-first : a .marked ≡ false → (length xs ≡ 0 → ⊥) → r ≡ fedDecoded a xs → r ≡ applyingFedHead a xs
+    unfolding applyingFedHead
+    head-first m l f = f ∙ pick-second (eqb (length xs) 0) (inputEnded a) _ (ne-eqb (length xs) 0 l) ∙ pick-second (a .marked) (fedDecoded a xs) _ m
 
   -- ---- a piece
   module _ (xs : List ℕ) (size n : ℕ) (r : Step) where
-    pub bytes-cut : n ≡ pieceOf a size → length xs < n → r ≡ stoppedBy a malformed → r ≡ fedBytes a xs size
+    pub bytes-cut : n ≡ pieceLength a size → length xs < n → r ≡ stoppedBy a listMalformed → r ≡ fedBytes a xs size
     unfolding fedBytes
     bytes-cut e h f = rw (← e, lt-ltb (length xs) n h) f
 
-    pub bytes-put : n ≡ pieceOf a size → n ≤ length xs → r ≡ putPiece a n → r ≡ fedBytes a xs size
+    pub bytes-put : n ≡ pieceLength a size → n ≤ length xs → r ≡ putPiece a n → r ≡ fedBytes a xs size
     unfolding fedBytes
     bytes-put e h f = rw (← e, le-ltb (length xs) n h) f
 
-    pub fed-none : (a .stop ≡ 0 → ⊥) → r ≡ idleStep a → r ≡ fed a xs size
-    unfolding fed
+    pub fed-none : (a .stop ≡ 0 → ⊥) → r ≡ idleStep a → r ≡ applyingFed a xs size
+    unfolding applyingFed
     fed-none s f = rw (ne-eqb (a .stop) 0 s) f
 
-    pub fed-head : a .stop ≡ 0 → headNext a ≡ true → r ≡ fedHead a xs → r ≡ fed a xs size
-    unfolding fed
+    pub fed-head : a .stop ≡ 0 → headNext a ≡ true → r ≡ applyingFedHead a xs → r ≡ applyingFed a xs size
+    unfolding applyingFed
     fed-head s l f = rw (eq-eqb (a .stop) 0 s, l) f
 
-    pub fed-zeros : a .stop ≡ 0 → headNext a ≡ false → a .kind ≡ zeros → n ≡ pieceOf a size → r ≡ putPiece a n → r ≡ fed a xs size
-    unfolding fed
-    fed-zeros s l k e f = rw (eq-eqb (a .stop) 0 s, l, eq-eqb (a .kind) zeros k, ← e) f
+    pub fed-zeros : a .stop ≡ 0 → headNext a ≡ false → a .kind ≡ zerosKind → n ≡ pieceLength a size → r ≡ putPiece a n → r ≡ applyingFed a xs size
+    unfolding applyingFed
+    fed-zeros s l k e f = rw (eq-eqb (a .stop) 0 s, l, eq-eqb (a .kind) zerosKind k, ← e) f
 
-    pub fed-bytes : a .stop ≡ 0 → headNext a ≡ false → (a .kind ≡ zeros → ⊥) → r ≡ fedBytes a xs size → r ≡ fed a xs size
-    unfolding fed
-    fed-bytes s l k f = rw (eq-eqb (a .stop) 0 s, l, ne-eqb (a .kind) zeros k) f
+    pub fed-bytes : a .stop ≡ 0 → headNext a ≡ false → (a .kind ≡ zerosKind → ⊥) → r ≡ fedBytes a xs size → r ≡ applyingFed a xs size
+    unfolding applyingFed
+    fed-bytes s l k f = rw (eq-eqb (a .stop) 0 s, l, ne-eqb (a .kind) zerosKind k) f
 
 -- ---- a record that waits
-pub waits-zeros : (first kind : ℕ) (r : Bool) → first ≡ 0 → r ≡ eqb kind zeros → r ≡ waitsDef first kind
+pub waits-zeros : (first kind : ℕ) (r : Bool) → first ≡ 0 → r ≡ eqb kind zerosKind → r ≡ waitsDef first kind
 unfolding waitsDef
 waits-zeros first kind r z e = rw (eq-eqb first 0 z) e
 

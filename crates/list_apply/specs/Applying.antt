@@ -6,7 +6,7 @@ use Prim.Native.Nat.{ℕ, _+_, _-_, _%_, _^_, min}
 use lib.Dec.{leb, ltb, eqb}
 use lib.ListN.{length}
 use Rattle.seqs.specs.Lists.{choose, both}
-use Rattle.list_read.specs.Records.{flush, zeros, decodeDef, withinDef}
+use Rattle.list_read.specs.Records.{flush, zerosKind, decodeDef, withinDef}
 use Rattle.list_read.specs.Flushes.{nextDef, endedDef}
 use Rattle.list_apply.specs.declared.Applying.{Applying as State}
 use Rattle.list_apply.specs.declared.Step.{Step}
@@ -18,21 +18,21 @@ goesOn = 0
 abbrev pub ended : ℕ
 ended = 1
 
-abbrev pub cut : ℕ
-cut = 2
+abbrev pub listCut : ℕ
+listCut = 2
 
-abbrev pub malformed : ℕ
-malformed = 3
+abbrev pub listMalformed : ℕ
+listMalformed = 3
 
-abbrev pub behind : ℕ
-behind = 4
+abbrev pub recordBehind : ℕ
+recordBehind = 4
 
 abbrev pub tooFar : ℕ
 tooFar = 5
 
 -- ---- how it stands with the first record: to come, zeros that wait for the next head, or past
-abbrev pub ahead : ℕ
-ahead = 0
+abbrev pub firstToCome : ℕ
+firstToCome = 0
 
 abbrev pub held : ℕ
 held = 1
@@ -50,33 +50,33 @@ state limit first stop marked ordinal flushes kind at left =
     record { stop = stop; marked = marked; ordinal = ordinal; flushes = flushes; kind = kind; at = at; left = left; limit = limit; first = first }
 
 -- before the first record
-abbrev pub begun : ℕ → State
-begun limit = state limit ahead goesOn false 1 0 0 0 0
+abbrev pub applyingBegun : ℕ → State
+applyingBegun limit = state limit firstToCome goesOn false 1 0 0 0 0
 
 -- ---- what is wanted
 
 -- a mark, or the whole head where the mark is here
-abbrev pub headSize : Bool → ℕ
-headSize true = 18
-headSize false = 2
+abbrev pub headBytesWanted : Bool → ℕ
+headBytesWanted true = 18
+headBytesWanted false = 2
 
 -- the bytes of it that were fed before: the mark
 abbrev pub keptOf : State → ℕ
 keptOf a = choose (a .marked) 2 0
 
 -- what is left of a record, as much as `size` bytes hold
-abbrev pub pieceOf : State → ℕ → ℕ
-pieceOf a size = min (a .left) size
+abbrev pub pieceLength : State → ℕ → ℕ
+pieceLength a size = min (a .left) size
 
 -- a head is next: behind a whole record, and while the first one waits
 unfoldable pub headNext : State → Bool
 headNext a = choose (eqb (a .first) held) true (eqb (a .left) 0)
 
 -- nothing where it stopped; a head behind a whole record; nothing more for zeros; or a piece of a block
-unfoldable pub wantedOf : State → ℕ → ℕ
-wantedOf a size =
+unfoldable pub applyingWanted : State → ℕ → ℕ
+applyingWanted a size =
     choose (eqb (a .stop) goesOn)
-    (choose (headNext a) (headSize (a .marked)) (choose (eqb (a .kind) zeros) 0 (pieceOf a size)))
+    (choose (headNext a) (headBytesWanted (a .marked)) (choose (eqb (a .kind) zerosKind) 0 (pieceLength a size)))
     0
 
 -- ---- what is to be done
@@ -94,8 +94,8 @@ abbrev pub markedStep : State → Step
 markedStep a = idleStep (state (a .limit) (a .first) (a .stop) true (a .ordinal) (a .flushes) (a .kind) (a .at) (a .left))
 
 -- the input ends before a record: the list is cut unless two flushes are past
-unfoldable pub endedBy : State → Step
-endedBy a = choose (eqb (endedDef (a .flushes)) 0) (stoppedBy a ended) (stoppedBy a cut)
+unfoldable pub inputEnded : State → Step
+inputEnded a = choose (eqb (endedDef (a .flushes)) 0) (stoppedBy a ended) (stoppedBy a listCut)
 
 -- the record in hand, where so many bytes of this one are left
 unfoldable pub followingOf : ℕ → ℕ → ℕ
@@ -113,11 +113,11 @@ takenUp a flushes kind at len =
 
 -- zeros wait where they are the first record
 unfoldable pub waitsDef : ℕ → ℕ → Bool
-waitsDef first kind = both (eqb first ahead) (eqb kind zeros)
+waitsDef first kind = both (eqb first firstToCome) (eqb kind zerosKind)
 
 -- nothing is done for them until the next head is in order
 unfoldable pub heldBack : State → ℕ → ℕ → Step
-heldBack a at len = idleStep (state (a .limit) held goesOn false (followingOf (a .ordinal) 0) (a .flushes) zeros at len)
+heldBack a at len = idleStep (state (a .limit) held goesOn false (followingOf (a .ordinal) 0) (a .flushes) zerosKind at len)
 
 -- the next head: all zeros that waited are done, and then a flush, which is that of the next record where it is one
 unfoldable pub released : State → ℕ → ℕ → ℕ → ℕ → Step
@@ -154,27 +154,27 @@ unfoldable pub fedRecord : State → ℕ → ℕ → ℕ → Step
 fedRecord a kind at len =
     choose (eqb (nextDef (a .flushes) kind .number) 0)
     (choose (inLimit (a .limit) at len) (acceptedBy a (nextDef (a .flushes) kind .flushes) kind at len) (stoppedBy a tooFar))
-    (stoppedBy a behind)
+    (stoppedBy a recordBehind)
 
 -- a head, or a mark; the list ends with them where they are fewer bytes than wanted
 unfoldable pub fedDecoded : State → List ℕ → Step
 fedDecoded a xs =
-    let d = decodeDef (ltb (length xs) (headSize (a .marked))) xs in
+    let d = decodeDef (ltb (length xs) (headBytesWanted (a .marked))) xs in
     choose (eqb (d .number) 0)
     (choose (eqb (d .kind) 0) (markedStep a) (fedRecord a (d .kind) (d .at) (d .len)))
-    (stoppedBy a malformed)
+    (stoppedBy a listMalformed)
 
 -- no byte in place of a mark: the input ends
-unfoldable pub fedHead : State → List ℕ → Step
-fedHead a xs = choose (a .marked) (fedDecoded a xs) (choose (eqb (length xs) 0) (endedBy a) (fedDecoded a xs))
+unfoldable pub applyingFedHead : State → List ℕ → Step
+applyingFedHead a xs = choose (a .marked) (fedDecoded a xs) (choose (eqb (length xs) 0) (inputEnded a) (fedDecoded a xs))
 
 -- a piece of a block is applied whole, or the list is cut in it
 unfoldable pub fedBytes : State → List ℕ → ℕ → Step
-fedBytes a xs size = choose (ltb (length xs) (pieceOf a size)) (stoppedBy a malformed) (putPiece a (pieceOf a size))
+fedBytes a xs size = choose (ltb (length xs) (pieceLength a size)) (stoppedBy a listMalformed) (putPiece a (pieceLength a size))
 
 -- the bytes that were wanted, in a buffer of `size`
-unfoldable pub fed : State → List ℕ → ℕ → Step
-fed a xs size =
+unfoldable pub applyingFed : State → List ℕ → ℕ → Step
+applyingFed a xs size =
     choose (eqb (a .stop) goesOn)
-    (choose (headNext a) (fedHead a xs) (choose (eqb (a .kind) zeros) (putPiece a (pieceOf a size)) (fedBytes a xs size)))
+    (choose (headNext a) (applyingFedHead a xs) (choose (eqb (a .kind) zerosKind) (putPiece a (pieceLength a size)) (fedBytes a xs size)))
     (idleStep a)

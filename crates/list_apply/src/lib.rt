@@ -2,7 +2,7 @@
 // what is to be done: a flush, zeros, or the bytes just fed. The first record that can't be applied ends it. Zeros of the first record wait until
 // the next record's head is known to be in order, and then a flush follows them: a list of which one of the two doesn't fit changes nothing.
 ghost use mathlib.Core.Path.{_≡_};
-ghost use Rattle.list_apply.specs.Applying.{begun, headNext, headSize, keptOf, pieceOf, wantedOf, idleStep, stoppedBy, markedStep, endedBy, followingOf, takenUp, waitsDef, heldBack, released, acceptedBy, putPiece, inLimit, fedRecord, fedDecoded, fedHead, fedBytes, fed};
+ghost use Rattle.list_apply.specs.Applying.{applyingBegun, headNext, headBytesWanted, keptOf, pieceLength, applyingWanted, idleStep, stoppedBy, markedStep, inputEnded, followingOf, takenUp, waitsDef, heldBack, released, acceptedBy, putPiece, inLimit, fedRecord, fedDecoded, applyingFedHead, fedBytes, applyingFed};
 use arith::numbers::min_u64;
 use arith::numbers::minus;
 use list_read::FLUSH;
@@ -64,7 +64,7 @@ pub struct Step {
 
 // Before the first record. What is written may reach to the limit: the end of the file or device.
 pub fn begin(limit: u64) -> Applying
-    ensures { λ r. ⌜ r ≡ begun limit ⌝ }
+    ensures { λ r. ⌜ r ≡ applyingBegun limit ⌝ }
 {
     Applying {
         stop: GOES_ON,
@@ -95,7 +95,7 @@ pub fn record_of(a: Applying) -> u64
 
 // The bytes of a head that are read at first, and where its mark is here.
 fn head_size(marked: bool) -> usize
-    ensures { λ r. ⌜ r ≡ headSize marked ⌝ }
+    ensures { λ r. ⌜ r ≡ headBytesWanted marked ⌝ }
 {
     if marked {
         return HEAD_SIZE;
@@ -115,7 +115,7 @@ pub fn kept_of(a: Applying) -> usize
 
 // As much of what is left of a record as a buffer of so many bytes holds.
 fn piece_of(a: Applying, size: usize) -> usize
-    ensures { λ r. ⌜ r ≡ pieceOf a size ⌝ }
+    ensures { λ r. ⌜ r ≡ pieceLength a size ⌝ }
 {
     min_u64(a.left, size as u64) as usize
 }
@@ -132,7 +132,7 @@ fn head_next(a: Applying) -> bool
 
 // How many bytes it wants, in a buffer of so many: a mark, a head, or a piece of a block.
 pub fn wants(a: Applying, size: usize) -> usize
-    ensures { λ r. ⌜ r ≡ wantedOf a size ⌝ }
+    ensures { λ r. ⌜ r ≡ applyingWanted a size ⌝ }
 {
     if a.stop != GOES_ON {
         return 0;
@@ -194,7 +194,7 @@ fn marked_step(a: Applying) -> Step
 
 // The input ends before a record.
 fn ended_by(a: Applying) -> Step
-    ensures { λ r. ⌜ r ≡ endedBy a ⌝ }
+    ensures { λ r. ⌜ r ≡ inputEnded a ⌝ }
 {
     if ended(a.flushes) == 0 {
         return stopped_by(a, ENDED);
@@ -362,7 +362,7 @@ fn feed_decoded(a: Applying, bytes: &[u8]) -> Step
 
 // The same, or the end of the input.
 fn feed_head(a: Applying, bytes: &[u8]) -> Step
-    ensures { λ r. ⌜ r ≡ fedHead a (now (bytes .entry)) ⌝ }
+    ensures { λ r. ⌜ r ≡ applyingFedHead a (now (bytes .entry)) ⌝ }
 {
     if a.marked {
         return feed_decoded(a, bytes);
@@ -387,7 +387,7 @@ fn feed_bytes(a: Applying, bytes: &[u8], size: usize) -> Step
 // Takes the bytes that were wanted, in a buffer of `size`; fewer where the input ended. What is to be done with BYTES is to write the first
 // `len` of them.
 pub fn feed(a: Applying, bytes: &[u8], size: usize) -> Step
-    ensures { λ r. ⌜ r ≡ fed a (now (bytes .entry)) size ⌝ }
+    ensures { λ r. ⌜ r ≡ applyingFed a (now (bytes .entry)) size ⌝ }
 {
     if a.stop != GOES_ON {
         return idle_step(a);

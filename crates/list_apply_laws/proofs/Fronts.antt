@@ -12,14 +12,14 @@ use lib.Seq.{take-nil, take-append-add}
 use borrow.Author.Tests.{ltb-true, ltb-false}
 use Rattle.list_records.specs.Records.{Record, WZ, WB, FL, All, byKind, recordBytes, listBytes}
 use Rattle.list_records.proofs.Sizes.{zeros-bytes, flush-bytes, list-nil, list-cons}
-use Rattle.list_records.specs.Device.{Device, step, applied}
+use Rattle.list_records.specs.Device.{Device, stepRecord, applied}
 use Rattle.list_records.proofs.Applying.{step-miss, applied-append}
-use Rattle.list_read.specs.Records.{zeros, bytes, headOf, fits}
+use Rattle.list_read.specs.Records.{zerosKind, bytes, headSaid, RecordFits}
 use Rattle.list_read.specs.Flushes.{ruled, WholeList}
 use Rattle.list_read.specs.Whole.{allFit}
 use Rattle.list_read.proofs.Ending.{as-many, went-on, whole-list}
 use Rattle.list_apply.specs.declared.Applying.{Applying as State}
-use Rattle.list_apply.specs.Applying.{goesOn, ended, ahead, held, past, begun, state, followingOf, headNext, waitsDef}
+use Rattle.list_apply.specs.Applying.{goesOn, ended, firstToCome, held, past, applyingBegun, state, followingOf, headNext, waitsDef}
 use Rattle.list_apply_laws.specs.Lists.{Point, point, Reach, Within, InOne, FlushedFirst, AppliesFront}
 use Rattle.list_apply.proofs.Steps.{waits-none}
 use Rattle.list_apply_laws.proofs.Ended.{two-past}
@@ -92,19 +92,19 @@ front-join size limit flushes i j s w ws e b t =
       stops = t .stops;
       same = λ d x.
           rw (applied-append (b .pieces) (t .pieces) d)
-          (t .same (applied (b .pieces) d) x ∙ applied-same (take (t .records) ws) (applied (b .pieces) d) (step w d) (b .same d) x);
+          (t .same (applied (b .pieces) d) x ∙ applied-same (take (t .records) ws) (applied (b .pieces) d) (stepRecord w d) (b .same d) x);
       here = omega arith;
       no-fewer = one-more w ws i j (t .records) e (t .no-fewer);
     }
 
 module _ (size limit : ℕ) (some : 0 < size) where
-  front-step : (first o flushes kind off : ℕ) → eqb first held ≡ false → flushes < 2 → (w : Record) (ws : List Record) (i : ℕ) → fits w → Within limit w → InOne size w
-      → waitsDef first (headOf w .kind) ≡ false → ((j o' kind' off' : ℕ) → Front size (state limit past goesOn false o' (flushes + byKind 0 0 1 w) kind' off' 0) ws j)
+  front-step : (first o flushes kind off : ℕ) → eqb first held ≡ false → flushes < 2 → (w : Record) (ws : List Record) (i : ℕ) → RecordFits w → Within limit w → InOne size w
+      → waitsDef first (headSaid w .kind) ≡ false → ((j o' kind' off' : ℕ) → Front size (state limit past goesOn false o' (flushes + byKind 0 0 1 w) kind' off' 0) ws j)
       → (b : Bool) → ltb i (length (recordBytes w)) ≡ b → Front size (state limit first goesOn false o flushes kind off 0) (w ∷ ws) i
   front-step first o flushes kind off free before w ws i f n q v behind true e =
       let h = ltb-true i (length (recordBytes w)) e in
       front-none size (state limit first goesOn false o flushes kind off 0) w ws i h
-      (halt-record size limit first o flushes kind off free before (listBytes ws) w i f n q v h (ltb i (headOf w .size)) refl)
+      (halt-record size limit first o flushes kind off free before (listBytes ws) w i f n q v h (ltb i (headSaid w .size)) refl)
   front-step first o flushes kind off free before w ws i f n q v behind false e =
       let h = ltb-false i (length (recordBytes w)) e in
       let j = i - length (recordBytes w) in
@@ -139,15 +139,15 @@ module _ (size limit : ℕ) (some : 0 < size) where
       rw e (front-end i o kind off)
   front-from (w ∷ ws) i o flushes kind off z f n q =
       let on = went-on flushes w ws (leb 2 flushes) refl z in
-      front-step past o flushes kind off refl (on .0) w ws i (f .0) (n .0) (q .0) (sym (waits-none past (headOf w .kind) (λ e. omega arith)))
+      front-step past o flushes kind off refl (on .0) w ws i (f .0) (n .0) (q .0) (sym (waits-none past (headSaid w .kind) (λ e. omega arith)))
       (λ j o' kind' off'. front-from ws j o' (flushes + byKind 0 0 1 w) kind' off' (on .1) (f .1) (n .1) (q .1)) (ltb i (length (recordBytes w))) refl
 
   -- a first record that needn't wait
-  at-once : (w : Record) (ws : List Record) (i : ℕ) → waitsDef ahead (headOf w .kind) ≡ false → ruled 0 (w ∷ ws) ≡ 0 → allFit (w ∷ ws) → All (Within limit) (w ∷ ws)
-      → All (InOne size) (w ∷ ws) → Front size (begun limit) (w ∷ ws) i
+  at-once : (w : Record) (ws : List Record) (i : ℕ) → waitsDef firstToCome (headSaid w .kind) ≡ false → ruled 0 (w ∷ ws) ≡ 0 → allFit (w ∷ ws) → All (Within limit) (w ∷ ws)
+      → All (InOne size) (w ∷ ws) → Front size (applyingBegun limit) (w ∷ ws) i
   at-once w ws i v z f n q =
       let on = went-on 0 w ws false refl z in
-      front-step ahead 1 0 0 0 refl (on .0) w ws i (f .0) (n .0) (q .0) v
+      front-step firstToCome 1 0 0 0 refl (on .0) w ws i (f .0) (n .0) (q .0) v
       (λ j o' kind' off'. front-from ws j o' (0 + byKind 0 0 1 w) kind' off' (on .1) (f .1) (n .1) (q .1)) (ltb i (length (recordBytes w))) refl
 
 -- ---- zeros at the list's start, which wait for the next head
@@ -158,9 +158,9 @@ two-bytes z w ws zero h = absurd (omega arith)
 two-bytes z w ws (suc zero) h = absurd (omega arith)
 two-bytes z w ws (suc (suc m)) h = let c = list-cons z (w ∷ take m ws) in let d = list-cons w (take m ws) in omega arith
 
-module _ (size limit a n : ℕ) (w : Record) (ws : List Record) (f : fits (WZ a n)) (k : Within limit (WZ a n)) where
+module _ (size limit a n : ℕ) (w : Record) (ws : List Record) (f : RecordFits (WZ a n)) (k : Within limit (WZ a n)) where
   -- nothing was done
-  nothing-yet : (i : ℕ) → i < 18 + length (recordBytes w) → Halt size (begun limit) (take i (recordBytes (WZ a n) ++ (recordBytes w ++ listBytes ws))) → AppliesFront size limit (WZ a n ∷ w ∷ ws) i
+  nothing-yet : (i : ℕ) → i < 18 + length (recordBytes w) → Halt size (applyingBegun limit) (take i (recordBytes (WZ a n) ++ (recordBytes w ++ listBytes ws))) → AppliesFront size limit (WZ a n ∷ w ∷ ws) i
   unfolding listBytes
   nothing-yet i h t =
       record {
@@ -181,31 +181,31 @@ module _ (size limit a n : ℕ) (w : Record) (ws : List Record) (f : fits (WZ a 
   in-zeros : (i : ℕ) → i < 18 → AppliesFront size limit (WZ a n ∷ w ∷ ws) i
   in-zeros i h =
       nothing-yet i (omega arith)
-      (halt-head size limit ahead 1 0 0 0 0 (omega arith) (next-free size limit ahead 1 0 0 0 refl (omega arith) []) (mark-turn size limit ahead 1 0 0 0 refl (omega arith)) (WZ a n) i
+      (halt-head size limit firstToCome 1 0 0 0 0 (omega arith) (next-free size limit firstToCome 1 0 0 0 refl (omega arith) []) (mark-turn size limit firstToCome 1 0 0 0 refl (omega arith)) (WZ a n) i
       (recordBytes w ++ listBytes ws) h)
 
-  next-held : headNext (state limit held goesOn false o 0 zeros a n) ≡ true
+  next-held : headNext (state limit held goesOn false o 0 zerosKind a n) ≡ true
   unfolding headNext
   next-held = refl
 
-  in-head : (i j : ℕ) → i ≡ 18 + j → j < headOf w .size → AppliesFront size limit (WZ a n ∷ w ∷ ws) i
+  in-head : (i j : ℕ) → i ≡ 18 + j → j < headSaid w .size → AppliesFront size limit (WZ a n ∷ w ∷ ws) i
   in-head i j e h =
       let ys = recordBytes w ++ listBytes ws in
       let z = zeros-bytes a n in
       let l = head-in w in
-      let t = halt-head size limit held o 0 zeros a n (omega arith) next-held (held-mark size limit o a n) w j (listBytes ws) h in
+      let t = halt-head size limit held o 0 zerosKind a n (omega arith) next-held (held-mark size limit o a n) w j (listBytes ws) h in
       nothing-yet i (omega arith)
       (record {
         end = t .end;
         rest = t .rest;
         go = λ done.
-            subst (λ (xs : List ℕ). Reach size (point (begun limit) xs done) (point (t .end) (t .rest) done)) (sym (cut-behind (WZ a n) ys i j (omega arith)))
+            subst (λ (xs : List ℕ). Reach size (point (applyingBegun limit) xs done) (point (t .end) (t .rest) done)) (sym (cut-behind (WZ a n) ys i j (omega arith)))
             (waited size limit a n f k (take j ys) done (point (t .end) (t .rest) done) (t .go done));
         stops = t .stops;
       })
 
 -- they end in the next one's bytes: the zeros are done, and flushed
-module _ (size limit a n b : ℕ) (bs : List ℕ) (ws : List Record) (f : fits (WZ a n)) (k : Within limit (WZ a n)) (g : fits (WB b bs)) (l : Within limit (WB b bs)) (q : length bs ≤ size) where
+module _ (size limit a n b : ℕ) (bs : List ℕ) (ws : List Record) (f : RecordFits (WZ a n)) (k : Within limit (WZ a n)) (g : RecordFits (WB b bs)) (l : Within limit (WB b bs)) (q : length bs ≤ size) where
   abbrev zf : List Record
   zf = WZ a n ∷ FL ∷ []
 
@@ -213,15 +213,15 @@ module _ (size limit a n b : ℕ) (bs : List ℕ) (ws : List Record) (f : fits (
   body = state limit past goesOn false (followingOf (followingOf 1 0) (length bs)) 0 bytes b (length bs)
 
   body-reached : (j : ℕ) → 18 ≤ j → (last : Point) → Reach size (point body (drop 18 (take j (recordBytes (WB b bs) ++ listBytes ws))) zf) last
-      → Reach size (point (state limit held goesOn false (followingOf 1 0) 0 zeros a n) (take j (recordBytes (WB b bs) ++ listBytes ws)) []) last
+      → Reach size (point (state limit held goesOn false (followingOf 1 0) 0 zerosKind a n) (take j (recordBytes (WB b bs) ++ listBytes ws)) []) last
   unfolding recordBytes
   body-reached zero h last r = absurd (omega arith)
   body-reached (suc zero) h last r = absurd (omega arith)
   body-reached (suc (suc j)) h last r =
       let i = suc (suc j) in
       let xs = take i (recordBytes (WB b bs) ++ listBytes ws) in
-      let s = state limit held goesOn false (followingOf 1 0) 0 zeros a n in
-      let m = state limit held goesOn true (followingOf 1 0) 0 zeros a n in
+      let s = state limit held goesOn false (followingOf 1 0) 0 zerosKind a n in
+      let m = state limit held goesOn true (followingOf 1 0) 0 zerosKind a n in
       reach-step size (point s xs []) (point m xs []) last (held-mark size limit (followingOf 1 0) a n 0x42 _ [] bytes-marked)
       (reach-step size (point m xs []) (point body (drop 18 xs) zf) last
       (held-head size limit (followingOf 1 0) a n xs bytes b (length bs) [] (part-head b i bs (listBytes ws) g h) (part-18 b i bs (listBytes ws) g h) refl
@@ -240,11 +240,11 @@ module _ (size limit a n b : ℕ) (bs : List ℕ) (ws : List Record) (f : fits (
       record {
         last = last;
         reached =
-            subst (λ (xs : List ℕ). Reach size (point (begun limit) xs []) last) (sym (cut-behind (WZ a n) ys i j (omega arith)))
+            subst (λ (xs : List ℕ). Reach size (point (applyingBegun limit) xs []) last) (sym (cut-behind (WZ a n) ys i j (omega arith)))
             (waited size limit a n f k (take j ys) [] last (body-reached j h last (t .go zf)));
         stops = t .stops;
         records = 1;
-        left = λ d. fun-ext (λ x. step-miss FL (step (WZ a n) d) x (λ p r. omega arith));
+        left = λ d. fun-ext (λ x. step-miss FL (stepRecord (WZ a n) d) x (λ p r. omega arith));
         here = omega arith;
         no-fewer = λ x two y u. let d = two-bytes (WZ a n) w ws x two in absurd (omega arith);
         flushed = inr ([], refl);
@@ -280,7 +280,7 @@ module _ (size limit : ℕ) (some : 0 < size) (a n : ℕ) (w : Record) (ws : Lis
       record {
         last = last;
         reached =
-            subst (λ (vs : List ℕ). Reach size (point (begun limit) vs []) last)
+            subst (λ (vs : List ℕ). Reach size (point (applyingBegun limit) vs []) last)
             (sym (cut-behind (WZ a n) ys i (length (recordBytes w) + j) (omega arith) ∙ ap (λ (vs : List ℕ). recordBytes (WZ a n) ++ vs) (cut-behind w (listBytes ws) (length (recordBytes w) + j) j refl)))
             (waited size limit a n (f .0) (k .0) (recordBytes w ++ xs) [] last
             (u .go [] last (b .go zs last
@@ -294,20 +294,20 @@ module _ (size limit : ℕ) (some : 0 < size) (a n : ℕ) (w : Record) (ws : Lis
       }
     where
       -- the flush behind the zeros changes nothing
-      left-by : (d : Device) (ps rs vs : List Record) → ((c : Device) (p : ℕ) → applied ps c p ≡ step w c p) → ((c : Device) (p : ℕ) → applied rs c p ≡ applied vs c p)
+      left-by : (d : Device) (ps rs vs : List Record) → ((c : Device) (p : ℕ) → applied ps c p ≡ stepRecord w c p) → ((c : Device) (p : ℕ) → applied rs c p ≡ applied vs c p)
           → (p : ℕ) → applied (WZ a n ∷ FL ∷ (ps ++ rs)) d p ≡ applied (WZ a n ∷ w ∷ vs) d p
       left-by d ps rs vs one rest p =
-          let c = step (WZ a n) d in
-          let e = step FL c in
+          let c = stepRecord (WZ a n) d in
+          let e = stepRecord FL c in
           rw (applied-append ps rs e)
-          (rest (applied ps e) p ∙ applied-same vs (applied ps e) (step w e) (one e) p ∙ applied-same (w ∷ vs) e c (λ y. step-miss FL c y (λ m o. omega arith)) p)
+          (rest (applied ps e) p ∙ applied-same vs (applied ps e) (stepRecord w e) (one e) p ∙ applied-same (w ∷ vs) e c (λ y. step-miss FL c y (λ m o. omega arith)) p)
 
-  in-second : (i j : ℕ) → i ≡ 18 + j → (c b : Bool) → ltb j (length (recordBytes w)) ≡ c → ltb j (headOf w .size) ≡ b → AppliesFront size limit (WZ a n ∷ w ∷ ws) i
+  in-second : (i j : ℕ) → i ≡ 18 + j → (c b : Bool) → ltb j (length (recordBytes w)) ≡ c → ltb j (headSaid w .size) ≡ b → AppliesFront size limit (WZ a n ∷ w ∷ ws) i
   in-second i j e false b p r = let h = ltb-false j (length (recordBytes w)) p in behind-both i (j - length (recordBytes w)) (omega arith)
-  in-second i j e true true p r = in-head size limit a n w ws (f .0) (k .0) i j e (ltb-true j (headOf w .size) r)
-  in-second i j e true false p r = in-bytes w ws (f .1 .0) (k .1 .0) (q .1 .0) (ltb-true j (length (recordBytes w)) p) (ltb-false j (headOf w .size) r)
+  in-second i j e true true p r = in-head size limit a n w ws (f .0) (k .0) i j e (ltb-true j (headSaid w .size) r)
+  in-second i j e true false p r = in-bytes w ws (f .1 .0) (k .1 .0) (q .1 .0) (ltb-true j (length (recordBytes w)) p) (ltb-false j (headSaid w .size) r)
     where
-      in-bytes : (v : Record) (vs : List Record) → fits v → Within limit v → InOne size v → j < length (recordBytes v) → headOf v .size ≤ j → AppliesFront size limit (WZ a n ∷ v ∷ vs) i
+      in-bytes : (v : Record) (vs : List Record) → RecordFits v → Within limit v → InOne size v → j < length (recordBytes v) → headSaid v .size ≤ j → AppliesFront size limit (WZ a n ∷ v ∷ vs) i
       in-bytes FL vs g l m h s = let y = flush-bytes in absurd (omega arith)
       in-bytes (WZ b x) vs g l m h s = let y = zeros-bytes b x in absurd (omega arith)
       in-bytes (WB b bs) vs g l m h s = in-body size limit a n b bs vs (f .0) (k .0) g l m i j e s h
@@ -317,11 +317,11 @@ module _ (size limit : ℕ) (some : 0 < size) (a n : ℕ) (w : Record) (ws : Lis
   held-front i false e =
       let h = ltb-false i 18 e in
       let j = i - 18 in
-      in-second i j (omega arith) (ltb j (length (recordBytes w))) (ltb j (headOf w .size)) refl refl
+      in-second i j (omega arith) (ltb j (length (recordBytes w))) (ltb j (headSaid w .size)) refl refl
 
 -- ---- any whole list
 
-fronted : (size limit : ℕ) (ws : List Record) (i : ℕ) → ((done : List Record) → FlushedFirst ws done) → Front size (begun limit) ws i → AppliesFront size limit ws i
+fronted : (size limit : ℕ) (ws : List Record) (i : ℕ) → ((done : List Record) → FlushedFirst ws done) → Front size (applyingBegun limit) ws i → AppliesFront size limit ws i
 fronted size limit ws i any t =
     record {
       last = point (t .end) (t .rest) (t .pieces);

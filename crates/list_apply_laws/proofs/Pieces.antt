@@ -12,44 +12,44 @@ use lib.Seq.{length-take-le, take-append-le, drop-append-le, take-take, getD-tak
 use borrow.Author.Tests.{eqb-true, eqb-false, leb-true, leb-false, ltb-true, ltb-false, ne-eqb, le-ltb}
 use Rattle.seqs.specs.Lists.{turns}
 use Rattle.list_records.specs.Records.{Record, WZ, WB, FL}
-use Rattle.list_records.specs.Device.{Device, at, len, byte, step, applied}
+use Rattle.list_records.specs.Device.{Device, at, len, byte, stepRecord, applied}
 use Rattle.list_records.proofs.Applying.{step-hit, step-miss}
-use Rattle.list_read.specs.Records.{zeros, bytes}
+use Rattle.list_read.specs.Records.{zerosKind, bytes}
 use Rattle.list_apply.specs.declared.Applying.{Applying as State}
-use Rattle.list_apply.specs.Applying.{goesOn, past, state, followingOf, headNext, wantedOf, putPiece, fedBytes, fed}
+use Rattle.list_apply.specs.Applying.{goesOn, past, state, followingOf, headNext, applyingWanted, putPiece, fedBytes, applyingFed}
 use Rattle.list_apply_laws.specs.Lists.{Point, point, asked, turnOn, Reach}
 
 -- ---- two records that lie one behind the other, and one that does the same
 module _ (r p q : Record) (d : Device) (first : at p ≡ at r) (second : at q ≡ at r + len p) (both : len p + len q ≡ len r)
     (f : (i : ℕ) → i < len p → byte p i ≡ byte r i) (g : (i : ℕ) → i < len q → byte q i ≡ byte r (len p + i)) where
-  split-by : (x : ℕ) (a b c : Bool) → leb (at r) x ≡ a → ltb x (at q) ≡ b → ltb x (at r + len r) ≡ c → step q (step p d) x ≡ step r d x
+  split-by : (x : ℕ) (a b c : Bool) → leb (at r) x ≡ a → ltb x (at q) ≡ b → ltb x (at r + len r) ≡ c → stepRecord q (stepRecord p d) x ≡ stepRecord r d x
   split-by x false b c e i k =
       let h = leb-false (at r) x e in
-      step-miss q (step p d) x (λ m n. omega arith) ∙ step-miss p d x (λ m n. omega arith) ∙ sym (step-miss r d x (λ m n. omega arith))
+      step-miss q (stepRecord p d) x (λ m n. omega arith) ∙ step-miss p d x (λ m n. omega arith) ∙ sym (step-miss r d x (λ m n. omega arith))
   split-by x true true c e i k =
       let h = leb-true (at r) x e in
       let j = ltb-true x (at q) i in
       let o : x - at p ≡ x - at r = omega arith in
-      step-miss q (step p d) x (λ m n. omega arith) ∙ step-hit p d x (omega arith) (omega arith) ∙ f (x - at p) (omega arith) ∙ ap (byte r) o
+      step-miss q (stepRecord p d) x (λ m n. omega arith) ∙ step-hit p d x (omega arith) (omega arith) ∙ f (x - at p) (omega arith) ∙ ap (byte r) o
       ∙ sym (step-hit r d x h (omega arith))
   split-by x true false true e i k =
       let h = leb-true (at r) x e in
       let j = ltb-false x (at q) i in
       let l = ltb-true x (at r + len r) k in
       let o : len p + (x - at q) ≡ x - at r = omega arith in
-      step-hit q (step p d) x j (omega arith) ∙ g (x - at q) (omega arith) ∙ ap (byte r) o ∙ sym (step-hit r d x h l)
+      step-hit q (stepRecord p d) x j (omega arith) ∙ g (x - at q) (omega arith) ∙ ap (byte r) o ∙ sym (step-hit r d x h l)
   split-by x true false false e i k =
       let j = ltb-false x (at q) i in
       let l = ltb-false x (at r + len r) k in
-      step-miss q (step p d) x (λ m n. omega arith) ∙ step-miss p d x (λ m n. omega arith) ∙ sym (step-miss r d x (λ m n. omega arith))
+      step-miss q (stepRecord p d) x (λ m n. omega arith) ∙ step-miss p d x (λ m n. omega arith) ∙ sym (step-miss r d x (λ m n. omega arith))
 
-  split : (x : ℕ) → step q (step p d) x ≡ step r d x
+  split : (x : ℕ) → stepRecord q (stepRecord p d) x ≡ stepRecord r d x
   split x = split-by x (leb (at r) x) (ltb x (at q)) (ltb x (at r + len r)) refl refl refl
 
-split-zeros : (off m n : ℕ) (d : Device) (x : ℕ) → m ≤ n → step (WZ (off + m) (n - m)) (step (WZ off m) d) x ≡ step (WZ off n) d x
+split-zeros : (off m n : ℕ) (d : Device) (x : ℕ) → m ≤ n → stepRecord (WZ (off + m) (n - m)) (stepRecord (WZ off m) d) x ≡ stepRecord (WZ off n) d x
 split-zeros off m n d x h = split (WZ off n) (WZ off m) (WZ (off + m) (n - m)) d refl refl (omega arith) (λ i l. refl) (λ i l. refl) x
 
-split-bytes : (off m : ℕ) (bs : List ℕ) (d : Device) (x : ℕ) → m ≤ length bs → step (WB (off + m) (drop m bs)) (step (WB off (take m bs)) d) x ≡ step (WB off bs) d x
+split-bytes : (off m : ℕ) (bs : List ℕ) (d : Device) (x : ℕ) → m ≤ length bs → stepRecord (WB (off + m) (drop m bs)) (stepRecord (WB off (take m bs)) d) x ≡ stepRecord (WB off bs) d x
 split-bytes off m bs d x h =
     let t = length-take-le m bs h in
     let l = length-drop m bs in
@@ -67,16 +67,16 @@ reach-none size p = (0, refl)
 
 -- a piece of zeros
 module _ (size limit o flushes off left n : ℕ) (rest : List ℕ) (done : List Record) (some : left ≡ 0 → ⊥) (is : min left size ≡ n) where
-  zeros-turn : turnOn size (point (state limit past goesOn false o flushes zeros off left) rest done)
-      ≡ point (state limit past goesOn false (followingOf o (left - n)) flushes zeros ((off + n) % 2 ^ 64) (left - n)) rest (done ++ (WZ off n ∷ []))
-  unfolding turnOn wantedOf headNext fed putPiece asked
+  zeros-turn : turnOn size (point (state limit past goesOn false o flushes zerosKind off left) rest done)
+      ≡ point (state limit past goesOn false (followingOf o (left - n)) flushes zerosKind ((off + n) % 2 ^ 64) (left - n)) rest (done ++ (WZ off n ∷ []))
+  unfolding turnOn applyingWanted headNext applyingFed putPiece asked
   zeros-turn = rw (ne-eqb left 0 some, is) refl
 
 -- a piece of a block's bytes
 module _ (size limit o flushes off n : ℕ) (bs rest : List ℕ) (done : List Record) (some : length bs ≡ 0 → ⊥) (is : min (length bs) size ≡ n) (fit : n ≤ length bs) where
   bytes-turn : turnOn size (point (state limit past goesOn false o flushes bytes off (length bs)) (bs ++ rest) done)
       ≡ point (state limit past goesOn false (followingOf o (length bs - n)) flushes bytes ((off + n) % 2 ^ 64) (length bs - n)) (drop n bs ++ rest) (done ++ (WB off (take n bs) ∷ []))
-  unfolding turnOn wantedOf headNext fed fedBytes putPiece asked
+  unfolding turnOn applyingWanted headNext applyingFed fedBytes putPiece asked
   bytes-turn =
       let t = length-take-le n bs fit in
       rw (
@@ -100,7 +100,7 @@ pub record Body (size limit flushes : ℕ) (s : State) (before behind : List ℕ
   pub off : ℕ
   pub pieces : List Record
   pub go : (done : List Record) (r : Point) → Reach size (point (state limit past goesOn false o flushes kind off 0) behind (done ++ pieces)) r → Reach size (point s before done) r
-  pub same : (d : Device) (x : ℕ) → applied pieces d x ≡ step w d x
+  pub same : (d : Device) (x : ℕ) → applied pieces d x ≡ stepRecord w d x
 
 -- nothing is left of it
 pub no-piece : (size limit o flushes kind off : ℕ) (rest : List ℕ) (w : Record) → len w ≡ 0 → Body size limit flushes (state limit past goesOn false o flushes kind off 0) rest rest w
@@ -131,7 +131,7 @@ no-piece-yet size limit flushes s t before between behind w turn b =
 -- one piece, and the rest
 module _ (size limit flushes : ℕ) (s t : State) (before between behind : List ℕ) (p q w : Record)
     (turn : (done : List Record) → turnOn size (point s before done) ≡ point t between (done ++ (p ∷ [])))
-    (joined : (d : Device) (x : ℕ) → step q (step p d) x ≡ step w d x) where
+    (joined : (d : Device) (x : ℕ) → stepRecord q (stepRecord p d) x ≡ stepRecord w d x) where
   pub more-pieces : Body size limit flushes t between behind q → Body size limit flushes s before behind w
   unfolding applied
   more-pieces b =
@@ -143,31 +143,31 @@ module _ (size limit flushes : ℕ) (s t : State) (before between behind : List 
         go = λ done r h.
             reach-step size (point s before done) (point t between (done ++ (p ∷ []))) r (turn done)
             (b .go (done ++ (p ∷ [])) r (rw (append-assoc done (p ∷ []) (b .pieces)) h));
-        same = λ d x. b .same (step p d) x ∙ joined d x;
+        same = λ d x. b .same (stepRecord p d) x ∙ joined d x;
       }
 
 module _ (size limit : ℕ) (some : 0 < size) where
   zeros-by : (k o flushes off left : ℕ) (rest : List ℕ) (b : Bool) → eqb left 0 ≡ b → left ≤ suc k → off + left < 2 ^ 64
-      → ((o off left : ℕ) → left ≤ k → off + left < 2 ^ 64 → Body size limit flushes (state limit past goesOn false o flushes zeros off left) rest rest (WZ off left))
-      → Body size limit flushes (state limit past goesOn false o flushes zeros off left) rest rest (WZ off left)
+      → ((o off left : ℕ) → left ≤ k → off + left < 2 ^ 64 → Body size limit flushes (state limit past goesOn false o flushes zerosKind off left) rest rest (WZ off left))
+      → Body size limit flushes (state limit past goesOn false o flushes zerosKind off left) rest rest (WZ off left)
   zeros-by k o flushes off left rest true e h m behind =
       let z = eqb-true left 0 e in
-      rw z (no-piece size limit o flushes zeros off rest (WZ off 0) refl)
+      rw z (no-piece size limit o flushes zerosKind off rest (WZ off 0) refl)
   zeros-by k o flushes off left rest false e h m behind =
       let z = eqb-false left 0 e in
       let n = min left size in
       let a : n ≤ left = omega arith in
       let b : 0 < n = least-some left size z some in
       let j : (off + n) % 2 ^ 64 ≡ off + n = mod-eq-of-lt (omega arith) in
-      more-pieces size limit flushes (state limit past goesOn false o flushes zeros off left) (state limit past goesOn false (followingOf o (left - n)) flushes zeros (off + n) (left - n)) rest rest rest
+      more-pieces size limit flushes (state limit past goesOn false o flushes zerosKind off left) (state limit past goesOn false (followingOf o (left - n)) flushes zerosKind (off + n) (left - n)) rest rest rest
       (WZ off n) (WZ (off + n) (left - n)) (WZ off left)
-      (λ done. zeros-turn size limit o flushes off left n rest done z refl ∙ ap (λ (i : ℕ). point (state limit past goesOn false (followingOf o (left - n)) flushes zeros i (left - n)) rest (done ++ (WZ off n ∷ []))) j)
+      (λ done. zeros-turn size limit o flushes off left n rest done z refl ∙ ap (λ (i : ℕ). point (state limit past goesOn false (followingOf o (left - n)) flushes zerosKind i (left - n)) rest (done ++ (WZ off n ∷ []))) j)
       (λ d x. split-zeros off n left d x a)
       (behind (followingOf o (left - n)) (off + n) (left - n) (omega arith) (omega arith))
 
   pub zeros-body : (k o flushes off left : ℕ) (rest : List ℕ) → left ≤ k → off + left < 2 ^ 64
-      → Body size limit flushes (state limit past goesOn false o flushes zeros off left) rest rest (WZ off left)
-  zeros-body zero o flushes off left rest h m = let z : left ≡ 0 = omega arith in rw z (no-piece size limit o flushes zeros off rest (WZ off 0) refl)
+      → Body size limit flushes (state limit past goesOn false o flushes zerosKind off left) rest rest (WZ off left)
+  zeros-body zero o flushes off left rest h m = let z : left ≡ 0 = omega arith in rw z (no-piece size limit o flushes zerosKind off rest (WZ off 0) refl)
   zeros-body (suc k) o flushes off left rest h m = zeros-by k o flushes off left rest (eqb left 0) refl h m (λ o' off' left' h' m'. zeros-body k o' flushes off' left' rest h' m')
 
   bytes-by : (k o flushes off : ℕ) (bs rest : List ℕ) → length bs ≤ suc k → off + length bs < 2 ^ 64

@@ -5,7 +5,7 @@ use mathlib.Core.List.{List, [], _∷_, _++_}
 use Prim.Native.Nat.{ℕ}
 use Rattle.seqs.specs.Lists.{fold}
 use Rattle.list_apply.specs.declared.Applying.{Applying as State}
-use Rattle.list_apply.specs.Applying.{fed}
+use Rattle.list_apply.specs.Applying.{applyingFed}
 use Rattle.list_apply_laws.specs.Turns.{fedAll, Fed}
 
 -- no piece, and one
@@ -13,7 +13,7 @@ pub none-fed : (size : ℕ) (a b : State) → b ≡ a → Fed size a b
 unfolding fold
 none-fed size a b e = record { pieces = []; reached = e }
 
-pub one-fed : (size : ℕ) (a b : State) (xs : List ℕ) → b ≡ fed a xs size .applying → Fed size a b
+pub one-fed : (size : ℕ) (a b : State) (xs : List ℕ) → b ≡ applyingFed a xs size .applying → Fed size a b
 unfolding fold
 one-fed size a b xs e = record { pieces = xs ∷ []; reached = e }
 
@@ -21,7 +21,7 @@ one-fed size a b xs e = record { pieces = xs ∷ []; reached = e }
 fold-append : (size : ℕ) (a : State) (xs ys : List (List ℕ)) → fedAll size a (xs ++ ys) ≡ fedAll size (fedAll size a xs) ys
 unfolding fold
 fold-append size a [] ys = refl
-fold-append size a (x ∷ xs) ys = fold-append size (fed a x size .applying) xs ys
+fold-append size a (x ∷ xs) ys = fold-append size (applyingFed a x size .applying) xs ys
 
 pub more-fed : (size : ℕ) (a b c : State) → Fed size a b → Fed size b c → Fed size a c
 more-fed size a b c f g =

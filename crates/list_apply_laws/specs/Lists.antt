@@ -10,10 +10,10 @@ use lib.ListN.{length, take, drop}
 use Rattle.seqs.specs.Lists.{choose, turns}
 use Rattle.list_records.specs.Records.{Record, WZ, WB, FL, listBytes, carried}
 use Rattle.list_records.specs.Device.{Device, applied}
-use Rattle.list_read.specs.Records.{flush, zeros, bytes, headOf}
+use Rattle.list_read.specs.Records.{flush, zerosKind, bytes, headSaid}
 use Rattle.list_apply.specs.declared.Applying.{Applying as State}
 use Rattle.list_apply.specs.declared.Step.{Step}
-use Rattle.list_apply.specs.Applying.{goesOn, ended, tooFar, firstDone, begun, inLimit, wantedOf, fed}
+use Rattle.list_apply.specs.Applying.{goesOn, ended, tooFar, firstDone, applyingBegun, inLimit, applyingWanted, applyingFed}
 
 -- the state, the bytes that are still to come, and what was done so far
 pub record Point : Type 0 where
@@ -29,14 +29,14 @@ unfoldable pub asked : Step → List ℕ → List Record
 asked s xs =
     choose (eqb (s .action) firstDone) (WZ (s .at) (s .len) ∷ FL ∷ [])
     (choose (eqb (s .action) flush) (FL ∷ [])
-    (choose (eqb (s .action) zeros) (WZ (s .at) (s .len) ∷ [])
+    (choose (eqb (s .action) zerosKind) (WZ (s .at) (s .len) ∷ [])
     (choose (eqb (s .action) bytes) (WB (s .at) (take (s .len) xs) ∷ []) [])))
 
 -- A turn: the bytes that are wanted are fed. A mark stays where it is until all of its head is wanted.
 unfoldable pub turnOn : ℕ → Point → Point
 turnOn size p =
-    let n = wantedOf (p .applying) size in
-    let s = fed (p .applying) (take n (p .rest)) size in
+    let n = applyingWanted (p .applying) size in
+    let s = applyingFed (p .applying) (take n (p .rest)) size in
     point (s .applying) (choose (s .applying .marked) (p .rest) (drop n (p .rest))) (p .done ++ asked s (take n (p .rest)))
 
 -- q is reached from p in some turns
@@ -45,12 +45,12 @@ Reach size p q = (n : ℕ) × (turns (turnOn size) n p ≡ q)
 
 -- a record ends no later than the limit, and where a file can
 abbrev pub Within : ℕ → Record → Type 0
-Within limit w = inLimit limit (headOf w .at) (headOf w .len) ≡ true
+Within limit w = inLimit limit (headSaid w .at) (headSaid w .len) ≡ true
 
 -- The turns over a list's bytes end as a list does, with no byte left, and what was done leaves on every device what the records leave.
 pub record Applies (size limit : ℕ) (ws : List Record) : Type 0 where
   pub last : Point
-  pub reached : Reach size (point (begun limit) (listBytes ws) []) last
+  pub reached : Reach size (point (applyingBegun limit) (listBytes ws) []) last
   pub whole : last .applying .stop ≡ ended
   pub read : last .rest ≡ []
   pub left : (d : Device) (x : ℕ) → applied (last .done) d x ≡ applied ws d x
@@ -58,7 +58,7 @@ pub record Applies (size limit : ℕ) (ws : List Record) : Type 0 where
 -- The turns over a list's bytes stop at a record that doesn't fit, and nothing was done.
 pub record Untouched (size limit : ℕ) (ws : List Record) : Type 0 where
   pub last : Point
-  pub reached : Reach size (point (begun limit) (listBytes ws) []) last
+  pub reached : Reach size (point (applyingBegun limit) (listBytes ws) []) last
   pub stopped : last .applying .stop ≡ tooFar
   pub nothing : last .done ≡ []
 
@@ -78,7 +78,7 @@ FlushedFirst (WZ at n ∷ ws) done = (done ≡ []) ⊎ ((more : List Record) × 
 -- The turns over the first i bytes of a list stop, and what was done leaves on every device what the list's first records leave.
 pub record AppliesFront (size limit : ℕ) (ws : List Record) (i : ℕ) : Type 0 where
   pub last : Point
-  pub reached : Reach size (point (begun limit) (take i (listBytes ws)) []) last
+  pub reached : Reach size (point (applyingBegun limit) (take i (listBytes ws)) []) last
   pub stops : last .applying .stop ≡ goesOn → ⊥
   -- so many of them, whole records alone
   pub records : ℕ

@@ -5,11 +5,11 @@ use mathlib.Core.List.{List}
 use Prim.Native.Nat.{ℕ}
 use Rattle.seqs.specs.Lists.{fold}
 use Rattle.list_apply.specs.declared.Applying.{Applying as State}
-use Rattle.list_apply.specs.Applying.{ended, fed}
+use Rattle.list_apply.specs.Applying.{ended, applyingFed}
 
 -- the state after some pieces
 abbrev pub fedAll : ℕ → State → List (List ℕ) → State
-fedAll size a pieces = fold (λ (s : State) (xs : List ℕ). fed s xs size .applying) a pieces
+fedAll size a pieces = fold (λ (s : State) (xs : List ℕ). applyingFed s xs size .applying) a pieces
 
 -- b is the state after some pieces, from a on
 pub record Fed (size : ℕ) (a b : State) : Type 0 where
@@ -17,5 +17,5 @@ pub record Fed (size : ℕ) (a b : State) : Type 0 where
   pub reached : b ≡ fedAll size a pieces
 
 -- where the list ended as a list does, two flushes are past
-abbrev pub Whole : State → Type 0
-Whole a = a .stop ≡ ended → a .flushes ≡ 2
+abbrev pub TwoFlushesPast : State → Type 0
+TwoFlushesPast a = a .stop ≡ ended → a .flushes ≡ 2

@@ -16,17 +16,17 @@ use Rattle.list_size.specs.Sizes.{noSize, inputSize}
 use Rattle.list_cabinet.specs.declared.Cabinet.{Cabinet as State}
 use Rattle.list_cabinet.specs.declared.Entered.{Entered as Answer}
 use Rattle.list_cabinet.specs.Cabinet.{answerWith, takenBy, answers, leftAfter, mostDisks, Sharing, notShared, sharedBy, shared}
-use Rattle.list_cabinet.specs.Entering.{opened, numberIn, answering, enteredBy, entered, enteredAll, closedAt, InOrder}
+use Rattle.list_cabinet.specs.Entering.{cabinetOpened, cabinetNumber, answering, enteredBy, entered, enteredAll, closedAt, InOrder}
 
 -- ---- one disk, by the code's steps
 module _ (c : State) (input : List ℕ) where
-  pub turned-away : (n : ℕ) (s : ListSize) → n ≡ numberIn c → (n ≡ 0 → ⊥) → s ≡ noSize n → answering s c ≡ entered c input
+  pub turned-away : (n : ℕ) (s : ListSize) → n ≡ cabinetNumber c → (n ≡ 0 → ⊥) → s ≡ noSize n → answering s c ≡ entered c input
   unfolding entered
   turned-away n s e h f = rw (← e, ne-eqb n 0 h, f) refl
 
-  pub looked-at : (n : ℕ) → n ≡ numberIn c → n ≡ 0 → entered c input ≡ enteredBy c (inputSize input)
+  pub looked-at : (n : ℕ) → n ≡ cabinetNumber c → n ≡ 0 → entered c input ≡ enteredBy c (inputSize input)
   unfolding entered
-  looked-at n e z = rw (eq-eqb (numberIn c) 0 (sym e ∙ z)) refl
+  looked-at n e z = rw (eq-eqb (cabinetNumber c) 0 (sym e ∙ z)) refl
 
 -- ---- a cabinet that wasn't refused, with m disks to come
 abbrev at : ℕ → ℕ → State
@@ -55,16 +55,16 @@ all-left left (input ∷ inputs) =
     ap (λ (x : Answer). closedAt (x .cabinet) inputs .left) (one-more left (length inputs) input) ∙ all-left (left - takenBy (answerWith left (inputSize input))) inputs
 
 -- ---- the whole call
-opened-at : (n area : ℕ) → n ≤ mostDisks → opened n area ≡ at area n
+opened-at : (n area : ℕ) → n ≤ mostDisks → cabinetOpened n area ≡ at area n
 unfolding when
 opened-at n area h = rw (le-ltb mostDisks n h) refl
 
-refused-at : (n area : ℕ) (input : List ℕ) → mostDisks < n → entered (opened n area) input ≡ answering (noSize tooManyDisks) (opened n area)
+refused-at : (n area : ℕ) (input : List ℕ) → mostDisks < n → entered (cabinetOpened n area) input ≡ answering (noSize tooManyDisks) (cabinetOpened n area)
 unfolding when
 refused-at n area input h =
     let t = lt-ltb mostDisks n h in
     let z = ne-eqb n 0 (λ e. omega arith) in
-    sym (turned-away (opened n area) input tooManyDisks (noSize tooManyDisks) (rw (z, t) refl) (λ e. omega arith) refl)
+    sym (turned-away (cabinetOpened n area) input tooManyDisks (noSize tooManyDisks) (rw (z, t) refl) (λ e. omega arith) refl)
 
 number-at : (area : ℕ) (disks : List ListSize) (t : Bool) → when t tooManyDisks 0 ≡ choose t (notShared area) (sharedBy area disks) .number
 unfolding when

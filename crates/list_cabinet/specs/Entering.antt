@@ -15,12 +15,12 @@ use Rattle.list_cabinet.specs.declared.Entered.{Entered as Answer}
 use Rattle.list_cabinet.specs.Cabinet.{answerWith, takenBy, mostDisks, Sharing, shared}
 
 -- before the first disk: 41 where more than 16 are announced
-abbrev pub opened : ℕ → ℕ → State
-opened disks area = record { number = when (ltb mostDisks disks) tooManyDisks 0; left = area; coming = disks }
+abbrev pub cabinetOpened : ℕ → ℕ → State
+cabinetOpened disks area = record { number = when (ltb mostDisks disks) tooManyDisks 0; left = area; coming = disks }
 
 -- why no disk is taken: 41 where no more were announced, and the cabinet's own number
-abbrev pub numberIn : State → ℕ
-numberIn c = when (eqb (c .coming) 0) tooManyDisks (c .number)
+abbrev pub cabinetNumber : State → ℕ
+cabinetNumber c = when (eqb (c .coming) 0) tooManyDisks (c .number)
 
 -- what a disk is answered, and the cabinet behind it
 abbrev pub answering : ListSize → State → Answer
@@ -34,7 +34,7 @@ enteredBy c own =
 
 -- the next disk
 unfoldable pub entered : State → List ℕ → Answer
-entered c input = choose (eqb (numberIn c) 0) (enteredBy c (inputSize input)) (answering (noSize (numberIn c)) c)
+entered c input = choose (eqb (cabinetNumber c) 0) (enteredBy c (inputSize input)) (answering (noSize (cabinetNumber c)) c)
 
 -- ---- all disks, one after the other
 
@@ -50,9 +50,9 @@ closedAt c (input ∷ inputs) = closedAt (entered c input .cabinet) inputs
 
 -- ---- that they are answered as the call says
 pub record InOrder (area : ℕ) (inputs : List (List ℕ)) : Type 0 where
-  pub number : opened (length inputs) area .number ≡ shared area inputs .number
-  pub answers : length inputs ≤ mostDisks → enteredAll (opened (length inputs) area) inputs ≡ shared area inputs .answered
-  pub left : length inputs ≤ mostDisks → closedAt (opened (length inputs) area) inputs .left ≡ shared area inputs .left
+  pub number : cabinetOpened (length inputs) area .number ≡ shared area inputs .number
+  pub answers : length inputs ≤ mostDisks → enteredAll (cabinetOpened (length inputs) area) inputs ≡ shared area inputs .answered
+  pub left : length inputs ≤ mostDisks → closedAt (cabinetOpened (length inputs) area) inputs .left ≡ shared area inputs .left
   -- where they are too many, each is refused by 41, whatever its input, and nothing is taken
   pub too-many : mostDisks < length inputs → (input : List ℕ)
-      → entered (opened (length inputs) area) input ≡ answering (noSize tooManyDisks) (opened (length inputs) area)
+      → entered (cabinetOpened (length inputs) area) input ≡ answering (noSize tooManyDisks) (cabinetOpened (length inputs) area)

@@ -2,7 +2,7 @@
 // the area. How long a disk's list is says `list_size`.
 ghost use mathlib.Core.Path.{_≡_};
 ghost use Rattle.list_cabinet.specs.Cabinet.{answerWith, takenBy};
-ghost use Rattle.list_cabinet.specs.Entering.{opened, numberIn, entered};
+ghost use Rattle.list_cabinet.specs.Entering.{cabinetOpened, cabinetNumber, entered};
 use arith::numbers::minus;
 use list_size::ListSize;
 use list_size::list_size;
@@ -29,7 +29,7 @@ pub struct Entered {
 
 // An area of so many bytes for so many disks: 41 where these are more than 16.
 pub fn open(disks: u64, area: u64) -> Cabinet
-    ensures { λ r. ⌜ r ≡ opened disks area ⌝ }
+    ensures { λ r. ⌜ r ≡ cabinetOpened disks area ⌝ }
 {
     let number = first(MOST_DISKS < disks, TOO_MANY_DISKS, 0);
     Cabinet {
@@ -55,7 +55,7 @@ pub fn left_of(c: Cabinet) -> u64
 
 // Why no disk is taken: the cabinet's number, and 41 where no more were announced.
 fn number_in(c: Cabinet) -> u32
-    ensures { λ r. ⌜ r ≡ numberIn c ⌝ }
+    ensures { λ r. ⌜ r ≡ cabinetNumber c ⌝ }
 {
     first(c.coming == 0, TOO_MANY_DISKS, c.number)
 }

@@ -8,8 +8,8 @@ use native.Mathlib.Omega.{arith}
 use Rattle.geometry_sizes.specs.Limits.{maxSupportedBlock}
 use Rattle.list_records.specs.Records.{Record, WZ, WB, FL, OneBlock}
 use Rattle.list_records.proofs.Blocks.{all-map}
-use Rattle.list_records.specs.Device.{Fits}
-use Rattle.list_read.specs.Records.{largest}
+use Rattle.list_records.specs.Device.{InsideDevice}
+use Rattle.list_read.specs.Records.{largestOffset}
 use Rattle.list_read.proofs.Heads.{ends-within}
 use Rattle.list_apply.proofs.Steps.{limit-kept}
 use Rattle.list_apply_laws.specs.Lists.{Within, Applies, InOne, AppliesFront}
@@ -23,7 +23,7 @@ use Rattle.list_accepted.proofs.Sound.{sound}
 use Rattle.list_accepted.proofs.Heads.{run-ordered}
 use Rattle.list_laws.proofs.Whole.{list-ends, list-fits}
 
-record-within : (bs device limit : ℕ) → device ≤ largest → device ≤ limit → (w : Record) → Fits bs device w → Within limit w
+record-within : (bs device limit : ℕ) → device ≤ largestOffset → device ≤ limit → (w : Record) → InsideDevice bs device w → Within limit w
 record-within bs device limit h k (WZ offset n) f = sym (limit-kept limit _ _ true (omega (arith, f .1)) (ends-within _ _ (omega (arith, f .1))))
 record-within bs device limit h k (WB offset bytes) f = sym (limit-kept limit _ _ true (omega (arith, f .1)) (ends-within _ _ (omega (arith, f .1))))
 record-within bs device limit h k FL f = sym (limit-kept limit _ _ true (omega arith) (ends-within _ _ (omega arith)))
@@ -35,15 +35,15 @@ record-in-one bs size h (WB offset bytes) o = omega arith
 record-in-one bs size h FL o = omega arith
 
 -- WHAT IS SENT FOR AN ACCEPTED RUN IS APPLIED TO ITS END
-pub run-applied : (r : Request) → AcceptedRun r → r .device ≤ largest → (size limit : ℕ) → 0 < size → r .device ≤ limit → Applies size limit (listOf (runOf r) (r .device))
+pub run-applied : (r : Request) → AcceptedRun r → r .device ≤ largestOffset → (size limit : ℕ) → 0 < size → r .device ≤ limit → Applies size limit (listOf (runOf r) (r .device))
 run-applied r a h size limit some k =
     let run = runOf r in
     list-applied size limit some (listOf run (r .device)) (list-ends run (r .device)) (list-fits r a)
-    (all-map (Fits (run .geometry .blocksize) (r .device)) (Within limit) (listOf run (r .device))
+    (all-map (InsideDevice (run .geometry .blocksize) (r .device)) (Within limit) (listOf run (r .device))
     (record-within (run .geometry .blocksize) (r .device) limit h k) (run-ordered r a .fits))
 
 -- AND OF ITS FIRST BYTES, HOWEVER MANY CAME, WHOLE RECORDS ALONE
-pub run-front : (r : Request) → AcceptedRun r → r .device ≤ largest → (size limit : ℕ) → maxSupportedBlock ≤ size → r .device ≤ limit → (i : ℕ)
+pub run-front : (r : Request) → AcceptedRun r → r .device ≤ largestOffset → (size limit : ℕ) → maxSupportedBlock ≤ size → r .device ≤ limit → (i : ℕ)
     → AppliesFront size limit (listOf (runOf r) (r .device)) i
 run-front r a h size limit hold k i =
     let run = runOf r in
@@ -51,5 +51,5 @@ run-front r a h size limit hold k i =
     let rs = listOf run (r .device) in
     let m = sound r a .block-most in
     list-front size limit (omega arith) rs (list-ends run (r .device)) (list-fits r a)
-    (all-map (Fits bs (r .device)) (Within limit) rs (record-within bs (r .device) limit h k) (run-ordered r a .fits))
+    (all-map (InsideDevice bs (r .device)) (Within limit) rs (record-within bs (r .device) limit h k) (run-ordered r a .fits))
     (all-map (OneBlock bs) (InOne size) rs (record-in-one bs size (omega arith)) (run-ordered r a .one-block)) i

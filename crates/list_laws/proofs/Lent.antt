@@ -12,7 +12,7 @@ use Rattle.list_accepted.proofs.Runs.{run-bounds}
 use Rattle.list_lengths.specs.Lengths.{blocksLength}
 use Rattle.list_lengths.proofs.Which.{group-length, root-length}
 use Rattle.list_lengths.specs.Chunks.{sizesIn, listedLength, partLength, lengthAnswer, partAnswer}
-use Rattle.list_laws.specs.Room.{longestChunk, Holds, Sufficient}
+use Rattle.list_laws.specs.Room.{longestChunk, HoldsChunk, Sufficient}
 use Rattle.list_laws.proofs.Room.{chunk-within, part-within, head-within, root-within}
 use Rattle.list_laws.proofs.Whole.{there}
 
@@ -40,7 +40,7 @@ module _ (r : Request) (a : AcceptedRun r) where
   root-value = length-value (chunkCount run - 2) (omega arith) ∙ root-length (sizesIn (run .geometry)) (run .geometry .agcount) (chunkCount run - 2) (omega arith) (omega arith)
 
   holds : (n k : ℕ) → k < chunkCount run → blocksLength (run .geometry .blocksize) (headBlocks (run .geometry)) ≤ n
-      → blocksLength (run .geometry .blocksize) (chunkBlocks (run .geometry)) ≤ n → Holds run n k
+      → blocksLength (run .geometry .blocksize) (chunkBlocks (run .geometry)) ≤ n → HoldsChunk run n k
   holds n k h p q =
       let z = run-bounds r a in
       (rw (length-value k h) (chunk-within (run .geometry) z n p q k), rw (part-value k h) (part-within (run .geometry) z n p q k))

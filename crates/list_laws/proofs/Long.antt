@@ -19,13 +19,13 @@ use Rattle.list_records.proofs.Blocks.{all-append, blocks-whole}
 use Rattle.list_records.proofs.Sums.{bytes-total}
 use Rattle.run.specs.declared.Run.{Run}
 use Rattle.list_spec.specs.Listing.{headBlocks, headerBlocks, chunkBlocks, headWritten, headFinished, opening, headRecords, chunkRecords, headerRecords, closing, listChunk}
-use Rattle.list_spec.specs.Sound.{Sound}
+use Rattle.list_spec.specs.Sound.{SoundRun}
 use Rattle.list_spec.proofs.Counts.{opening-total, closing-total}
-use Rattle.list_lengths.specs.Lengths.{blocksLength, lengthOf}
+use Rattle.list_lengths.specs.Lengths.{blocksLength, chunkListLength}
 use Rattle.list_laws.specs.Long.{Long}
 use Rattle.list_write.proofs.Splitting.{blocks-length}
 
-module _ (run : Run) (device : ℕ) (s : Sound run device) where
+module _ (run : Run) (device : ℕ) (s : SoundRun run device) where
   abbrev bs : ℕ
   bs = run .geometry .blocksize
 
@@ -65,5 +65,5 @@ module _ (run : Run) (device : ℕ) (s : Sound run device) where
 
   -- EACH CHUNK HAS ITS LENGTH
   pub chunk-long : (k : ℕ) → Long run device k
-  unfolding listChunk lengthOf
+  unfolding listChunk chunkListLength
   chunk-long k = long-at k (eqb k 0) (leb k groups) (eqb k (groups + 1)) refl refl

@@ -15,7 +15,7 @@ use Rattle.chunk.specs.Chunk.{chunkLength}
 use Rattle.chunk.proofs.Chunks.{whole-chunk}
 use Rattle.list_spec.specs.Listing.{headBlocks, headerBlocks, chunkBlocks}
 use Rattle.group_bytes.proofs.Accepted.{size-least, size-most, head-most}
-use Rattle.list_lengths.specs.Lengths.{blocksLength, lengthOf, partOf}
+use Rattle.list_lengths.specs.Lengths.{blocksLength, chunkListLength, splitPart}
 use Rattle.list_lengths.specs.Chunks.{listedLength, partLength}
 use Rattle.list_laws.specs.Whole.{largestHead}
 use Rattle.list_laws.specs.Room.{longestChunk}
@@ -43,7 +43,7 @@ module _ (g : Geometry) (z : Bounds g) where
 
   -- NO PART IS LONGER THAN THE LARGEST HEAD
   pub part-most : (k : ℕ) → partLength g k ≤ largestHead
-  unfolding partOf
+  unfolding splitPart
   part-most k =
       let b = size-most g z in
       let c = root-most in
@@ -56,14 +56,14 @@ module _ (g : Geometry) (z : Bounds g) where
 
   module _ (n : ℕ) (h : blocksLength (g .blocksize) (headBlocks g) ≤ n) (c : blocksLength (g .blocksize) (chunkBlocks g) ≤ n) where
     pub chunk-within : (k : ℕ) → listedLength g k ≤ n
-    unfolding lengthOf blocksLength
+    unfolding chunkListLength blocksLength
     chunk-within k =
         let b = size-least g z in
         let m = mul-le-mul-right (18 + g .blocksize) header-less in
         most-of-4 (eqb k 0) (leb k (g .agcount)) (eqb k (g .agcount + 1)) n _ _ _ _ (omega arith) h c (omega arith)
 
     pub part-within : (k : ℕ) → partLength g k ≤ n
-    unfolding partOf blocksLength
+    unfolding splitPart blocksLength
     part-within k =
         let m = mul-le-mul-right (18 + g .blocksize) header-less in
         most-of-3 (eqb k 0) (eqb k (g .agcount + 1)) n _ _ _ (omega arith) (omega arith) (omega arith)

@@ -23,9 +23,9 @@ use Rattle.list_lengths.specs.declared.Counted.{Counted}
 use Rattle.list_lengths.specs.Chunks.{writeNumber, countAnswer, lengthAnswer, partAnswer}
 use Rattle.list_send.specs.declared.Sending.{Sending as State}
 use Rattle.list_send.specs.declared.Sent.{Sent}
-use Rattle.list_send.specs.Sending.{sending, begun, nextOf, stepped, pieceOf, wantedOf, longestOf, sendNumber, unsent, sentDef, bufferAfter, workAfter, sentOn, handed}
+use Rattle.list_send.specs.Sending.{sending, sendingBegun, nextChunk, sendingStepped, chunkPiece, sendingWanted, longestPiece, sendNumber, unsent, sentDef, bufferAfter, workAfter, sentOn, handed}
 use Rattle.list_laws.specs.Whole.{sent, sentTo, sentAll, WrittenWhole}
-use Rattle.list_laws.specs.Room.{longestChunk, Holds, Sufficient}
+use Rattle.list_laws.specs.Room.{longestChunk, HoldsChunk, Sufficient}
 use Rattle.list_laws.specs.Sending.{SendsAll, SendsNone}
 use Rattle.list_laws.proofs.Whole.{written-whole, write-is}
 use Rattle.list_laws.proofs.Lent.{room-enough}
@@ -59,11 +59,11 @@ module _ (r : Request) (a : AcceptedRun r) (accepts : runOf r .number ≡ 0) whe
     there : count - m < count
     there = omega arith
 
-    enough : (n : ℕ) → longest ≤ n → Holds run n (count - m)
+    enough : (n : ℕ) → longest ≤ n → HoldsChunk run n (count - m)
     enough n h = room-enough r a .few n (count - m) there (omega arith) (omega arith)
 
-    wanted : wantedOf (at m) ≡ record { number = 0; value = length piece }
-    unfolding wantedOf
+    wanted : sendingWanted (at m) ≡ record { number = 0; value = length piece }
+    unfolding sendingWanted
     wanted = rw (eq-eqb (run .number) 0 accepts, ne-eqb m 0 (λ e. omega arith)) (written-whole r a .long (count - m) there)
 
     piece-within : length piece ≤ len
@@ -144,13 +144,13 @@ module _ (xs : List ℕ) (bytes : (i : ℕ) → getD xs i 0 < 256) where
     unfolding accepted
     zero-is = e
 
-    begun-is : begun xs ≡ at request taken zero-is (chunkCount (runOf request))
-    unfolding begun accepted
+    begun-is : sendingBegun xs ≡ at request taken zero-is (chunkCount (runOf request))
+    unfolding sendingBegun accepted
     begun-is = rw (eq-eqb (runOf request .number) 0 zero-is, written-whole request taken .counted) refl
 
     -- WHAT IS SENT FOR AN ACCEPTED INPUT IS ITS LIST
-    pub sends-all : SendsAll (begun xs) (accepted xs) (parseDef xs .device)
-    unfolding longestOf accepted
+    pub sends-all : SendsAll (sendingBegun xs) (accepted xs) (parseDef xs .device)
+    unfolding longestPiece accepted
     sends-all =
         rw begun-is (record {
           turns = refl;
@@ -162,15 +162,15 @@ module _ (xs : List ℕ) (bytes : (i : ℕ) → getD xs i 0 < 256) where
 
   -- AND OF A REFUSED ONE NOTHING
   module _ (e : accepted xs .number ≡ 0 → ⊥) where
-    begun-none : begun xs ≡ sending (accepted xs) (request .device) 0 0
-    unfolding begun
+    begun-none : sendingBegun xs ≡ sending (accepted xs) (request .device) 0 0
+    unfolding sendingBegun
     begun-none = rw (ne-eqb (accepted xs .number) 0 e) refl
 
     none-number : (work len : ℕ) → sendNumber (sending (accepted xs) (request .device) 0 0) work len ≡ accepted xs .number
-    unfolding sendNumber wantedOf
+    unfolding sendNumber sendingWanted
     none-number work len = rw (ne-eqb (accepted xs .number) 0 e, ne-eqb (accepted xs .number) 0 e) refl
 
-    pub sends-none : SendsNone (begun xs) (accepted xs .number)
+    pub sends-none : SendsNone (sendingBegun xs) (accepted xs .number)
     unfolding sentDef
     sends-none =
         let f = ne-eqb (accepted xs .number) 0 e in

@@ -9,11 +9,11 @@ use Rattle.refusals.specs.Numbers.{noPlace}
 use Rattle.structs.specs.Written.{Written}
 use Rattle.structs.proofs.Written.{written-in}
 use Rattle.list_records.specs.Records.{Record, WZ, WB, FL, All, listBytes}
-use Rattle.list_read.specs.Records.{fits}
-use Rattle.list_read.specs.Whole.{readList, readAs, CutOff, allFit}
+use Rattle.list_read.specs.Records.{RecordFits}
+use Rattle.list_read.specs.Whole.{readList, wholeList, CutOff, allFit}
 use Rattle.list_read.specs.Flushes.{WholeList}
 use Rattle.list_read.proofs.WholeList.{list-back, list-cut}
-use Rattle.list_records.specs.Device.{Fits}
+use Rattle.list_records.specs.Device.{InsideDevice}
 use Rattle.request.specs.declared.Request.{Request}
 use Rattle.request.specs.Parse.{parseDef}
 use Rattle.run.specs.declared.Run.{Run}
@@ -29,7 +29,7 @@ use Rattle.list_accepted.proofs.Heads.{run-ordered}
 use Rattle.list_accepted.proofs.Parsed.{accepted-run}
 use Rattle.group_bytes.proofs.Accepted.{or-second}
 use Rattle.list_lengths.specs.declared.Counted.{Counted}
-use Rattle.list_lengths.specs.Chunks.{formatNumber, placeNumber, writeNumber, countAnswer, lengthAnswer, partAnswer}
+use Rattle.list_lengths.specs.Chunks.{formatNumber, listChunkNumber, writeNumber, countAnswer, lengthAnswer, partAnswer}
 use Rattle.list_lengths.proofs.Numbers.{place-there, place-none, write-fits}
 use Rattle.list_write.proofs.Splitting.{list-append}
 use Rattle.list_laws.specs.Whole.{largestHead, sent, sentTo, sentAll, WrittenWhole}
@@ -38,12 +38,12 @@ use Rattle.list_laws.proofs.Room.{part-most}
 
 -- ---- a record that lies inside a device of 64 bits is read back
 
-record-fits : (bs device : ℕ) → device < 2 ^ 64 → (w : Record) → Fits bs device w → fits w
+record-fits : (bs device : ℕ) → device < 2 ^ 64 → (w : Record) → InsideDevice bs device w → RecordFits w
 record-fits bs device h (WZ offset n) f = (omega (arith, f .1), omega (arith, f .1))
 record-fits bs device h (WB offset bytes) f = (omega (arith, f .1), omega (arith, f .1))
 record-fits bs device h FL f = (omega arith, omega arith)
 
-all-fit : (bs device : ℕ) → device < 2 ^ 64 → (ws : List Record) → All (Fits bs device) ws → allFit ws
+all-fit : (bs device : ℕ) → device < 2 ^ 64 → (ws : List Record) → All (InsideDevice bs device) ws → allFit ws
 all-fit bs device h [] f = tt
 all-fit bs device h (w ∷ ws) f = (record-fits bs device h w (f .0), all-fit bs device h ws (f .1))
 
@@ -73,11 +73,11 @@ module _ (r : Request) (a : AcceptedRun r) where
   format = sym (or-second _ _ 0 (run-plans r a) (sym (run-timely r a)))
 
   -- chunk k is there, or not
-  pub there : (k : ℕ) → k < chunkCount run → placeNumber run k ≡ 0
+  pub there : (k : ℕ) → k < chunkCount run → listChunkNumber run k ≡ 0
   unfolding chunkCount
   there k h = sym (place-there run k format (omega arith))
 
-  not-there : (k : ℕ) → chunkCount run ≤ k → placeNumber run k ≡ noPlace
+  not-there : (k : ℕ) → chunkCount run ≤ k → listChunkNumber run k ≡ noPlace
   unfolding chunkCount
   not-there k h = sym (place-none run k format (omega arith))
 
@@ -109,7 +109,7 @@ module _ (r : Request) (a : AcceptedRun r) where
       let z : writeNumber run k (length old) work ≡ 0 = rw l (write-is k work h m) in
       (w .number ∙ z, written-in w z)
 
-  none-is : (k len work : ℕ) → chunkCount run ≤ k → (placeNumber run k ≡ noPlace) × (writeNumber run k len work ≡ noPlace)
+  none-is : (k len work : ℕ) → chunkCount run ≤ k → (listChunkNumber run k ≡ noPlace) × (writeNumber run k len work ≡ noPlace)
   unfolding writeNumber
   none-is k len work h = let n = not-there k h in (n, rw n refl)
 
@@ -121,7 +121,7 @@ module _ (r : Request) (a : AcceptedRun r) where
   pub list-fits : allFit (listOf run (r .device))
   list-fits = all-fit (run .geometry .blocksize) (r .device) (a .typed .device) (listOf run (r .device)) (run-ordered r a .fits)
 
-  read-is : readList (sentAll run (r .device)) ≡ readAs (listOf run (r .device))
+  read-is : readList (sentAll run (r .device)) ≡ wholeList (listOf run (r .device))
   read-is = rw (sent-whole run (r .device)) (list-back (listOf run (r .device)) list-fits (list-ends run (r .device)))
 
   cut-is : (i : ℕ) → i < length (sentAll run (r .device)) → CutOff (listOf run (r .device)) (readList (take i (sentAll run (r .device))))

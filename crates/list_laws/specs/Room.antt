@@ -10,11 +10,11 @@ abbrev pub longestChunk : ℕ
 longestChunk = 164020
 
 -- n bytes hold chunk k, and the part that it is split from
-abbrev pub Holds : Run → ℕ → ℕ → Type 0
-Holds run n k = (lengthAnswer run k .value ≤ n) × (partAnswer run k .value ≤ n)
+abbrev pub HoldsChunk : Run → ℕ → ℕ → Type 0
+HoldsChunk run n k = (lengthAnswer run k .value ≤ n) × (partAnswer run k .value ≤ n)
 
 pub record Sufficient (run : Run) : Type 0 where
   -- bytes for the first head and for the root chunk, which is the chunk before the last, hold every chunk
-  pub few : (n k : ℕ) → k < chunkCount run → lengthAnswer run 1 .value ≤ n → lengthAnswer run (chunkCount run - 2) .value ≤ n → Holds run n k
+  pub few : (n k : ℕ) → k < chunkCount run → lengthAnswer run 1 .value ≤ n → lengthAnswer run (chunkCount run - 2) .value ≤ n → HoldsChunk run n k
   -- and so do those of the longest
-  pub most : (k : ℕ) → k < chunkCount run → Holds run longestChunk k
+  pub most : (k : ℕ) → k < chunkCount run → HoldsChunk run longestChunk k

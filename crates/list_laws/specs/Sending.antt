@@ -8,7 +8,7 @@ use Rattle.run.specs.declared.Run.{Run}
 use Rattle.list_records.specs.Records.{listBytes}
 use Rattle.list_spec.specs.Listing.{listOf, chunkCount}
 use Rattle.list_send.specs.declared.Sending.{Sending as State}
-use Rattle.list_send.specs.Sending.{longestOf, sendNumber, unsent, sentDef, bufferAfter, workAfter, sentOn, handed}
+use Rattle.list_send.specs.Sending.{longestPiece, sendNumber, unsent, sentDef, bufferAfter, workAfter, sentOn, handed}
 use Rattle.list_laws.specs.Room.{longestChunk}
 
 -- From the state s on, with two buffers that hold the longest chunk: `room` bytes to work in, and one that held `xs` at first.
@@ -16,14 +16,14 @@ pub record SendsAll (s : State) (run : Run) (device : ℕ) : Type 0 where
   -- as many turns as the list has chunks
   pub turns : s .left ≡ chunkCount run
   -- no buffer needs to be longer than the longest chunk of any run
-  pub most : longestOf s ≤ longestChunk
+  pub most : longestPiece s ≤ longestChunk
   -- none of them is refused
-  pub accepts : (n work len : ℕ) → n < s .left → longestOf s ≤ work → longestOf s ≤ len → sendNumber (sentOn n s work len) work len ≡ 0
+  pub accepts : (n work len : ℕ) → n < s .left → longestPiece s ≤ work → longestPiece s ≤ len → sendNumber (sentOn n s work len) work len ≡ 0
   -- THE BYTES THAT THEY HAND OUT, ONE AFTER THE OTHER, ARE THE LIST
-  pub whole : (work : ℕ) (xs : List ℕ) → longestOf s ≤ work → longestOf s ≤ length xs
+  pub whole : (work : ℕ) (xs : List ℕ) → longestPiece s ≤ work → longestPiece s ≤ length xs
       → handed (s .left) s work xs ≡ listBytes (listOf run device)
   -- and no chunk is left then
-  pub ends : (work len : ℕ) → longestOf s ≤ work → longestOf s ≤ len → sentOn (s .left) s work len .left ≡ 0
+  pub ends : (work len : ℕ) → longestPiece s ≤ work → longestPiece s ≤ len → sentOn (s .left) s work len .left ≡ 0
 
 -- In the state s no turn is due, and one that is tried gets this number and leaves both buffers as they were.
 pub record SendsNone (s : State) (number : ℕ) : Type 0 where

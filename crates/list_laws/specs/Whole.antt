@@ -7,10 +7,10 @@ use lib.ListN.{length, take}
 use Rattle.refusals.specs.Numbers.{noPlace}
 use Rattle.structs.specs.Written.{Written}
 use Rattle.list_records.specs.Records.{listBytes}
-use Rattle.list_read.specs.Whole.{readList, readAs, CutOff}
+use Rattle.list_read.specs.Whole.{readList, wholeList, CutOff}
 use Rattle.run.specs.declared.Run.{Run}
 use Rattle.list_spec.specs.Listing.{listOf, chunkCount, listChunk, listLength}
-use Rattle.list_lengths.specs.Chunks.{placeNumber, writeNumber, countAnswer, lengthAnswer, partAnswer}
+use Rattle.list_lengths.specs.Chunks.{listChunkNumber, writeNumber, countAnswer, lengthAnswer, partAnswer}
 
 -- the largest head, LARGEST_HEAD of crate group_bytes: 10 blocks of 16,384 bytes
 abbrev pub largestHead : ℕ
@@ -41,10 +41,10 @@ pub record WrittenWhole (run : Run) (device : ℕ) : Type 0 where
   pub leaves : (k work r : ℕ) (old left : List ℕ) → k < chunkCount run → partAnswer run k .value ≤ work → length old ≡ lengthAnswer run k .value
       → Written (writeNumber run k (length old) work) (sent run device k) old r left → (r ≡ 0) × (left ≡ sent run device k)
   -- there is no other chunk
-  pub none : (k len work : ℕ) → chunkCount run ≤ k → (placeNumber run k ≡ noPlace) × (writeNumber run k len work ≡ noPlace)
+  pub none : (k len work : ℕ) → chunkCount run ≤ k → (listChunkNumber run k ≡ noPlace) × (writeNumber run k len work ≡ noPlace)
   -- all chunks, one after the other, are the list's bytes: as many as the closed form says
   pub whole : sentAll run device ≡ listBytes (listOf run device)
   pub bytes : length (sentAll run device) ≡ listLength (run .geometry)
   -- read by themselves they are the list's records; cut at any byte they are refused, and what was read until then are its first records
-  pub back : readList (sentAll run device) ≡ readAs (listOf run device)
+  pub back : readList (sentAll run device) ≡ wholeList (listOf run device)
   pub cut : (i : ℕ) → i < length (sentAll run device) → CutOff (listOf run device) (readList (take i (sentAll run device)))

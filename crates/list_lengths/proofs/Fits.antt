@@ -12,7 +12,7 @@ use Rattle.params.specs.declared.Features.{Features}
 use Rattle.geometry.specs.Log.{headerOf, preallocOf}
 use Rattle.geometry_layout.specs.Places.{chunkOf}
 use Rattle.list_lengths.specs.declared.parts.Sizes.{Sizes}
-use Rattle.list_lengths.specs.Lengths.{sizesOf, blocksLength}
+use Rattle.list_lengths.specs.Lengths.{listSizes, blocksLength}
 
 -- n more blocks than a bytes fill
 few-more : (a b n : ℕ) → a < 2 ^ 38 → b < 2 ^ 32 → n ≤ 7 → blocksLength b (a / b + n) < 2 ^ 63
@@ -59,7 +59,7 @@ pub record Fit (s : Sizes) : Type 0 where
   pub head : blocksLength (s .block) (s .head) < 2 ^ 63
   pub chunk : blocksLength (s .block) (s .chunk) < 2 ^ 63
 
-pub all-fit : (f : Features) (sector inode bs : ℕ) → sector < 2 ^ 32 → inode < 2 ^ 32 → bs < 2 ^ 32 → Fit (sizesOf f sector inode bs)
+pub all-fit : (f : Features) (sector inode bs : ℕ) → sector < 2 ^ 32 → inode < 2 ^ 32 → bs < 2 ^ 32 → Fit (listSizes f sector inode bs)
 all-fit f sector inode bs s i k =
     record {
       block = k;

@@ -13,22 +13,22 @@ use Rattle.run.specs.declared.Run.{Run}
 use Rattle.run.specs.Runs.{orNext, timeRefusal}
 use Rattle.list_spec.specs.Listing.{chunkCount}
 use Rattle.list_lengths.specs.declared.parts.Sizes.{Sizes}
-use Rattle.list_lengths.specs.Lengths.{sizesOf, lengthOf, partOf}
+use Rattle.list_lengths.specs.Lengths.{listSizes, chunkListLength, splitPart}
 use Rattle.list_lengths.specs.declared.Counted.{Counted}
 
 -- ---- lengths
 
 -- the sizes of a geometry
 abbrev pub sizesIn : Geometry → Sizes
-sizesIn g = sizesOf (g .features) (g .sectsize) (g .inodesize) (g .blocksize)
+sizesIn g = listSizes (g .features) (g .sectsize) (g .inodesize) (g .blocksize)
 
 -- bytes of chunk k
 abbrev pub listedLength : Geometry → ℕ → ℕ
-listedLength g k = lengthOf (sizesIn g) (g .agcount) k
+listedLength g k = chunkListLength (sizesIn g) (g .agcount) k
 
 -- bytes of the part that it is split from
 abbrev pub partLength : Geometry → ℕ → ℕ
-partLength g k = partOf (sizesIn g) (g .agcount) k
+partLength g k = splitPart (sizesIn g) (g .agcount) k
 
 -- ---- numbers
 
@@ -37,25 +37,25 @@ unfoldable pub formatNumber : Run → ℕ
 formatNumber run = orNext (plansNumber (run .geometry)) (timeRefusal (run .geometry) (run .time))
 
 -- the same, then 29 where there is no chunk k
-unfoldable pub placeNumber : Run → ℕ → ℕ
-placeNumber run k = orNext (formatNumber run) (when (leb (chunkCount run) k) noPlace 0)
+unfoldable pub listChunkNumber : Run → ℕ → ℕ
+listChunkNumber run k = orNext (formatNumber run) (when (leb (chunkCount run) k) noPlace 0)
 
 -- the number of a chunk, then 27 for a buffer of another length than the chunk's or a work buffer shorter than its part; a chunk that
 -- isn't there has none
 unfoldable pub writeNumber : Run → ℕ → ℕ → ℕ → ℕ
 writeNumber run k len work =
-    orNext (placeNumber run k) (require wrongLength (eqb len (listedLength (run .geometry) k)) (require wrongLength (leb (partLength (run .geometry) k) work) 0))
+    orNext (listChunkNumber run k) (require wrongLength (eqb len (listedLength (run .geometry) k)) (require wrongLength (leb (partLength (run .geometry) k) work) 0))
 
 -- the count where the number is 0, else the refusal
-abbrev pub counted : ℕ → ℕ → Counted
-counted n v = choose (eqb n 0) (record { number = 0; value = v }) (record { number = n; value = 0 })
+abbrev pub countedAs : ℕ → ℕ → Counted
+countedAs n v = choose (eqb n 0) (record { number = 0; value = v }) (record { number = n; value = 0 })
 
 -- `chunk_count`, `chunk_length` and `part_length`
 unfoldable pub countAnswer : Run → Counted
-countAnswer run = counted (formatNumber run) (chunkCount run)
+countAnswer run = countedAs (formatNumber run) (chunkCount run)
 
 unfoldable pub lengthAnswer : Run → ℕ → Counted
-lengthAnswer run k = counted (placeNumber run k) (listedLength (run .geometry) k)
+lengthAnswer run k = countedAs (listChunkNumber run k) (listedLength (run .geometry) k)
 
 unfoldable pub partAnswer : Run → ℕ → Counted
-partAnswer run k = counted (placeNumber run k) (partLength (run .geometry) k)
+partAnswer run k = countedAs (listChunkNumber run k) (partLength (run .geometry) k)

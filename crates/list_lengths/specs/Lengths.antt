@@ -9,8 +9,8 @@ use Rattle.geometry_layout.specs.Places.{chunkOf}
 use Rattle.list_lengths.specs.declared.parts.Sizes.{Sizes}
 
 -- bytes of a block; blocks of the four header sectors, of a head, and of the root chunk, for these features and sizes
-abbrev pub sizesOf : Features → ℕ → ℕ → ℕ → Sizes
-sizesOf f sector inode bs =
+abbrev pub listSizes : Features → ℕ → ℕ → ℕ → Sizes
+listSizes f sector inode bs =
     record {
       block = bs;
       header = headerOf sector bs;
@@ -23,20 +23,20 @@ abbrev pub flushSize : ℕ
 flushSize = 2
 
 -- a mark and two numbers of 8 bytes
-abbrev pub headSize : ℕ
-headSize = 18
+abbrev pub recordHeadSize : ℕ
+recordHeadSize = 18
 
 -- n records of one block each
 unfoldable pub blocksLength : ℕ → ℕ → ℕ
-blocksLength bs n = n * (headSize + bs)
+blocksLength bs n = n * (recordHeadSize + bs)
 
 -- chunk k of so many groups: three records of zeros and the log's first block; a head; the root chunk; two flushes and the header blocks
-unfoldable pub lengthOf : Sizes → ℕ → ℕ → ℕ
-lengthOf s groups k =
-    when (eqb k 0) (3 * headSize + blocksLength (s .block) 1)
+unfoldable pub chunkListLength : Sizes → ℕ → ℕ → ℕ
+chunkListLength s groups k =
+    when (eqb k 0) (3 * recordHeadSize + blocksLength (s .block) 1)
     (when (leb k groups) (blocksLength (s .block) (s .head))
     (when (eqb k (groups + 1)) (blocksLength (s .block) (s .chunk)) (flushSize + blocksLength (s .block) (s .header) + flushSize)))
 
 -- the part that chunk k is split from: the log's first block, the root chunk, or a head
-unfoldable pub partOf : Sizes → ℕ → ℕ → ℕ
-partOf s groups k = when (eqb k 0) (s .block) (when (eqb k (groups + 1)) (s .chunk * s .block) (s .head * s .block))
+unfoldable pub splitPart : Sizes → ℕ → ℕ → ℕ
+splitPart s groups k = when (eqb k 0) (s .block) (when (eqb k (groups + 1)) (s .chunk * s .block) (s .head * s .block))

@@ -1,6 +1,6 @@
 // How many chunks the list of a run has, how long each is, and which number refuses one.
 ghost use mathlib.Core.Path.{_≡_};
-ghost use Rattle.list_lengths.specs.Chunks.{listedLength, partLength, formatNumber, placeNumber, writeNumber, countAnswer, lengthAnswer, partAnswer};
+ghost use Rattle.list_lengths.specs.Chunks.{listedLength, partLength, formatNumber, listChunkNumber, writeNumber, countAnswer, lengthAnswer, partAnswer};
 
 pub mod parts; // parts.rt: how long the chunks and their parts are
 
@@ -63,7 +63,7 @@ fn format_number(run: Run) -> u32
 
 // The same, 29, or 0.
 fn place_number(run: Run, k: u64) -> u32
-    ensures { λ r. ⌜ r ≡ placeNumber run k ⌝ }
+    ensures { λ r. ⌜ r ≡ listChunkNumber run k ⌝ }
 {
     let n = format_number(run);
     if n != 0 {

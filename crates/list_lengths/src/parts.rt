@@ -1,7 +1,7 @@
 // How many blocks the parts of a run have, and how many bytes each chunk of its list and the part that it is split from.
 ghost use mathlib.Core.Path.{_≡_};
 ghost use Prim.Native.Nat.{_<_, _^_};
-ghost use Rattle.list_lengths.specs.Lengths.{sizesOf, blocksLength, lengthOf, partOf};
+ghost use Rattle.list_lengths.specs.Lengths.{listSizes, blocksLength, chunkListLength, splitPart};
 use geometry::log_size::header_of;
 use geometry::log_size::prealloc_of;
 use geometry_counts::inodes::chunk_of;
@@ -19,7 +19,7 @@ pub struct Sizes {
 
 // The sizes of a disk with these features, sectors, inodes and blocks.
 pub fn sizes_of(f: Features, sector: u32, inode: u32, bs: u32) -> Sizes
-    ensures { λ r. ⌜ r ≡ sizesOf f sector inode bs ⌝ }
+    ensures { λ r. ⌜ r ≡ listSizes f sector inode bs ⌝ }
 {
     let header = header_of(sector, bs as u64);
     let head = prealloc_of(f, sector, bs as u64);
@@ -42,7 +42,7 @@ fn blocks_length(bs: usize, n: usize) -> usize
 
 // Bytes of chunk k of a disk of so many groups.
 pub fn length_of(f: Features, sector: u32, inode: u32, bs: u32, groups: u64, k: u64) -> usize
-    ensures { λ r. ⌜ r ≡ lengthOf (sizesOf f sector inode bs) groups k ⌝ }
+    ensures { λ r. ⌜ r ≡ chunkListLength (listSizes f sector inode bs) groups k ⌝ }
 {
     let s = sizes_of(f, sector, inode, bs);
     if k == 0 {
@@ -59,7 +59,7 @@ pub fn length_of(f: Features, sector: u32, inode: u32, bs: u32, groups: u64, k: 
 
 // Bytes of the part that chunk k is split from.
 pub fn part_of(f: Features, sector: u32, inode: u32, bs: u32, groups: u64, k: u64) -> usize
-    ensures { λ r. ⌜ r ≡ partOf (sizesOf f sector inode bs) groups k ⌝ }
+    ensures { λ r. ⌜ r ≡ splitPart (listSizes f sector inode bs) groups k ⌝ }
 {
     let s = sizes_of(f, sector, inode, bs);
     if k == 0 {

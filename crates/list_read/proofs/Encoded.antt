@@ -12,7 +12,7 @@ use Rattle.endian.specs.Bytes.{beAt, beBytes}
 use Rattle.endian.proofs.Laws.{length-be}
 use Rattle.endian.proofs.Fields.{at-part, at-written}
 use Rattle.list_records.specs.Records.{Record, WZ, WB, FL, recordBytes}
-use Rattle.list_read.specs.Records.{flushMark, zerosMark, bytesMark, zeros, bytes, head, cut, write, decodeDef, headOf, bytesOf, fits}
+use Rattle.list_read.specs.Records.{flushMark, zerosMark, bytesMark, zerosKind, bytes, head, headCut, writeHead, decodeDef, headSaid, payloadOf, RecordFits}
 use Rattle.list_read.proofs.Heads.{write-cut, write-held, no-mark, flush-at, zeros-at, bytes-at}
 
 -- the mark, the offset and the length, before the rest of the list
@@ -67,7 +67,7 @@ module _ (mark at len : ℕ) (rest : List ℕ) where
       ap (beAt 8 10) (sym (append-assoc (beBytes 2 mark) (beBytes 8 at) (beBytes 8 len ++ rest)))
       ∙ read-behind (beBytes 2 mark ++ beBytes 8 at) 8 len rest 10 (omega arith) h
 
-  pub write-back : (last : Bool) (kind : ℕ) → at < 2 ^ 64 → len < 2 ^ 64 → head kind at len 18 ≡ write last kind (headBytes mark at len rest)
+  pub write-back : (last : Bool) (kind : ℕ) → at < 2 ^ 64 → len < 2 ^ 64 → head kind at len 18 ≡ writeHead last kind (headBytes mark at len rest)
   write-back last kind h l =
       write-held last kind (headBytes mark at len rest) at len head-long (sym (offset-back h)) (sym (length-back l))
 
@@ -78,7 +78,7 @@ block-head last at len rest h k =
     let l = head-long bytesMark at len rest in
     write-back bytesMark at len rest last bytes h k ∙ bytes-at last xs bytesMark (omega arith) (sym (mark-back bytesMark at len rest (lit< tt))) refl
 
-head-encoded : (last : Bool) (w : Record) (rest : List ℕ) → fits w → headOf w ≡ decodeDef last (encoded w rest)
+head-encoded : (last : Bool) (w : Record) (rest : List ℕ) → RecordFits w → headSaid w ≡ decodeDef last (encoded w rest)
 head-encoded last FL rest f =
     let a = length-append (beBytes 2 flushMark) rest in
     let d = length-be 2 flushMark in
@@ -86,11 +86,11 @@ head-encoded last FL rest f =
 head-encoded last (WZ at len) rest f =
     let xs = headBytes zerosMark at len rest in
     let l = head-long zerosMark at len rest in
-    write-back zerosMark at len rest last zeros (f .0) (f .1) ∙ zeros-at last xs zerosMark (omega arith) (sym (mark-back zerosMark at len rest (lit< tt))) refl
+    write-back zerosMark at len rest last zerosKind (f .0) (f .1) ∙ zeros-at last xs zerosMark (omega arith) (sym (mark-back zerosMark at len rest (lit< tt))) refl
 head-encoded last (WB at bs) rest f = block-head last at (length bs) (bs ++ rest) (f .0) (f .1)
 
 -- The head of a written record is read back, whatever follows it.
-pub head-back : (last : Bool) (w : Record) (rest : List ℕ) → fits w → headOf w ≡ decodeDef last (recordBytes w ++ rest)
+pub head-back : (last : Bool) (w : Record) (rest : List ℕ) → RecordFits w → headSaid w ≡ decodeDef last (recordBytes w ++ rest)
 head-back last w rest f = head-encoded last w rest f ∙ ap (decodeDef last) (record-encoded w rest)
 
 -- ---- behind the head
@@ -123,24 +123,24 @@ module _ (mark at len : ℕ) where
       let e : 18 + i ≡ length head18 + i = let l = long18 in omega arith in
       ap₂ (λ (k : ℕ) (xs : List ℕ). take k xs) e (head-apart rest) ∙ take-append-add head18 rest i ∙ sym (head-apart (take i rest))
 
-behind-encoded : (w : Record) (rest : List ℕ) → drop (headOf w .size) (encoded w rest) ≡ bytesOf w ++ rest
+behind-encoded : (w : Record) (rest : List ℕ) → drop (headSaid w .size) (encoded w rest) ≡ payloadOf w ++ rest
 behind-encoded FL rest = drop-at (beBytes 2 flushMark) rest 2 (length-be 2 flushMark)
 behind-encoded (WZ at len) rest = rest-of-head zerosMark at len rest
 behind-encoded (WB at bs) rest = rest-of-head bytesMark at (length bs) (bs ++ rest)
 
 -- Behind its head stand a record's bytes, and then the rest of the list.
-pub behind-head : (w : Record) (rest : List ℕ) → drop (headOf w .size) (recordBytes w ++ rest) ≡ bytesOf w ++ rest
-behind-head w rest = ap (drop (headOf w .size)) (sym (record-encoded w rest)) ∙ behind-encoded w rest
+pub behind-head : (w : Record) (rest : List ℕ) → drop (headSaid w .size) (recordBytes w ++ rest) ≡ payloadOf w ++ rest
+behind-head w rest = ap (drop (headSaid w .size)) (sym (record-encoded w rest)) ∙ behind-encoded w rest
 
-pub bytes-back : (w : Record) (rest : List ℕ) → take (length (bytesOf w)) (drop (headOf w .size) (recordBytes w ++ rest)) ≡ bytesOf w
-bytes-back w rest = ap (take (length (bytesOf w))) (behind-head w rest) ∙ take-at (bytesOf w) rest (length (bytesOf w)) refl
+pub bytes-back : (w : Record) (rest : List ℕ) → take (length (payloadOf w)) (drop (headSaid w .size) (recordBytes w ++ rest)) ≡ payloadOf w
+bytes-back w rest = ap (take (length (payloadOf w))) (behind-head w rest) ∙ take-at (payloadOf w) rest (length (payloadOf w)) refl
 
-pub next-back : (w : Record) (rest : List ℕ) → drop (length (bytesOf w)) (drop (headOf w .size) (recordBytes w ++ rest)) ≡ rest
-next-back w rest = ap (drop (length (bytesOf w))) (behind-head w rest) ∙ drop-at (bytesOf w) rest (length (bytesOf w)) refl
+pub next-back : (w : Record) (rest : List ℕ) → drop (length (payloadOf w)) (drop (headSaid w .size) (recordBytes w ++ rest)) ≡ rest
+next-back w rest = ap (drop (length (payloadOf w))) (behind-head w rest) ∙ drop-at (payloadOf w) rest (length (payloadOf w)) refl
 
 -- ---- a part of a head
 -- The mark is cut.
-pub mark-cut : (last : Bool) (n : ℕ) (xs : List ℕ) → n < 2 → n ≤ length xs → cut last ≡ decodeDef last (take n xs)
+pub mark-cut : (last : Bool) (n : ℕ) (xs : List ℕ) → n < 2 → n ≤ length xs → headCut last ≡ decodeDef last (take n xs)
 mark-cut last n xs h l =
     let e = length-take-le n xs l in
     no-mark last (take n xs) (omega arith)
@@ -157,30 +157,30 @@ module _ (last : Bool) (n at len : ℕ) (rest : List ℕ) (two : 2 ≤ n) (few :
       let xs = headBytes mark at len rest in
       sym (at-part 2 0 (take n xs) ∙ ap (beAt 2 0) (take-take 2 n xs two) ∙ sym (at-part 2 0 xs) ∙ mark-back mark at len rest h)
 
-  zeros-cut : cut last ≡ decodeDef last (take n (headBytes zerosMark at len rest))
+  zeros-cut : headCut last ≡ decodeDef last (take n (headBytes zerosMark at len rest))
   zeros-cut =
       let xs = take n (headBytes zerosMark at len rest) in
       let e = shorter zerosMark in
-      write-cut last zeros xs (omega arith) ∙ zeros-at last xs zerosMark (omega arith) (mark-kept zerosMark (lit< tt)) refl
+      write-cut last zerosKind xs (omega arith) ∙ zeros-at last xs zerosMark (omega arith) (mark-kept zerosMark (lit< tt)) refl
 
-  bytes-cut : cut last ≡ decodeDef last (take n (headBytes bytesMark at len rest))
+  bytes-cut : headCut last ≡ decodeDef last (take n (headBytes bytesMark at len rest))
   bytes-cut =
       let xs = take n (headBytes bytesMark at len rest) in
       let e = shorter bytesMark in
       write-cut last bytes xs (omega arith) ∙ bytes-at last xs bytesMark (omega arith) (mark-kept bytesMark (lit< tt)) refl
 
-write-head-cut : (last : Bool) (w : Record) (n : ℕ) (rest : List ℕ) → 2 ≤ n → n < headOf w .size → cut last ≡ decodeDef last (take n (encoded w rest))
+write-head-cut : (last : Bool) (w : Record) (n : ℕ) (rest : List ℕ) → 2 ≤ n → n < headSaid w .size → headCut last ≡ decodeDef last (take n (encoded w rest))
 write-head-cut last FL n rest two few = absurd (omega arith)
 write-head-cut last (WZ at len) n rest two few = zeros-cut last n at len rest two few
 write-head-cut last (WB at bs) n rest two few = bytes-cut last n at (length bs) (bs ++ rest) two few
 
 -- A part of a write's head is refused where the list ends with it, and asks for more elsewhere.
-pub head-cut : (last : Bool) (w : Record) (n : ℕ) (rest : List ℕ) → 2 ≤ n → n < headOf w .size → cut last ≡ decodeDef last (take n (recordBytes w ++ rest))
+pub head-cut : (last : Bool) (w : Record) (n : ℕ) (rest : List ℕ) → 2 ≤ n → n < headSaid w .size → headCut last ≡ decodeDef last (take n (recordBytes w ++ rest))
 head-cut last w n rest two few = write-head-cut last w n rest two few ∙ ap (λ (xs : List ℕ). decodeDef last (take n xs)) (record-encoded w rest)
 
 -- A block's head stands whole before a part of its bytes.
-pub bytes-cut-head : (at i : ℕ) (bs rest : List ℕ) → fits (WB at bs) → i < length bs
-    → (headOf (WB at bs) ≡ decodeDef true (take (18 + i) (recordBytes (WB at bs) ++ rest))) × (length (drop 18 (take (18 + i) (recordBytes (WB at bs) ++ rest))) ≡ i)
+pub bytes-cut-head : (at i : ℕ) (bs rest : List ℕ) → RecordFits (WB at bs) → i < length bs
+    → (headSaid (WB at bs) ≡ decodeDef true (take (18 + i) (recordBytes (WB at bs) ++ rest))) × (length (drop 18 (take (18 + i) (recordBytes (WB at bs) ++ rest))) ≡ i)
 bytes-cut-head at i bs rest f h =
     let zs = bs ++ rest in
     let l = length-append bs rest in

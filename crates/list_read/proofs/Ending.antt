@@ -12,20 +12,20 @@ use borrow.Author.Tests.{leb-true, leb-false, eqb-true, eqb-false, le-leb, lt-le
 use Rattle.seqs.specs.Lists.{total}
 use Rattle.seqs.proofs.Laws.{total-append}
 use Rattle.list_records.specs.Records.{Record, WZ, WB, FL, byKind, flushes}
-use Rattle.list_read.specs.Records.{flush, zeros, bytes, headOf}
-use Rattle.list_read.specs.Flushes.{passed, behind, nextDef, endedDef, ruled, WholeList}
+use Rattle.list_read.specs.Records.{flush, zerosKind, bytes, headSaid}
+use Rattle.list_read.specs.Flushes.{flushesPassed, flushMissing, nextDef, endedDef, ruled, WholeList}
 
 -- ---- record by record
 module _ (n kind : ℕ) where
-  pub none-behind : 2 ≤ n → behind ≡ nextDef n kind
+  pub none-behind : 2 ≤ n → flushMissing ≡ nextDef n kind
   unfolding nextDef
   none-behind h = rw (le-leb 2 n h) refl
 
-  pub one-more : n < 2 → kind ≡ flush → passed (n + 1) ≡ nextDef n kind
+  pub one-more : n < 2 → kind ≡ flush → flushesPassed (n + 1) ≡ nextDef n kind
   unfolding nextDef
   one-more h e = rw (lt-leb 2 n h, eq-eqb kind flush e) refl
 
-  pub as-many : n < 2 → (kind ≡ flush → ⊥) → passed n ≡ nextDef n kind
+  pub as-many : n < 2 → (kind ≡ flush → ⊥) → flushesPassed n ≡ nextDef n kind
   unfolding nextDef
   as-many h e = rw (lt-leb 2 n h, ne-eqb kind flush e) refl
 
@@ -42,12 +42,12 @@ module _ (n : ℕ) where
 -- A record behind the second flush is refused; before it, the rest of the list decides.
 more-refused : (n : ℕ) (w : Record) (ws : List Record) → 2 ≤ n → 28 ≡ ruled n (w ∷ ws)
 unfolding ruled
-more-refused n w ws h = rw (← none-behind n (headOf w .kind) h) refl
+more-refused n w ws h = rw (← none-behind n (headSaid w .kind) h) refl
 
 -- before it every record may stand, and a flush is counted
-pub let-by : (n : ℕ) (w : Record) → n < 2 → passed (n + byKind 0 0 1 w) ≡ nextDef n (headOf w .kind)
+pub let-by : (n : ℕ) (w : Record) → n < 2 → flushesPassed (n + byKind 0 0 1 w) ≡ nextDef n (headSaid w .kind)
 let-by n FL h = one-more n flush h refl
-let-by n (WZ at len) h = rw add-zero (as-many n zeros h (λ e. omega arith))
+let-by n (WZ at len) h = rw add-zero (as-many n zerosKind h (λ e. omega arith))
 let-by n (WB at bs) h = rw add-zero (as-many n bytes h (λ e. omega arith))
 
 goes-on : (n : ℕ) (w : Record) (ws : List Record) → n < 2 → ruled (n + byKind 0 0 1 w) ws ≡ ruled n (w ∷ ws)

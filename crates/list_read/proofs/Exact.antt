@@ -17,9 +17,9 @@ use Rattle.endian.proofs.Widths.{be-last}
 use Rattle.seqs.specs.Lists.{both, choose}
 use Rattle.list_records.specs.Records.{Record, WZ, WB, FL, recordBytes, listBytes}
 use Rattle.list_read.specs.declared.Decoded.{Decoded}
-use Rattle.list_read.specs.Records.{flushMark, zerosMark, bytesMark, flush, zeros, bytes, head, refused, write, decodeDef, headOf, fits}
+use Rattle.list_read.specs.Records.{flushMark, zerosMark, bytesMark, flush, zerosKind, bytes, head, headRefused, writeHead, decodeDef, headSaid, RecordFits}
 use Rattle.list_read.specs.Flushes.{nextDef, endedDef, ruled, WholeList}
-use Rattle.list_read.specs.Whole.{recordOf, own, ListRead, stopped, followed, readFrom, readList, allFit, readAs}
+use Rattle.list_read.specs.Whole.{recordOf, own, ListRead, readStopped, readBefore, readFrom, readList, allFit, wholeList}
 use Rattle.list_read.proofs.Ending.{whole-list}
 use Rattle.list_read.proofs.Encoded.{record-encoded}
 use Rattle.list_read.proofs.WholeList.{list-back}
@@ -71,8 +71,8 @@ module _ (xs : List ℕ) (o : Octets xs) where
 
   -- ---- the record that a head gives: its kind, its numbers, and the bytes that it was read from
   record Read (d : Decoded) : Type 0 where
-    kind : headOf (recordOf d (drop (d .size) xs)) .kind ≡ d .kind
-    fit : fits (recordOf d (drop (d .size) xs))
+    kind : headSaid (recordOf d (drop (d .size) xs)) .kind ≡ d .kind
+    fit : RecordFits (recordOf d (drop (d .size) xs))
     back : recordBytes (recordOf d (drop (d .size) xs)) ++ drop (own d) (drop (d .size) xs) ≡ xs
 
   read-flush : 2 ≤ length xs → mark ≡ flushMark → Read (head flush 0 0 2)
@@ -84,7 +84,7 @@ module _ (xs : List ℕ) (o : Octets xs) where
         back = sym (record-encoded FL (drop 2 xs)) ∙ ap (λ (m : ℕ). beBytes 2 m ++ drop 2 xs) (sym e) ∙ mark-joined h;
       }
 
-  read-zeros : 18 ≤ length xs → mark ≡ zerosMark → Read (head zeros offset size 18)
+  read-zeros : 18 ≤ length xs → mark ≡ zerosMark → Read (head zerosKind offset size 18)
   unfolding recordOf own
   read-zeros h e =
       record {
@@ -112,7 +112,7 @@ module _ (xs : List ℕ) (o : Octets xs) where
 
   abbrev byTests : Bool → Bool → Bool → Bool → Bool → Decoded
   byTests a l f z b =
-      choose a (choose f (head flush 0 0 2) (choose z (choose l (head zeros offset size 18) refused) (choose b (choose l (head bytes offset size 18) refused) refused))) refused
+      choose a (choose f (head flush 0 0 2) (choose z (choose l (head zerosKind offset size 18) headRefused) (choose b (choose l (head bytes offset size 18) headRefused) headRefused))) headRefused
 
   read-by : (a l f z b : Bool) → leb 2 (length xs) ≡ a → leb 18 (length xs) ≡ l → eqb mark flushMark ≡ f → eqb mark zerosMark ≡ z → eqb mark bytesMark ≡ b
       → byTests a l f z b .number ≡ 0 → own (byTests a l f z b) ≤ length (drop (byTests a l f z b .size) xs) → Read (byTests a l f z b)
@@ -126,7 +126,7 @@ module _ (xs : List ℕ) (o : Octets xs) where
   read-by true l false false false p q r s t e h = absurd (omega arith)
 
   decoded-read : decodeDef true xs .number ≡ 0 → own (decodeDef true xs) ≤ length (drop (decodeDef true xs .size) xs) → Read (decodeDef true xs)
-  unfolding decodeDef write
+  unfolding decodeDef writeHead
   decoded-read = read-by (leb 2 (length xs)) (leb 18 (length xs)) (eqb mark flushMark) (eqb mark zerosMark) (eqb mark bytesMark) refl refl refl refl refl
 
 -- ---- all that were read
@@ -155,13 +155,13 @@ module _ (most n : ℕ) (xs : List ℕ) (o : Octets xs)
 
   abbrev byCase : Bool → Bool → ListRead
   byCase a b =
-      choose a (stopped (endedDef n))
-      (choose b (followed (recordOf d (drop (d .size) xs)) (readFrom most (nextDef n (d .kind) .flushes) rest)) (stopped 28))
+      choose a (readStopped (endedDef n))
+      (choose b (readBefore (recordOf d (drop (d .size) xs)) (readFrom most (nextDef n (d .kind) .flushes) rest)) (readStopped 28))
 
   octets-rest : Octets rest
   octets-rest i = rw (getD-drop (own d) (drop (d .size) xs) i 0, getD-drop (d .size) xs (own d + i) 0) (o (d .size + (own d + i)))
 
-  rule-on : (w : Record) (ws : List Record) → headOf w .kind ≡ d .kind → nextDef n (d .kind) .number ≡ 0 → ruled (nextDef n (d .kind) .flushes) ws ≡ 0 → ruled n (w ∷ ws) ≡ 0
+  rule-on : (w : Record) (ws : List Record) → headSaid w .kind ≡ d .kind → nextDef n (d .kind) .number ≡ 0 → ruled (nextDef n (d .kind) .flushes) ws ≡ 0 → ruled n (w ∷ ws) ≡ 0
   unfolding ruled
   rule-on w ws e z r = rw (e, z) r
 
@@ -188,7 +188,7 @@ from-read (suc most) n xs o e = from-case most n xs o (from-read most) (eqb (len
 
 -- BYTES ARE READ AS A WHOLE LIST EXACTLY WHERE THEY ARE THE BYTES OF ITS RECORDS, which fit and of which the second flush is the last
 module _ (xs : List ℕ) (o : Octets xs) (ws : List Record) where
-  is-read : readList xs ≡ readAs ws → WholeList ws × (allFit ws × (listBytes ws ≡ xs))
+  is-read : readList xs ≡ wholeList ws → WholeList ws × (allFit ws × (listBytes ws ≡ xs))
   unfolding readList
   is-read e =
       let v = from-read (suc (length xs)) 0 xs o (ap (λ (r : ListRead). r .number) e) in
@@ -196,5 +196,5 @@ module _ (xs : List ℕ) (o : Octets xs) (ws : List Record) where
       let u : Written 0 xs ws = rw r at v in
       (whole-list ws .0 (u .rule), (u .fit, u .back))
 
-  pub list-exact : (readList xs ≡ readAs ws) ↔ (WholeList ws × (allFit ws × (listBytes ws ≡ xs)))
+  pub list-exact : (readList xs ≡ wholeList ws) ↔ (WholeList ws × (allFit ws × (listBytes ws ≡ xs)))
   list-exact = (is-read, λ h. ap readList (sym (h .1 .1)) ∙ list-back ws (h .1 .0) (h .0))

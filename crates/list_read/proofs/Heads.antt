@@ -7,25 +7,25 @@ use Prim.Native.Nat.{ℕ, _+_, _≤_, _<_}
 use lib.ListN.{length}
 use borrow.Author.Tests.{leb-true, le-leb, lt-leb, ne-eqb}
 use Rattle.endian.specs.Bytes.{beAt}
-use Rattle.list_read.specs.Records.{flushMark, zerosMark, bytesMark, flush, zeros, bytes, head, more, refused, cut, write, decodeDef, largest, withinDef}
+use Rattle.list_read.specs.Records.{flushMark, zerosMark, bytesMark, flush, zerosKind, bytes, head, headIncomplete, headRefused, headCut, writeHead, decodeDef, largestOffset, withinDef}
 
 -- ---- too few bytes
-pub cut-more : (last : Bool) → last ≡ false → more ≡ cut last
+pub cut-more : (last : Bool) → last ≡ false → headIncomplete ≡ headCut last
 cut-more last e = rw e refl
 
 -- ---- a write's head
 module _ (last : Bool) (kind : ℕ) (xs : List ℕ) where
-  pub write-cut : length xs < 18 → cut last ≡ write last kind xs
-  unfolding write
+  pub write-cut : length xs < 18 → headCut last ≡ writeHead last kind xs
+  unfolding writeHead
   write-cut h = rw (lt-leb 18 (length xs) h) refl
 
-  pub write-held : (at len : ℕ) → 18 ≤ length xs → at ≡ beAt 8 2 xs → len ≡ beAt 8 10 xs → head kind at len 18 ≡ write last kind xs
-  unfolding write
+  pub write-held : (at len : ℕ) → 18 ≤ length xs → at ≡ beAt 8 2 xs → len ≡ beAt 8 10 xs → head kind at len 18 ≡ writeHead last kind xs
+  unfolding writeHead
   write-held at len h d e = rw (le-leb 18 (length xs) h, d, e) refl
 
 -- ---- by the mark
 module _ (last : Bool) (xs : List ℕ) where
-  pub no-mark : length xs < 2 → cut last ≡ decodeDef last xs
+  pub no-mark : length xs < 2 → headCut last ≡ decodeDef last xs
   unfolding decodeDef
   no-mark h = rw (lt-leb 2 (length xs) h) refl
 
@@ -34,28 +34,28 @@ module _ (last : Bool) (xs : List ℕ) where
     unfolding decodeDef
     flush-at e = rw (le-leb 2 (length xs) room, ← mark, e) refl
 
-    pub zeros-at : m ≡ zerosMark → write last zeros xs ≡ decodeDef last xs
+    pub zeros-at : m ≡ zerosMark → writeHead last zerosKind xs ≡ decodeDef last xs
     unfolding decodeDef
     zeros-at e = rw (le-leb 2 (length xs) room, ← mark, e) refl
 
-    pub bytes-at : m ≡ bytesMark → write last bytes xs ≡ decodeDef last xs
+    pub bytes-at : m ≡ bytesMark → writeHead last bytes xs ≡ decodeDef last xs
     unfolding decodeDef
     bytes-at e = rw (le-leb 2 (length xs) room, ← mark, e) refl
 
-    pub unknown-at : (m ≡ flushMark → ⊥) → (m ≡ zerosMark → ⊥) → (m ≡ bytesMark → ⊥) → refused ≡ decodeDef last xs
+    pub unknown-at : (m ≡ flushMark → ⊥) → (m ≡ zerosMark → ⊥) → (m ≡ bytesMark → ⊥) → headRefused ≡ decodeDef last xs
     unfolding decodeDef
     unknown-at a b c = rw (le-leb 2 (length xs) room, ← mark, ne-eqb m flushMark a, ne-eqb m zerosMark b, ne-eqb m bytesMark c) refl
 
 -- ---- where a write ends
 module _ (at len : ℕ) where
-  pub ends-within : at + len ≤ largest → true ≡ withinDef at len
+  pub ends-within : at + len ≤ largestOffset → true ≡ withinDef at len
   unfolding withinDef
-  ends-within h = sym (le-leb (at + len) largest h)
+  ends-within h = sym (le-leb (at + len) largestOffset h)
 
-  pub ends-past : largest < at + len → false ≡ withinDef at len
+  pub ends-past : largestOffset < at + len → false ≡ withinDef at len
   unfolding withinDef
-  ends-past h = sym (lt-leb (at + len) largest h)
+  ends-past h = sym (lt-leb (at + len) largestOffset h)
 
-  pub within-end : withinDef at len ≡ true → at + len ≤ largest
+  pub within-end : withinDef at len ≡ true → at + len ≤ largestOffset
   unfolding withinDef
-  within-end e = leb-true (at + len) largest e
+  within-end e = leb-true (at + len) largestOffset e

@@ -8,19 +8,19 @@ use Rattle.refusals.specs.Numbers.{malformed}
 use Rattle.seqs.specs.Lists.{choose}
 use Rattle.list_records.specs.Records.{Record, FL, flushes}
 use Rattle.list_read.specs.declared.Passed.{Passed}
-use Rattle.list_read.specs.Records.{flush, headOf}
+use Rattle.list_read.specs.Records.{flush, headSaid}
 
 -- ---- record by record
 
-abbrev pub passed : ℕ → Passed
-passed n = record { number = 0; flushes = n }
+abbrev pub flushesPassed : ℕ → Passed
+flushesPassed n = record { number = 0; flushes = n }
 
-abbrev pub behind : Passed
-behind = record { number = malformed; flushes = 0 }
+abbrev pub flushMissing : Passed
+flushMissing = record { number = malformed; flushes = 0 }
 
 -- A record of a list of which `n` flushes are past: a flush is one more; a record behind the second is malformed.
 unfoldable pub nextDef : ℕ → ℕ → Passed
-nextDef n kind = choose (leb 2 n) behind (passed (choose (eqb kind flush) (n + 1) n))
+nextDef n kind = choose (leb 2 n) flushMissing (flushesPassed (choose (eqb kind flush) (n + 1) n))
 
 -- The list ends, and is cut unless two flushes are past.
 unfoldable pub endedDef : ℕ → ℕ
@@ -30,7 +30,7 @@ endedDef n = choose (eqb n 2) 0 malformed
 unfoldable pub ruled : ℕ → List Record → ℕ
 ruled n [] = endedDef n
 ruled n (w ∷ ws) =
-    let p = nextDef n (headOf w .kind) in
+    let p = nextDef n (headSaid w .kind) in
     choose (eqb (p .number) 0) (ruled (p .flushes) ws) (p .number)
 
 -- ---- of a whole list

@@ -1,7 +1,7 @@
 // The written records, read back: the head of each, where its write ends, and where the list ends. A list is read in parts, so an answer
 // also says that more bytes are needed.
 ghost use mathlib.Core.Path.{_≡_};
-ghost use Rattle.list_read.specs.Records.{cut, refused, write, decodeDef, withinDef};
+ghost use Rattle.list_read.specs.Records.{headCut, headRefused, writeHead, decodeDef, withinDef};
 ghost use Rattle.list_read.specs.Flushes.{nextDef, endedDef};
 use list_records::BLOCK_MARK;
 use list_records::FLUSH_MARK;
@@ -40,7 +40,7 @@ pub struct Passed {
 }
 
 fn malformed() -> Decoded
-    ensures { λ r. ⌜ r ≡ refused ⌝ }
+    ensures { λ r. ⌜ r ≡ headRefused ⌝ }
 {
     Decoded {
         number: refusals::MALFORMED,
@@ -53,7 +53,7 @@ fn malformed() -> Decoded
 
 // Too few bytes for a head: the list is cut if it ends with them.
 fn too_few(last: bool) -> Decoded
-    ensures { λ r. ⌜ r ≡ cut last ⌝ }
+    ensures { λ r. ⌜ r ≡ headCut last ⌝ }
 {
     if last {
         return malformed();
@@ -69,7 +69,7 @@ fn too_few(last: bool) -> Decoded
 
 // The head of a write.
 fn write_head(bytes: &[u8], last: bool, kind: u8) -> Decoded
-    ensures { λ r. ⌜ r ≡ write last kind (now (bytes .entry)) ⌝ }
+    ensures { λ r. ⌜ r ≡ writeHead last kind (now (bytes .entry)) ⌝ }
 {
     if bytes.len() < HEAD_SIZE {
         return too_few(last);

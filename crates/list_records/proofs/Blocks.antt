@@ -7,7 +7,7 @@ use Prim.Native.Nat.{ℕ, zero, suc, _+_, _*_, _≤_}
 use native.Mathlib.Omega.{arith}
 use lib.ListN.{length, drop, length-drop}
 use lib.Seq.{length-take-le}
-use Rattle.list_records.specs.Records.{Record, OneBlock, All, Member, Among, blocks}
+use Rattle.list_records.specs.Records.{Record, OneBlock, All, Member, Among, blockRecords}
 
 -- ---- all of a list
 
@@ -35,8 +35,8 @@ among-all q ws rs a m = all-map (Member ws) q rs (λ r. one-all q ws r a) m
 
 -- ---- a write split into n blocks, with bytes enough for them
 
-pub blocks-whole : (bs offset n : ℕ) (bytes : List ℕ) → n * bs ≤ length bytes → All (OneBlock bs) (blocks bs offset n bytes)
-unfolding blocks
+pub blocks-whole : (bs offset n : ℕ) (bytes : List ℕ) → n * bs ≤ length bytes → All (OneBlock bs) (blockRecords bs offset n bytes)
+unfolding blockRecords
 blocks-whole bs offset zero bytes h = tt
 blocks-whole bs offset (suc n) bytes h = (
   length-take-le bs bytes (omega arith),

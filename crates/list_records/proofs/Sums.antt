@@ -6,13 +6,13 @@ use Prim.Native.Nat.{ℕ, zero, suc, _+_, _*_, _≤_}
 use native.Mathlib.Omega.{arith}
 use lib.ListN.{length, drop}
 use Rattle.seqs.specs.Lists.{total}
-use Rattle.list_records.specs.Records.{Record, WZ, WB, FL, OneBlock, All, blocks, listBytes, byKind, blockWrites, payload}
+use Rattle.list_records.specs.Records.{Record, WZ, WB, FL, OneBlock, All, blockRecords, listBytes, byKind, blockWrites, payload}
 use Rattle.list_records.proofs.Blocks.{blocks-whole}
 use Rattle.list_records.proofs.Sizes.{zeros-bytes, block-bytes, flush-bytes, list-nil, list-cons}
 
 -- all records of a split write are blocks
-pub blocks-total : (z b f bs offset n : ℕ) (bytes : List ℕ) → total (byKind z b f) (blocks bs offset n bytes) ≡ n * b
-unfolding total blocks
+pub blocks-total : (z b f bs offset n : ℕ) (bytes : List ℕ) → total (byKind z b f) (blockRecords bs offset n bytes) ≡ n * b
+unfolding total blockRecords
 blocks-total z b f bs offset zero bytes = omega arith
 blocks-total z b f bs offset (suc n) bytes = let h = blocks-total z b f bs (offset + bs) n (drop bs bytes) in omega arith
 
@@ -43,5 +43,5 @@ module _ (bs : ℕ) where
   bytes-total (FL ∷ rs) a = let h = bytes-total rs (a .1) in omega (arith, list-cons FL rs, flush-bytes)
 
   -- and those of a split write
-  pub blocks-bytes : (offset n : ℕ) (bytes : List ℕ) → n * bs ≤ length bytes → length (listBytes (blocks bs offset n bytes)) ≡ n * (18 + bs)
-  blocks-bytes offset n bytes l = bytes-total (blocks bs offset n bytes) (blocks-whole bs offset n bytes l) ∙ blocks-total 18 (18 + bs) 2 bs offset n bytes
+  pub blocks-bytes : (offset n : ℕ) (bytes : List ℕ) → n * bs ≤ length bytes → length (listBytes (blockRecords bs offset n bytes)) ≡ n * (18 + bs)
+  blocks-bytes offset n bytes l = bytes-total (blockRecords bs offset n bytes) (blocks-whole bs offset n bytes l) ∙ blocks-total 18 (18 + bs) 2 bs offset n bytes

@@ -30,13 +30,13 @@ byte (WB offset bytes) i = getD bytes i 0
 byte FL i = 0
 
 -- one record applied: it decides each offset that it covers, elsewhere the device stays
-unfoldable pub step : Record → Device → Device
-step r d x = choose (both (leb (at r) x) (ltb x (at r + len r))) (byte r (x - at r)) (d x)
+unfoldable pub stepRecord : Record → Device → Device
+stepRecord r d x = choose (both (leb (at r) x) (ltb x (at r + len r))) (byte r (x - at r)) (d x)
 
 -- all of a list, in order
 unfoldable pub applied : List Record → Device → Device
 applied [] d = d
-applied (r ∷ rs) d = applied rs (step r d)
+applied (r ∷ rs) d = applied rs (stepRecord r d)
 
 -- the n bytes from an offset on
 unfoldable pub read : Device → ℕ → ℕ → List ℕ
@@ -50,8 +50,8 @@ abbrev pub Misses : ℕ → ℕ → Record → Type 0
 Misses off n r = (x : ℕ) → off ≤ x → x < off + n → at r ≤ x → x < at r + len r → ⊥
 
 -- it begins at a multiple of the block size and ends inside a device of so many bytes
-abbrev pub Fits : ℕ → ℕ → Record → Type 0
-Fits bs device r = (at r % bs ≡ 0) × (at r + len r ≤ device)
+abbrev pub InsideDevice : ℕ → ℕ → Record → Type 0
+InsideDevice bs device r = (at r % bs ≡ 0) × (at r + len r ≤ device)
 
 -- the first begins at an offset, and each other where the one before it ends
 abbrev pub Rising : ℕ → List Record → Type 0

@@ -26,9 +26,9 @@ listBytes [] = []
 listBytes (r ∷ rs) = recordBytes r ++ listBytes rs
 
 -- a longer write is split into its n blocks of bs bytes, rising
-unfoldable pub blocks : ℕ → ℕ → ℕ → List ℕ → List Record
-blocks bs offset zero bytes = []
-blocks bs offset (suc n) bytes = WB offset (take bs bytes) ∷ blocks bs (offset + bs) n (drop bs bytes)
+unfoldable pub blockRecords : ℕ → ℕ → ℕ → List ℕ → List Record
+blockRecords bs offset zero bytes = []
+blockRecords bs offset (suc n) bytes = WB offset (take bs bytes) ∷ blockRecords bs (offset + bs) n (drop bs bytes)
 
 -- a record of zeros, a flush, or one block of bs bytes
 abbrev pub OneBlock : ℕ → Record → Type 0

@@ -9,7 +9,7 @@ use lib.ListN.{length}
 use borrow.Author.Tests.{lt-leb, le-leb, lt-ltb, le-ltb}
 use Rattle.seqs.specs.Lists.{choose}
 use Rattle.endian.specs.Bytes.{beAt}
-use Rattle.list_sector.specs.Sector.{blockIn, isFirst, sectorBehind, sectorIn, belowLogical}
+use Rattle.list_sector.specs.Sector.{blockIn, beginsSuperblock, sectorBehind, sectorIn, belowLogical}
 
 module _ (n : ℕ) (xs : List ℕ) where
   pub block-too-long : 16384 < n → 0 ≡ sectorBehind n xs
@@ -22,11 +22,11 @@ module _ (n : ℕ) (xs : List ℕ) where
     cut-before h = rw (le-leb n 16384 l, lt-leb (194 + n) (length xs) h) refl
 
     module _ (m : 194 + n ≤ length xs) where
-      pub said : isFirst n xs ≡ true → (r : ℕ) → r ≡ beAt 2 (192 + n) xs → r ≡ sectorBehind n xs
+      pub said : beginsSuperblock n xs ≡ true → (r : ℕ) → r ≡ beAt 2 (192 + n) xs → r ≡ sectorBehind n xs
       unfolding sectorBehind
       said t r e = rw (le-leb n 16384 l, le-leb (194 + n) (length xs) m, t) e
 
-      pub unsaid : isFirst n xs ≡ false → 0 ≡ sectorBehind n xs
+      pub unsaid : beginsSuperblock n xs ≡ false → 0 ≡ sectorBehind n xs
       unfolding sectorBehind
       unsaid t = rw (le-leb n 16384 l, le-leb (194 + n) (length xs) m, t) refl
 

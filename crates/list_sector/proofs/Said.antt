@@ -13,7 +13,7 @@ use Rattle.endian.specs.Bytes.{beBytes, beAt}
 use Rattle.endian.proofs.Laws.{length-be}
 use Rattle.endian.proofs.Fields.{at-part, at-written}
 use Rattle.list_records.specs.Records.{Record, WZ, WB, recordBytes, listBytes}
-use Rattle.list_sector.specs.Sector.{bytesMark, magic, isFirst, sectorBehind, sectorIn}
+use Rattle.list_sector.specs.Sector.{bytesMark, magic, beginsSuperblock, sectorBehind, sectorIn}
 use Rattle.list_sector.proofs.Laws.{said, long-enough}
 
 -- a number behind some bytes
@@ -85,8 +85,8 @@ module _ (pre log sb rest : List ℕ) (o : ℕ) (p : length pre ≡ 54) (short :
   unfolding n
   block-said = sym (in-log 8 10 ∙ length-here o log first (omega arith))
 
-  is-first : beAt 4 0 (sb ++ rest) ≡ magic → isFirst n all ≡ true
-  unfolding isFirst first
+  is-first : beAt 4 0 (sb ++ rest) ≡ magic → beginsSuperblock n all ≡ true
+  unfolding beginsSuperblock first
   is-first m =
       let a : beAt 2 54 all ≡ bytesMark = in-log 2 0 ∙ mark-first o log first in
       let z : 72 + n + 0 ≡ 72 + n = omega arith in

@@ -22,13 +22,13 @@ abbrev pub blockIn : List ℕ → ℕ
 blockIn xs = beAt 8 64 xs
 
 -- behind a block of n bytes stands a record of bytes for the offset 0 that begins with a superblock
-unfoldable pub isFirst : ℕ → List ℕ → Bool
-isFirst n xs =
+unfoldable pub beginsSuperblock : ℕ → List ℕ → Bool
+beginsSuperblock n xs =
     (eqb (beAt 2 54 xs) bytesMark && eqb (beAt 2 (72 + n) xs) bytesMark) && (eqb (beAt 8 (74 + n) xs) 0 && eqb (beAt 4 (90 + n) xs) magic)
 
 -- sb_sectsize of that superblock, 102 bytes behind its start; 0 where it isn't there
 unfoldable pub sectorBehind : ℕ → List ℕ → ℕ
-sectorBehind n xs = choose (leb n 16384 && leb (194 + n) (length xs)) (choose (isFirst n xs) (beAt 2 (192 + n) xs) 0) 0
+sectorBehind n xs = choose (leb n 16384 && leb (194 + n) (length xs)) (choose (beginsSuperblock n xs) (beAt 2 (192 + n) xs) 0) 0
 
 -- the sector size that the bytes say, 0 where they say none
 unfoldable pub sectorIn : List ℕ → ℕ

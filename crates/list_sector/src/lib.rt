@@ -3,7 +3,7 @@ ghost use mathlib.Core.Path.{_≡_};
 ghost use Prim.Native.Nat.{_+_, _≤_};
 ghost use lib.ListN.{length};
 ghost use Rattle.endian.specs.Bytes.{beAt};
-ghost use Rattle.list_sector.specs.Sector.{isFirst, sectorBehind, sectorIn, enough, belowLogical};
+ghost use Rattle.list_sector.specs.Sector.{beginsSuperblock, sectorBehind, sectorIn, enough, belowLogical};
 use arith::choice::both;
 use endian::be16;
 use endian::be32;
@@ -49,7 +49,7 @@ fn half_at(list: &[u8], off: usize) -> u32
 // Whether group 0's first block stands behind a block of n bytes.
 fn is_first(list: &[u8], n: usize) -> bool
     requires { ⌜ (n ≤ 16384) × (194 + n ≤ length (now list)) ⌝ }
-    ensures { λ r. ⌜ r ≡ isFirst n (now (list .entry)) ⌝ }
+    ensures { λ r. ⌜ r ≡ beginsSuperblock n (now (list .entry)) ⌝ }
 {
     let marks = both(
         half_at(list, 54) == BYTES_MARK,

@@ -6,14 +6,14 @@ use Prim.Native.Nat.{ℕ, zero, suc, _+_, _*_, _-_, _<_, min}
 use native.Mathlib.Omega.{arith}
 use lib.ListN.{take, drop}
 use Rattle.geometry_layout.specs.Places.{byteOf}
-use Rattle.list_records.specs.Records.{Record, WZ, WB, blocks}
+use Rattle.list_records.specs.Records.{Record, WZ, WB, blockRecords}
 use Rattle.run.specs.declared.Run.{Run}
 use Rattle.list_spec.specs.Listing.{whackSize, blocksEnd, tailStart, headBlocks, logOffset, logBlock, headWritten, opening, headRecords, headsTo, chunkRecords, closing, listOf}
 use Rattle.list_spec.proofs.Spans.{byte-sum}
 
 -- the first block of a write
-blocks-first : (bs offset n : ℕ) (bytes : List ℕ) → 0 < n → blocks bs offset n bytes ≡ WB offset (take bs bytes) ∷ blocks bs (offset + bs) (n - 1) (drop bs bytes)
-unfolding blocks
+blocks-first : (bs offset n : ℕ) (bytes : List ℕ) → 0 < n → blockRecords bs offset n bytes ≡ WB offset (take bs bytes) ∷ blockRecords bs (offset + bs) (n - 1) (drop bs bytes)
+unfolding blockRecords
 blocks-first bs offset zero bytes h = absurd (omega arith)
 blocks-first bs offset (suc n) bytes h = let e : suc n - 1 ≡ n = omega arith in rw e refl
 
@@ -35,7 +35,7 @@ module _ (run : Run) where
   -- its head's other blocks
   abbrev pub otherBlocks : List Record
   otherBlocks =
-      blocks (run .geometry .blocksize) (run .geometry .blocksize) (headBlocks (run .geometry) - 1)
+      blockRecords (run .geometry .blocksize) (run .geometry .blocksize) (headBlocks (run .geometry) - 1)
       (drop (run .geometry .blocksize) (headWritten (run .geometry) (run .uuid) 0))
 
   head-first : 0 < headBlocks (run .geometry) → headRecords run 0 ≡ WB 0 firstBlock ∷ otherBlocks
@@ -46,7 +46,7 @@ module _ (run : Run) where
       let z : 0 + bs ≡ bs = omega arith in
       let n = headBlocks (run .geometry) in
       let xs = headWritten (run .geometry) (run .uuid) 0 in
-      rw o (blocks-first bs 0 n xs h ∙ ap (λ (at : ℕ). WB 0 (take bs xs) ∷ blocks bs at (n - 1) (drop bs xs)) z)
+      rw o (blocks-first bs 0 n xs h ∙ ap (λ (at : ℕ). WB 0 (take bs xs) ∷ blockRecords bs at (n - 1) (drop bs xs)) z)
 
   -- the records behind it
   abbrev pub restOf : List Record

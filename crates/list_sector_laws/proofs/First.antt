@@ -11,7 +11,7 @@ use lib.Seq.{length-take-le, take-all, take-take}
 use borrow.Author.Tests.{leb-true, leb-false, le-leb, le-ltb}
 use Rattle.endian.specs.Bytes.{beAt}
 use Rattle.endian.proofs.Consecutive.{at-inside}
-use Rattle.list_sector.specs.Sector.{blockIn, isFirst, sectorBehind, sectorIn, enough}
+use Rattle.list_sector.specs.Sector.{blockIn, beginsSuperblock, sectorBehind, sectorIn, enough}
 
 -- a number inside bytes that two lists begin with is the same in both
 pub same-first : (n off size : ℕ) (xs ys : List ℕ) → take size xs ≡ take size ys → off + n ≤ size → beAt n off xs ≡ beAt n off ys
@@ -31,8 +31,8 @@ module _ (n : ℕ) (xs : List ℕ) (k : enough ≤ n) (l : n < length xs) where
   same : (w off : ℕ) → off + w ≤ n → beAt w off cut ≡ beAt w off xs
   same w off h = same-first w off n (take n xs) xs (take-take n n xs (omega arith)) h
 
-  same-test : (m : ℕ) → m ≤ 16384 → isFirst m cut ≡ isFirst m xs
-  unfolding isFirst
+  same-test : (m : ℕ) → m ≤ 16384 → beginsSuperblock m cut ≡ beginsSuperblock m xs
+  unfolding beginsSuperblock
   same-test m h = rw (same 2 54 (omega arith), same 2 (72 + m) (omega arith), same 8 (74 + m) (omega arith), same 4 (90 + m) (omega arith)) refl
 
   same-behind : (m : ℕ) (t : Bool) → leb m 16384 ≡ t → sectorBehind m cut ≡ sectorBehind m xs

@@ -24,7 +24,7 @@ use Rattle.structs.specs.Written.{Written}
 use Rattle.structs.proofs.Written.{written-in}
 use Rattle.list_send.specs.declared.Sending.{Sending as State}
 use Rattle.list_send.specs.declared.Sent.{Sent}
-use Rattle.list_send.specs.Sending.{sending, begun, nextOf, stepped, pieceOf, refused, wantedOf, sendNumber, unsent, sentDef, sentOn, Turn}
+use Rattle.list_send.specs.Sending.{sending, sendingBegun, nextChunk, sendingStepped, chunkPiece, sendingRefused, sendingWanted, sendNumber, unsent, sentDef, sentOn, Turn}
 
 -- ---- before the first chunk
 module _ (xs : List ℕ) (r : Request) (run : Run) (e : r ≡ parseDef xs) (f : run ≡ runOf r) where
@@ -32,30 +32,30 @@ module _ (xs : List ℕ) (r : Request) (run : Run) (e : r ≡ parseDef xs) (f : 
   unfolding accepted
   asked = sym (f ∙ ap runOf e)
 
-  pub begin-refused : (run .number ≡ 0 → ⊥) → sending run (r .device) 0 0 ≡ begun xs
-  unfolding begun
+  pub begin-refused : (run .number ≡ 0 → ⊥) → sending run (r .device) 0 0 ≡ sendingBegun xs
+  unfolding sendingBegun
   begin-refused h = rw (asked, ne-eqb (run .number) 0 h, e) refl
 
-  pub begin-ready : (c : Counted) → run .number ≡ 0 → c ≡ countAnswer run → sending run (r .device) (c .value) (c .value) ≡ begun xs
-  unfolding begun
+  pub begin-ready : (c : Counted) → run .number ≡ 0 → c ≡ countAnswer run → sending run (r .device) (c .value) (c .value) ≡ sendingBegun xs
+  unfolding sendingBegun
   begin-ready c z k = rw (asked, eq-eqb (run .number) 0 z, ← k, ← e) refl
 
 -- ---- what is wanted
 module _ (s : State) where
-  pub wants-refused : (s .run .number ≡ 0 → ⊥) → refused (s .run .number) ≡ wantedOf s
-  unfolding wantedOf
+  pub wants-refused : (s .run .number ≡ 0 → ⊥) → sendingRefused (s .run .number) ≡ sendingWanted s
+  unfolding sendingWanted
   wants-refused h = rw (ne-eqb (s .run .number) 0 h) refl
 
-  pub wants-none : s .run .number ≡ 0 → s .left ≡ 0 → refused noPlace ≡ wantedOf s
-  unfolding wantedOf
+  pub wants-none : s .run .number ≡ 0 → s .left ≡ 0 → sendingRefused noPlace ≡ sendingWanted s
+  unfolding sendingWanted
   wants-none z l = rw (z, l) refl
 
-  pub wants-chunk : (k : ℕ) (c : Counted) → s .run .number ≡ 0 → (s .left ≡ 0 → ⊥) → k ≡ nextOf s → c ≡ lengthAnswer (s .run) k → c ≡ wantedOf s
-  unfolding wantedOf
+  pub wants-chunk : (k : ℕ) (c : Counted) → s .run .number ≡ 0 → (s .left ≡ 0 → ⊥) → k ≡ nextChunk s → c ≡ lengthAnswer (s .run) k → c ≡ sendingWanted s
+  unfolding sendingWanted
   wants-chunk k c z l e f = f ∙ rw (z, ne-eqb (s .left) 0 l, e) refl
 
 -- ---- the number of a turn
-module _ (s : State) (work len : ℕ) (w : Counted) (is : w ≡ wantedOf s) where
+module _ (s : State) (work len : ℕ) (w : Counted) (is : w ≡ sendingWanted s) where
   pub not-wanted : (w .number ≡ 0 → ⊥) → sendNumber s work len ≡ w .number
   unfolding sendNumber
   not-wanted h = rw (← is, ne-eqb (w .number) 0 h) refl
@@ -64,7 +64,7 @@ module _ (s : State) (work len : ℕ) (w : Counted) (is : w ≡ wantedOf s) wher
   unfolding sendNumber
   too-short z h = rw (← is, z, lt-leb (w .value) len h) refl
 
-  pub as-written : w .number ≡ 0 → w .value ≤ len → sendNumber s work len ≡ writeNumber (s .run) (nextOf s) (w .value) work
+  pub as-written : w .number ≡ 0 → w .value ≤ len → sendNumber s work len ≡ writeNumber (s .run) (nextChunk s) (w .value) work
   unfolding sendNumber
   as-written z h = rw (← is, z, le-leb (w .value) len h) refl
 
@@ -83,8 +83,8 @@ module _ (s : State) (work buf : List ℕ) where
         inside = rw e (omega arith);
       }
 
-  pub sent-turn : (n : ℕ) (t : State) (workLeft left : List ℕ) → t ≡ stepped s → number ≡ 0 → n ≡ wantedOf s .value → left ≡ patch 0 (pieceOf s) buf
-      → workLeft ≡ patch 0 (partBytes (s .run) (nextOf s)) work → n ≤ length left → Turn s (record { number = 0; length = n; sending = t }) work buf workLeft left
+  pub sent-turn : (n : ℕ) (t : State) (workLeft left : List ℕ) → t ≡ sendingStepped s → number ≡ 0 → n ≡ sendingWanted s .value → left ≡ patch 0 (chunkPiece s) buf
+      → workLeft ≡ patch 0 (partBytes (s .run) (nextChunk s)) work → n ≤ length left → Turn s (record { number = 0; length = n; sending = t }) work buf workLeft left
   unfolding sentDef
   sent-turn n t workLeft left e f v b w i = record { answered = rw (f, e, v) refl; buffer = rw f b; part = rw f w; inside = i }
 
@@ -93,7 +93,7 @@ unwritten : (n r : ℕ) (new old left : List ℕ) → Written n new old r left �
 unwritten n r new old left w h = w .bytes ∙ rw (← w .number, ne-eqb r 0 h) refl
 
 -- A turn whose chunk is written into the first n bytes of the buffer.
-module _ (s : State) (work buf : List ℕ) (w : Counted) (is : w ≡ wantedOf s) (z : w .number ≡ 0) (h : w .value ≤ length buf) (k r : ℕ) (at : k ≡ nextOf s)
+module _ (s : State) (work buf : List ℕ) (w : Counted) (is : w ≡ sendingWanted s) (z : w .number ≡ 0) (h : w .value ≤ length buf) (k r : ℕ) (at : k ≡ nextChunk s)
     (workLeft left : List ℕ) where
   abbrev n : ℕ
   n = w .value
@@ -115,7 +115,7 @@ module _ (s : State) (work buf : List ℕ) (w : Counted) (is : w ≡ wantedOf s)
         refused-turn s work buf r a workLeft (putMid 0 (0 + n - 0) buf left) e (sym (b .number ∙ number-is)) f (unwritten _ _ _ _ _ p f)
         (ap (putMid 0 (0 + n - 0) buf) (unwritten _ _ _ _ _ b f) ∙ put-same 0 (0 + n - 0) buf)
 
-    pub chunk-sent : (t : State) → t ≡ stepped s → r ≡ 0 → length left ≡ length lent → Turn s (record { number = 0; length = n; sending = t }) work buf workLeft (putMid 0 (0 + n - 0) buf left)
+    pub chunk-sent : (t : State) → t ≡ sendingStepped s → r ≡ 0 → length left ≡ length lent → Turn s (record { number = 0; length = n; sending = t }) work buf workLeft (putMid 0 (0 + n - 0) buf left)
     chunk-sent t e f l =
         let q = sym (b .number) ∙ f in
         let m = same-len-mid 0 (0 + n - 0) buf left l in

@@ -28,46 +28,46 @@ abbrev pub sending : Run → ℕ → ℕ → ℕ → State
 sending run device count left = record { run = run; device = device; count = count; left = left }
 
 -- before the first chunk; of a refused run there is none
-unfoldable pub begun : List ℕ → State
-begun xs =
+unfoldable pub sendingBegun : List ℕ → State
+sendingBegun xs =
     let run = accepted xs in
     let n = choose (eqb (run .number) 0) (countAnswer run .value) 0 in
     sending run (parseDef xs .device) n n
 
 -- the number of the chunk that comes next
-abbrev pub nextOf : State → ℕ
-nextOf s = s .count - s .left
+abbrev pub nextChunk : State → ℕ
+nextChunk s = s .count - s .left
 
 -- with one fewer to come
-abbrev pub stepped : State → State
-stepped s = sending (s .run) (s .device) (s .count) (s .left - 1)
+abbrev pub sendingStepped : State → State
+sendingStepped s = sending (s .run) (s .device) (s .count) (s .left - 1)
 
 -- ---- a turn
 
 -- the bytes of the next chunk
-abbrev pub pieceOf : State → List ℕ
-pieceOf s = listBytes (listChunk (s .run) (s .device) (nextOf s))
+abbrev pub chunkPiece : State → List ℕ
+chunkPiece s = listBytes (listChunk (s .run) (s .device) (nextChunk s))
 
-abbrev pub refused : ℕ → Counted
-refused n = record { number = n; value = 0 }
+abbrev pub sendingRefused : ℕ → Counted
+sendingRefused n = record { number = n; value = 0 }
 
 -- how many there are: the run's number comes first, then 29 where all are sent
-unfoldable pub wantedOf : State → Counted
-wantedOf s =
+unfoldable pub sendingWanted : State → Counted
+sendingWanted s =
     choose (eqb (s .run .number) 0)
-    (choose (eqb (s .left) 0) (refused noPlace) (lengthAnswer (s .run) (nextOf s)))
-    (refused (s .run .number))
+    (choose (eqb (s .left) 0) (sendingRefused noPlace) (lengthAnswer (s .run) (nextChunk s)))
+    (sendingRefused (s .run .number))
 
 -- as many as the first head and the root chunk have, whichever has more
-unfoldable pub longestOf : State → ℕ
-longestOf s = max (lengthAnswer (s .run) 1 .value) (lengthAnswer (s .run) (s .count - 2) .value)
+unfoldable pub longestPiece : State → ℕ
+longestPiece s = max (lengthAnswer (s .run) 1 .value) (lengthAnswer (s .run) (s .count - 2) .value)
 
 -- with a work buffer of `work` bytes and a buffer of `len`: 27 where the chunk is longer than the buffer, and then what `write_chunk` answers
 -- in as many bytes as the chunk has
 unfoldable pub sendNumber : State → ℕ → ℕ → ℕ
 sendNumber s work len =
-    orNext (wantedOf s .number)
-    (require wrongLength (leb (wantedOf s .value) len) (writeNumber (s .run) (nextOf s) (wantedOf s .value) work))
+    orNext (sendingWanted s .number)
+    (require wrongLength (leb (sendingWanted s .value) len) (writeNumber (s .run) (nextChunk s) (sendingWanted s .value) work))
 
 -- refused, and everything as it was
 abbrev pub unsent : State → ℕ → Sent
@@ -77,15 +77,15 @@ unsent s n = record { number = n; length = 0; sending = s }
 unfoldable pub sentDef : State → ℕ → ℕ → Sent
 sentDef s work len =
     let n = sendNumber s work len in
-    choose (eqb n 0) (record { number = 0; length = wantedOf s .value; sending = stepped s }) (unsent s n)
+    choose (eqb n 0) (record { number = 0; length = sendingWanted s .value; sending = sendingStepped s }) (unsent s n)
 
 -- and leaves in a buffer that held xs: the chunk at its start, or what stood there
 abbrev pub bufferAfter : State → ℕ → List ℕ → List ℕ
-bufferAfter s work xs = chosen (eqb (sendNumber s work (length xs)) 0) (patch 0 (pieceOf s) xs) xs
+bufferAfter s work xs = chosen (eqb (sendNumber s work (length xs)) 0) (patch 0 (chunkPiece s) xs) xs
 
 -- and in a work buffer that held ws: the part that the chunk is split from
 abbrev pub workAfter : State → ℕ → List ℕ → List ℕ
-workAfter s len ws = chosen (eqb (sendNumber s (length ws) len) 0) (patch 0 (partBytes (s .run) (nextOf s)) ws) ws
+workAfter s len ws = chosen (eqb (sendNumber s (length ws) len) 0) (patch 0 (partBytes (s .run) (nextChunk s)) ws) ws
 
 -- All of a turn: what it answers, and what it leaves in both buffers. The bytes that it hands out lie inside the buffer.
 pub record Turn (s : State) (r : Sent) (work buf workLeft left : List ℕ) : Type 0 where

@@ -1,7 +1,7 @@
 // Sending the list of the run that input records ask for, as a state by value: a program lends buffers, writes what it is handed, and
 // counts nothing itself. Each turn puts the next chunk of the list at the start of a lent buffer.
 ghost use mathlib.Core.Path.{_≡_};
-ghost use Rattle.list_send.specs.Sending.{begun, nextOf, wantedOf, longestOf, unsent, stepped, Turn};
+ghost use Rattle.list_send.specs.Sending.{sendingBegun, nextChunk, sendingWanted, longestPiece, unsent, sendingStepped, Turn};
 use arith::numbers::max_u64;
 use arith::numbers::minus;
 use list_lengths::Counted;
@@ -32,7 +32,7 @@ pub struct Sent {
 
 // The list of what the input records ask for, before its first chunk. Of a refused run nothing is sent.
 pub fn begin(input: &[u8]) -> Sending
-    ensures { λ r. ⌜ r ≡ begun (now (input .entry)) ⌝ }
+    ensures { λ r. ⌜ r ≡ sendingBegun (now (input .entry)) ⌝ }
 {
     let asked = parse(input);
     let device = asked.device;
@@ -56,7 +56,7 @@ pub fn begin(input: &[u8]) -> Sending
 
 // The chunk that comes next.
 fn next_of(s: Sending) -> u64
-    ensures { λ r. ⌜ r ≡ nextOf s ⌝ }
+    ensures { λ r. ⌜ r ≡ nextChunk s ⌝ }
 {
     minus(s.count, s.left)
 }
@@ -78,7 +78,7 @@ pub fn left_of(s: Sending) -> u64
 
 // How many bytes the next chunk has: the run's number, 29 where all are sent.
 fn wants(s: Sending) -> Counted
-    ensures { λ r. ⌜ r ≡ wantedOf s ⌝ }
+    ensures { λ r. ⌜ r ≡ sendingWanted s ⌝ }
 {
     let run = s.run;
     if run.number != 0 {
@@ -99,7 +99,7 @@ fn wants(s: Sending) -> Counted
 // Bytes that are enough for every chunk, and for every part that a chunk is split from: those of the first head or of the root chunk, which
 // is the chunk before the last.
 pub fn longest(s: Sending) -> u64
-    ensures { λ r. ⌜ r ≡ longestOf s ⌝ }
+    ensures { λ r. ⌜ r ≡ longestPiece s ⌝ }
 {
     let head = chunk_length(s.run, 1);
     let root = chunk_length(s.run, minus(s.count, 2));
@@ -108,7 +108,7 @@ pub fn longest(s: Sending) -> u64
 
 // With one chunk fewer to come.
 fn stepped_on(s: Sending) -> Sending
-    ensures { λ r. ⌜ r ≡ stepped s ⌝ }
+    ensures { λ r. ⌜ r ≡ sendingStepped s ⌝ }
 {
     let run = s.run;
     Sending {

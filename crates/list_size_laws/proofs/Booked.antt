@@ -11,9 +11,9 @@ use lib.ListN.{length, getD}
 use Rattle.request.specs.Parse.{parseDef}
 use Rattle.run.specs.Runs.{accepted}
 use Rattle.list_records.specs.Records.{Record, listBytes, payload as carriedBy}
-use Rattle.list_read.specs.Whole.{ListRead, readList, readAs}
+use Rattle.list_read.specs.Whole.{ListRead, readList, wholeList}
 use Rattle.list_spec.specs.Listing.{listOf}
-use Rattle.list_send.specs.Sending.{begun}
+use Rattle.list_send.specs.Sending.{sendingBegun}
 use Rattle.list_laws.specs.Whole.{sentAll, WrittenWhole}
 use Rattle.list_laws.specs.Sending.{SendsAll, SendsNone}
 use Rattle.list_laws.proofs.Whole.{input-whole}
@@ -34,8 +34,8 @@ number-at xs false e = rw e refl
 number-is : (xs : List ℕ) → inputSize xs .number ≡ accepted xs .number
 number-is xs = number-at xs (eqb (accepted xs .number) 0) refl
 
-begun-run : (xs : List ℕ) → begun xs .run .number ≡ accepted xs .number
-unfolding begun
+begun-run : (xs : List ℕ) → sendingBegun xs .run .number ≡ accepted xs .number
+unfolding sendingBegun
 begun-run xs = refl
 
 module _ (xs : List ℕ) (bytes : (i : ℕ) → getD xs i 0 < 256) where
@@ -44,7 +44,7 @@ module _ (xs : List ℕ) (bytes : (i : ℕ) → getD xs i 0 < 256) where
     abbrev list : List Record
     list = listOf (accepted xs) (parseDef xs .device)
 
-    all : SendsAll (begun xs) (accepted xs) (parseDef xs .device)
+    all : SendsAll (sendingBegun xs) (accepted xs) (parseDef xs .device)
     all = sends-all xs bytes e
 
     written : WrittenWhole (accepted xs) (parseDef xs .device)
@@ -58,7 +58,7 @@ module _ (xs : List ℕ) (bytes : (i : ℕ) → getD xs i 0 < 256) where
     sent-is work ys h = all .whole work ys (h .0) (h .1)
 
     -- read again
-    back-is : (work : ℕ) (ys : List ℕ) → Enough xs work ys → readList (sentFor xs work ys) ≡ readAs list
+    back-is : (work : ℕ) (ys : List ℕ) → Enough xs work ys → readList (sentFor xs work ys) ≡ wholeList list
     back-is work ys h = ap readList (sent-is work ys h ∙ sym (written .whole)) ∙ written .back
 
     bytes-small : inputSize xs .bytes < 2 ^ 50

@@ -8,18 +8,18 @@ use Rattle.request.specs.Parse.{parseDef}
 use Rattle.run.specs.Runs.{accepted}
 use Rattle.list_records.specs.Records.{payload as carriedBy}
 use Rattle.list_read.specs.Whole.{ListRead, readList}
-use Rattle.list_send.specs.Sending.{begun, longestOf, handed}
+use Rattle.list_send.specs.Sending.{sendingBegun, longestPiece, handed}
 use Rattle.list_laws.specs.Whole.{sentAll}
 use Rattle.list_size.specs.Sizes.{noSize, inputSize}
 use Rattle.list_size.specs.Closed.{closedSize}
 
 -- the bytes that the turns of `writelist` hand out, with `work` bytes to work in and a buffer that held `ys` at first
 abbrev pub sentFor : List ℕ → ℕ → List ℕ → List ℕ
-sentFor xs work ys = handed (begun xs .left) (begun xs) work ys
+sentFor xs work ys = handed (sendingBegun xs .left) (sendingBegun xs) work ys
 
 -- both are long enough for the longest chunk
 abbrev pub Enough : List ℕ → ℕ → List ℕ → Type 0
-Enough xs work ys = (longestOf (begun xs) ≤ work) × (longestOf (begun xs) ≤ length ys)
+Enough xs work ys = (longestPiece (sendingBegun xs) ≤ work) × (longestPiece (sendingBegun xs) ≤ length ys)
 
 -- ---- an accepted input
 pub record Announced (xs : List ℕ) : Type 0 where
@@ -38,7 +38,7 @@ pub record Announced (xs : List ℕ) : Type 0 where
 -- ---- every input
 pub record Booked (xs : List ℕ) : Type 0 where
   -- the number is writelist's
-  pub number : inputSize xs .number ≡ begun xs .run .number
+  pub number : inputSize xs .number ≡ sendingBegun xs .run .number
   pub accepted-size : inputSize xs .number ≡ 0 → Announced xs
   -- a refusal is a number beside zeros, and no turn is due
-  pub refused-size : (inputSize xs .number ≡ 0 → ⊥) → (inputSize xs ≡ noSize (inputSize xs .number)) × (begun xs .left ≡ 0)
+  pub refused-size : (inputSize xs .number ≡ 0 → ⊥) → (inputSize xs ≡ noSize (inputSize xs .number)) × (sendingBegun xs .left ≡ 0)

@@ -9,22 +9,22 @@ use native.Mathlib.Omega.{arith}
 use lib.ListN.{length, take, drop, getD, length-append}
 use lib.Seq.{length-take-le, getD-drop}
 use Rattle.run.specs.declared.Run.{Run}
-use Rattle.list_records.specs.Records.{Record, FL, All, Among, blocks}
+use Rattle.list_records.specs.Records.{Record, FL, All, Among, blockRecords}
 use Rattle.list_records.proofs.Blocks.{all-append, all-prefix, all-map, among-all}
-use Rattle.list_records.specs.Device.{Device, step, applied}
+use Rattle.list_records.specs.Device.{Device, stepRecord, applied}
 use Rattle.list_records.proofs.Reading.{getD-read}
 use Rattle.list_records.proofs.Applying.{step-hit, step-same, step-miss, applied-append, Keeps, kept, Idle, idle, blocks-idle}
 use Rattle.list_spec.specs.Listing.{headerBlocks, headFinished, headerRecords, closing, listOf}
-use Rattle.list_spec.specs.Sound.{Sound}
-use Rattle.list_spec.specs.Left.{headAt, headSize, headerSize, unfinished, finishingRecord}
+use Rattle.list_spec.specs.Sound.{SoundRun}
+use Rattle.list_spec.specs.Left.{headAt, headBytesOf, headerBytesOf, unfinished, finishingRecord}
 use Rattle.list_spec.proofs.Spans.{spans}
 use Rattle.list_spec.proofs.Parts.{list-parts, cut-behind}
 use Rattle.list_spec.proofs.Left.{unfinished-head}
 
-module _ (run : Run) (device : ℕ) (s : Sound run device) where
+module _ (run : Run) (device : ℕ) (s : SoundRun run device) where
   -- group 0's head behind its first block is the finished one's
   Behind : Device → Type 0
-  Behind d = (x : ℕ) → run .geometry .blocksize ≤ x → x < headSize run → d x ≡ getD (headFinished (run .geometry) (run .uuid)) x 0
+  Behind d = (x : ℕ) → run .geometry .blocksize ≤ x → x < headBytesOf run → d x ≡ getD (headFinished (run .geometry) (run .uuid)) x 0
 
   -- all records up to the finished superblock's block
   firsts : List Record
@@ -32,16 +32,16 @@ module _ (run : Run) (device : ℕ) (s : Sound run device) where
 
   -- and those behind it, of n header blocks
   lasts : ℕ → List Record
-  lasts n = blocks (run .geometry .blocksize) (0 + run .geometry .blocksize) n (drop (run .geometry .blocksize) (headFinished (run .geometry) (run .uuid))) ++ (FL ∷ [])
+  lasts n = blockRecords (run .geometry .blocksize) (0 + run .geometry .blocksize) n (drop (run .geometry .blocksize) (headFinished (run .geometry) (run .uuid))) ++ (FL ∷ [])
 
   parts : (n : ℕ) → headerBlocks (run .geometry) ≡ suc n → listOf run device ≡ firsts ++ lasts n
-  unfolding closing blocks firsts lasts
+  unfolding closing blockRecords firsts lasts
   parts n e =
       let bs = run .geometry .blocksize in
       let bytes = headFinished (run .geometry) (run .uuid) in
       list-parts run device
-      ∙ ap (λ (m : ℕ). unfinished run device ++ (FL ∷ (blocks bs 0 m bytes ++ (FL ∷ [])))) e
-      ∙ sym (append-assoc (unfinished run device) (FL ∷ finishingRecord run ∷ []) (blocks bs (0 + bs) n (drop bs bytes) ++ (FL ∷ [])))
+      ∙ ap (λ (m : ℕ). unfinished run device ++ (FL ∷ (blockRecords bs 0 m bytes ++ (FL ∷ [])))) e
+      ∙ sym (append-assoc (unfinished run device) (FL ∷ finishingRecord run ∷ []) (blockRecords bs (0 + bs) n (drop bs bytes) ++ (FL ∷ [])))
 
   firsts-length : length firsts ≡ length (unfinished run device) + 2
   unfolding firsts
@@ -56,7 +56,7 @@ module _ (run : Run) (device : ℕ) (s : Sound run device) where
       let z : headAt run 0 + x ≡ x = omega (arith, p .first) in
       ap (λ (f : Device). f x) (applied-append (unfinished run device) (FL ∷ []) d)
       ∙ step-miss FL e x (λ a b. omega arith)
-      ∙ sym (ap e z) ∙ sym (getD-read e (headAt run 0) (headSize run) x k) ∙ ap (λ (xs : List ℕ). getD xs x 0) w ∙ sym (s .agrees x (omega arith))
+      ∙ sym (ap e z) ∙ sym (getD-read e (headAt run 0) (headBytesOf run) x k) ∙ ap (λ (xs : List ℕ). getD xs x 0) w ∙ sym (s .agrees x (omega arith))
 
   -- the finishing record leaves it so
   finish-keeps : Keeps Behind (finishingRecord run)
@@ -68,11 +68,11 @@ module _ (run : Run) (device : ℕ) (s : Sound run device) where
       let l : length (take bs bytes) ≡ bs = length-take-le bs bytes (omega (arith, s .finished-long, p .header-some, p .header-head)) in
       step-miss (finishingRecord run) d x (λ m n. omega arith) ∙ b x h k
 
-  firsts-applied : (d : Device) → applied firsts d ≡ step (finishingRecord run) (applied (unfinished run device ++ (FL ∷ [])) d)
+  firsts-applied : (d : Device) → applied firsts d ≡ stepRecord (finishingRecord run) (applied (unfinished run device ++ (FL ∷ [])) d)
   unfolding firsts applied
   firsts-applied d =
       applied-append (unfinished run device) (FL ∷ finishingRecord run ∷ []) d
-      ∙ sym (ap (step (finishingRecord run)) (applied-append (unfinished run device) (FL ∷ []) d))
+      ∙ sym (ap (stepRecord (finishingRecord run)) (applied-append (unfinished run device) (FL ∷ []) d))
 
   firsts-behind : (d : Device) → Behind (applied firsts d)
   firsts-behind d = subst Behind (sym (firsts-applied d)) (finish-keeps (applied (unfinished run device ++ (FL ∷ [])) d) (flushed-behind d))
@@ -83,8 +83,8 @@ module _ (run : Run) (device : ℕ) (s : Sound run device) where
       let p = spans run device s in
       let bs = run .geometry .blocksize in
       let bytes = headFinished (run .geometry) (run .uuid) in
-      let size : headerSize run ≡ bs + n * bs = ap (λ (m : ℕ). m * bs) e ∙ omega arith in
-      all-append (Idle Behind) (blocks bs (0 + bs) n (drop bs bytes)) (FL ∷ [])
+      let size : headerBytesOf run ≡ bs + n * bs = ap (λ (m : ℕ). m * bs) e ∙ omega arith in
+      all-append (Idle Behind) (blockRecords bs (0 + bs) n (drop bs bytes)) (FL ∷ [])
       (blocks-idle bs Behind (0 + bs) n (drop bs bytes)
       (λ d h x a b.
       let i : bs + (x - (0 + bs)) ≡ x = omega arith in
@@ -111,8 +111,8 @@ module _ (run : Run) (device : ℕ) (s : Sound run device) where
 
   -- the records behind that flush
   closings : (n : ℕ) → headerBlocks (run .geometry) ≡ suc n → headerRecords run ++ (FL ∷ []) ≡ finishingRecord run ∷ lasts n
-  unfolding blocks lasts
-  closings n e = ap (λ (m : ℕ). blocks (run .geometry .blocksize) 0 m (headFinished (run .geometry) (run .uuid)) ++ (FL ∷ [])) e
+  unfolding blockRecords lasts
+  closings n e = ap (λ (m : ℕ). blockRecords (run .geometry .blocksize) 0 m (headFinished (run .geometry) (run .uuid)) ++ (FL ∷ [])) e
 
   -- THOSE BEHIND THE FINISHED SUPERBLOCK'S BLOCK CHANGE NOTHING, in any order
   pub idle-any : (rs : List Record) → Among (drop 1 (headerRecords run ++ (FL ∷ []))) rs → (d : Device)
@@ -125,37 +125,37 @@ module _ (run : Run) (device : ℕ) (s : Sound run device) where
 
   -- a record that changes nothing there, or just what the finishing one changes
   Settles : Record → Type 0
-  Settles r = (d : Device) → Behind d → (step r d ≡ d) ⊎ (step r d ≡ step (finishingRecord run) d)
+  Settles r = (d : Device) → Behind d → (stepRecord r d ≡ d) ⊎ (stepRecord r d ≡ stepRecord (finishingRecord run) d)
 
   closing-settles : (n : ℕ) → headerBlocks (run .geometry) ≡ suc n → All Settles (finishingRecord run ∷ lasts n)
   unfolding Settles
   closing-settles n e = ((λ d b. inr refl), all-map (Idle Behind) Settles (lasts n) (λ r i d b. inl (i d b)) (lasts-idle n e))
 
-  finish-twice : (d : Device) → step (finishingRecord run) (step (finishingRecord run) d) ≡ step (finishingRecord run) d
+  finish-twice : (d : Device) → stepRecord (finishingRecord run) (stepRecord (finishingRecord run) d) ≡ stepRecord (finishingRecord run) d
   finish-twice d =
-      fun-ext (λ x. step-same (finishingRecord run) (step (finishingRecord run) d) x (λ m n. sym (step-hit (finishingRecord run) d x m n)))
+      fun-ext (λ x. step-same (finishingRecord run) (stepRecord (finishingRecord run) d) x (λ m n. sym (step-hit (finishingRecord run) d x m n)))
 
   -- from a device o on: what the finishing record will leave, and what it has left
   Coming : Device → Device → Type 0
-  Coming o d = Behind d × (step (finishingRecord run) d ≡ step (finishingRecord run) o)
+  Coming o d = Behind d × (stepRecord (finishingRecord run) d ≡ stepRecord (finishingRecord run) o)
 
   Come : Device → Device → Type 0
-  Come o d = Behind d × (d ≡ step (finishingRecord run) o)
+  Come o d = Behind d × (d ≡ stepRecord (finishingRecord run) o)
 
   keep-coming : (o : Device) (r : Record) → Settles r → Keeps (Coming o) r
   unfolding Settles Coming
   keep-coming o r t d c =
       ⊎-elim
-      (λ (q : step r d ≡ d). subst (Coming o) (sym q) c)
-      (λ (q : step r d ≡ step (finishingRecord run) d). subst (Coming o) (sym q) (finish-keeps d (c .0), finish-twice d ∙ c .1))
+      (λ (q : stepRecord r d ≡ d). subst (Coming o) (sym q) c)
+      (λ (q : stepRecord r d ≡ stepRecord (finishingRecord run) d). subst (Coming o) (sym q) (finish-keeps d (c .0), finish-twice d ∙ c .1))
       (t d (c .0))
 
   keep-come : (o : Device) (r : Record) → Settles r → Keeps (Come o) r
   unfolding Settles Come
   keep-come o r t d c =
       ⊎-elim
-      (λ (q : step r d ≡ d). subst (Come o) (sym q) c)
-      (λ (q : step r d ≡ step (finishingRecord run) d). subst (Come o) (sym q) (finish-keeps d (c .0), ap (step (finishingRecord run)) (c .1) ∙ finish-twice o))
+      (λ (q : stepRecord r d ≡ d). subst (Come o) (sym q) c)
+      (λ (q : stepRecord r d ≡ stepRecord (finishingRecord run) d). subst (Come o) (sym q) (finish-keeps d (c .0), ap (stepRecord (finishingRecord run)) (c .1) ∙ finish-twice o))
       (t d (c .0))
 
   -- WHERE THE FINISHING RECORD IS AMONG THEM, THE DEVICE STANDS AS AT THE END, in whichever order they come
@@ -168,7 +168,7 @@ module _ (run : Run) (device : ℕ) (s : Sound run device) where
       let o = applied (unfinished run device ++ (FL ∷ [])) d in
       let before = kept (Coming o) xs o (all-map Settles (Keeps (Coming o)) xs (keep-coming o) (settled n e xs mx)) (flushed-behind d, refl) in
       let behind =
-      kept (Come o) ys (step (finishingRecord run) (applied xs o)) (all-map Settles (Keeps (Come o)) ys (keep-come o) (settled n e ys my))
+      kept (Come o) ys (stepRecord (finishingRecord run) (applied xs o)) (all-map Settles (Keeps (Come o)) ys (keep-come o) (settled n e ys my))
       (finish-keeps (applied xs o) (before .0), before .1) in
       applied-append xs (finishingRecord run ∷ ys) o ∙ behind .1 ∙ sym (firsts-applied d)
       ∙ after firsts (lasts n) (sym (parts n e)) (omega (arith, firsts-length)) d

@@ -9,34 +9,34 @@ use native.Mathlib.Omega.{arith}
 use lib.ListN.{length, take, drop}
 use lib.Seq.{length-take-le}
 use Rattle.run.specs.declared.Run.{Run}
-use Rattle.list_records.specs.Records.{Record, FL, All, Among, blocks}
+use Rattle.list_records.specs.Records.{Record, FL, All, Among, blockRecords}
 use Rattle.list_records.proofs.Blocks.{all-append, all-prefix, all-map, among-all}
-use Rattle.list_records.specs.Device.{Device, step, applied, Misses}
+use Rattle.list_records.specs.Device.{Device, stepRecord, applied, Misses}
 use Rattle.list_records.proofs.Applying.{step-missed, zeros-left, bytes-left, blocks-miss, Keeps, kept}
 use Rattle.list_spec.specs.Listing.{headBlocks, headWritten, opening, headRecords, headsTo, chunkRecords}
-use Rattle.list_spec.specs.Sound.{Sound}
-use Rattle.list_spec.specs.Left.{headAt, headSize, unfinished, Early}
+use Rattle.list_spec.specs.Sound.{SoundRun}
+use Rattle.list_spec.specs.Left.{headAt, headBytesOf, unfinished, Early}
 use Rattle.list_spec.proofs.Spans.{spans}
 use Rattle.list_spec.proofs.Parts.{heads-all}
 use Rattle.list_spec.proofs.Alone.{alone}
 
-module _ (run : Run) (device : ℕ) (s : Sound run device) where
+module _ (run : Run) (device : ℕ) (s : SoundRun run device) where
   -- a record that misses group 0's first block keeps it
   keep : (r : Record) → Misses 0 (run .geometry .blocksize) r → Keeps (Early run) r
   keep r f d e = ⊎-elim (λ z. inl (step-missed 0 (run .geometry .blocksize) r d f ∙ z)) (λ z. inr (step-missed 0 (run .geometry .blocksize) r d f ∙ z)) e
 
   -- and so does one that misses its head
-  keep-head : (r : Record) → Misses (headAt run 0) (headSize run) r → Keeps (Early run) r
+  keep-head : (r : Record) → Misses (headAt run 0) (headBytesOf run) r → Keeps (Early run) r
   keep-head r f =
       let p = spans run device s in
       keep r (λ x h k m n. f x (omega (arith, p .first)) (omega (arith, p .first, p .header-some, p .header-head)) m n)
 
-  missed-keep : (rs : List Record) → All (Misses (headAt run 0) (headSize run)) rs → All (Keeps (Early run)) rs
-  missed-keep rs a = all-map (Misses (headAt run 0) (headSize run)) (Keeps (Early run)) rs keep-head a
+  missed-keep : (rs : List Record) → All (Misses (headAt run 0) (headBytesOf run)) rs → All (Keeps (Early run)) rs
+  missed-keep rs a = all-map (Misses (headAt run 0) (headBytesOf run)) (Keeps (Early run)) rs keep-head a
 
   -- group 0's own: the first writes the unfinished block
-  head-keep : (n off : ℕ) → off ≡ 0 → All (Keeps (Early run)) (blocks (run .geometry .blocksize) off n (headWritten (run .geometry) (run .uuid) 0))
-  unfolding blocks
+  head-keep : (n off : ℕ) → off ≡ 0 → All (Keeps (Early run)) (blockRecords (run .geometry .blocksize) off n (headWritten (run .geometry) (run .uuid) 0))
+  unfolding blockRecords
   head-keep zero off e = tt
   head-keep (suc n) off e =
       let p = spans run device s in
@@ -44,7 +44,7 @@ module _ (run : Run) (device : ℕ) (s : Sound run device) where
       let bytes = headWritten (run .geometry) (run .uuid) 0 in
       let l : length (take bs bytes) ≡ bs = length-take-le bs bytes (omega (arith, s .head-long 0 (omega (arith, s .two)), p .header-some, p .header-head)) in (
         λ d a. inr (rw e (bytes-left 0 bs (take bs bytes) d l)),
-        all-map (Misses 0 bs) (Keeps (Early run)) (blocks bs (off + bs) n (drop bs bytes)) keep (blocks-miss bs 0 bs (off + bs) n (drop bs bytes) (λ x a b c d. omega arith)),
+        all-map (Misses 0 bs) (Keeps (Early run)) (blockRecords bs (off + bs) n (drop bs bytes)) keep (blocks-miss bs 0 bs (off + bs) n (drop bs bytes) (λ x a b c d. omega arith)),
       )
 
   heads-keep : (k : ℕ) → k < run .geometry .agcount → All (Keeps (Early run)) (headRecords run k)
@@ -75,7 +75,7 @@ module _ (run : Run) (device : ℕ) (s : Sound run device) where
   early (r ∷ cut) rest e h d =
       let first : r ∷ [] ≡ take 1 (opening run device) = cc in
       let same : cut ++ rest ≡ drop 1 (opening run device) ++ ((headsTo run (run .geometry .agcount) ++ chunkRecords run) ++ (FL ∷ [])) = cc in
-      kept (Early run) cut (step r d) (all-prefix (Keeps (Early run)) cut rest (rw same rest-keep)) (subst (λ (rs : List Record). Early run (applied rs d)) (sym first) (first-early d))
+      kept (Early run) cut (stepRecord r d) (all-prefix (Keeps (Early run)) cut rest (rw same rest-keep)) (subst (λ (rs : List Record). Early run (applied rs d)) (sym first) (first-early d))
 
   -- AND WHICHEVER OF THEM COME THEN, IN WHICHEVER ORDER
   pub early-any : (rs : List Record) → Among (drop 1 (unfinished run device ++ (FL ∷ []))) rs → (d : Device) → Early run d → Early run (applied rs d)

@@ -15,34 +15,34 @@ use Rattle.seqs.proofs.Laws.{lt-or-le}
 use Rattle.run.specs.declared.Run.{Run}
 use Rattle.list_records.specs.Records.{FL}
 use Rattle.list_records.proofs.Blocks.{all-append}
-use Rattle.list_records.specs.Device.{Device, step, applied, read, Misses}
+use Rattle.list_records.specs.Device.{Device, stepRecord, applied, read, Misses}
 use Rattle.list_records.proofs.Reading.{read-split, read-first, read-behind, drop-agree}
 use Rattle.list_records.proofs.Applying.{applied-append, missed, missed-after, step-missed, zeros-left, zeros-stay, bytes-left, blocks-left}
 use Rattle.list_spec.specs.Listing.{whackSize, blocksEnd, tailStart, opening, headRecords, headsTo, chunkRecords, headerRecords, closing, listOf, logOffset, logBlock, headBlocks, headerBlocks, chunkBlocks, headWritten, headFinished, headLeft}
-use Rattle.list_spec.specs.Sound.{Sound}
-use Rattle.list_spec.specs.Left.{headAt, headSize, headerSize, logSize, chunkAt, chunkSize, Left, unfinished}
+use Rattle.list_spec.specs.Sound.{SoundRun}
+use Rattle.list_spec.specs.Left.{headAt, headBytesOf, headerBytesOf, logSize, chunkOffset, chunkBytesOf, DeviceLeft, unfinished}
 use Rattle.list_spec.proofs.Spans.{spans}
 use Rattle.list_spec.proofs.Parts.{list-parts, heads-all}
 use Rattle.list_spec.proofs.Alone.{head-miss, chunk-miss, closing-miss, log-apart, alone}
 
-module _ (run : Run) (device : ℕ) (s : Sound run device) where
+module _ (run : Run) (device : ℕ) (s : SoundRun run device) where
   -- ---- before the first flush
 
-  head-left : (k : ℕ) → k < run .geometry .agcount → (d : Device) → read (applied (headRecords run k) d) (headAt run k) (headSize run) ≡ headWritten (run .geometry) (run .uuid) k
+  head-left : (k : ℕ) → k < run .geometry .agcount → (d : Device) → read (applied (headRecords run k) d) (headAt run k) (headBytesOf run) ≡ headWritten (run .geometry) (run .uuid) k
   unfolding headRecords
   head-left k h d =
       let bytes = headWritten (run .geometry) (run .uuid) k in
-      let l : length bytes ≡ headSize run = s .head-long k h in
-      blocks-left (run .geometry .blocksize) (headAt run k) (headBlocks (run .geometry)) bytes d (omega arith) ∙ take-all (headSize run) bytes (omega arith)
+      let l : length bytes ≡ headBytesOf run = s .head-long k h in
+      blocks-left (run .geometry .blocksize) (headAt run k) (headBlocks (run .geometry)) bytes d (omega arith) ∙ take-all (headBytesOf run) bytes (omega arith)
 
   heads-left : (m k : ℕ) → k < m → m ≤ run .geometry .agcount → (d : Device)
-      → read (applied (headsTo run m) d) (headAt run k) (headSize run) ≡ headWritten (run .geometry) (run .uuid) k
+      → read (applied (headsTo run m) d) (headAt run k) (headBytesOf run) ≡ headWritten (run .geometry) (run .uuid) k
   unfolding headsTo
   heads-left zero k h l d = absurd (omega arith)
   heads-left (suc m) k h l d =
       ⊎-elim
       (λ (c : k < m).
-      missed-after (headAt run k) (headSize run) (headsTo run m) (headRecords run m) d (alone run device s k (omega arith) .heads m (λ e. omega arith))
+      missed-after (headAt run k) (headBytesOf run) (headsTo run m) (headRecords run m) d (alone run device s k (omega arith) .heads m (λ e. omega arith))
       ∙ heads-left m k c (omega arith) d)
       (λ (c : m ≤ k).
       let e : k ≡ m = omega arith in
@@ -50,21 +50,21 @@ module _ (run : Run) (device : ℕ) (s : Sound run device) where
       (lt-or-le k m)
 
   pub unfinished-head : (k : ℕ) → k < run .geometry .agcount → (d : Device)
-      → read (applied (unfinished run device) d) (headAt run k) (headSize run) ≡ headWritten (run .geometry) (run .uuid) k
+      → read (applied (unfinished run device) d) (headAt run k) (headBytesOf run) ≡ headWritten (run .geometry) (run .uuid) k
   unfolding unfinished
   unfinished-head k h d =
       let heads = headsTo run (run .geometry .agcount) in
       rw (applied-append (opening run device) (heads ++ chunkRecords run) d)
-      (missed-after (headAt run k) (headSize run) heads (chunkRecords run) (applied (opening run device) d) (alone run device s k h .chunk)
+      (missed-after (headAt run k) (headBytesOf run) heads (chunkRecords run) (applied (opening run device) d) (alone run device s k h .chunk)
       ∙ heads-left (run .geometry .agcount) k h (omega arith) (applied (opening run device) d))
 
   -- ---- the opening
 
   -- what it leaves stays, where no head, no root chunk and no header block lies
   after-opening : (off n : ℕ) (d : Device)
-      → ((k x : ℕ) → k < run .geometry .agcount → off ≤ x → x < off + n → headAt run k ≤ x → x < headAt run k + headSize run → ⊥)
-      → ((x : ℕ) → off ≤ x → x < off + n → chunkAt run ≤ x → x < chunkAt run + chunkSize run → ⊥)
-      → headerSize run ≤ off → read (applied (listOf run device) d) off n ≡ read (applied (opening run device) d) off n
+      → ((k x : ℕ) → k < run .geometry .agcount → off ≤ x → x < off + n → headAt run k ≤ x → x < headAt run k + headBytesOf run → ⊥)
+      → ((x : ℕ) → off ≤ x → x < off + n → chunkOffset run ≤ x → x < chunkOffset run + chunkBytesOf run → ⊥)
+      → headerBytesOf run ≤ off → read (applied (listOf run device) d) off n ≡ read (applied (opening run device) d) off n
   unfolding listOf
   after-opening off n d heads chunk h =
       let groups = run .geometry .agcount in
@@ -106,48 +106,48 @@ module _ (run : Run) (device : ℕ) (s : Sound run device) where
       step-missed off n _ _ (λ x a b c d. omega (arith, p .log-tail, s .log-long))
       ∙ zeros-stay _ _ off n _ (zeros-left off _ off n _ (omega arith) (omega arith))
 
-  unfinished-chunk : (d : Device) → read (applied (unfinished run device) d) (chunkAt run) (chunkSize run)
+  unfinished-chunk : (d : Device) → read (applied (unfinished run device) d) (chunkOffset run) (chunkBytesOf run)
       ≡ chunkBytes (run .geometry) (rootChunk (run .geometry)) (run .uuid) (run .time) (run .seed)
   unfolding unfinished chunkRecords
   unfinished-chunk d =
       let heads = headsTo run (run .geometry .agcount) in
       let bytes = chunkBytes (run .geometry) (rootChunk (run .geometry)) (run .uuid) (run .time) (run .seed) in
-      let l : length bytes ≡ chunkSize run = s .chunk-long in
+      let l : length bytes ≡ chunkBytesOf run = s .chunk-long in
       let before = applied heads (applied (opening run device) d) in
       rw (applied-append (opening run device) (heads ++ chunkRecords run) d, applied-append heads (chunkRecords run) (applied (opening run device) d))
-      (blocks-left (run .geometry .blocksize) (chunkAt run) (chunkBlocks (run .geometry)) bytes before (omega arith) ∙ take-all (chunkSize run) bytes (omega arith))
+      (blocks-left (run .geometry .blocksize) (chunkOffset run) (chunkBlocks (run .geometry)) bytes before (omega arith) ∙ take-all (chunkBytesOf run) bytes (omega arith))
 
   -- ---- the finished header blocks
 
   -- they stand there
-  closing-header : (d : Device) → read (applied (closing run) d) 0 (headerSize run) ≡ take (headerSize run) (headFinished (run .geometry) (run .uuid))
+  closing-header : (d : Device) → read (applied (closing run) d) 0 (headerBytesOf run) ≡ take (headerBytesOf run) (headFinished (run .geometry) (run .uuid))
   unfolding closing applied
   closing-header d =
       let p = spans run device s in
-      missed-after 0 (headerSize run) (headerRecords run) (FL ∷ []) (step FL d) ((λ x a b c d. omega arith), tt)
-      ∙ blocks-left (run .geometry .blocksize) 0 (headerBlocks (run .geometry)) _ (step FL d) (omega (arith, s .finished-long, s .head-long 0 (omega (arith, s .two)), p .header-head))
+      missed-after 0 (headerBytesOf run) (headerRecords run) (FL ∷ []) (stepRecord FL d) ((λ x a b c d. omega arith), tt)
+      ∙ blocks-left (run .geometry .blocksize) 0 (headerBlocks (run .geometry)) _ (stepRecord FL d) (omega (arith, s .finished-long, s .head-long 0 (omega (arith, s .two)), p .header-head))
 
   -- behind them the head stays, and the finished head has the same bytes there
-  closing-behind : (d : Device) → read d 0 (headSize run) ≡ headWritten (run .geometry) (run .uuid) 0
-      → read (applied (closing run) d) (0 + headerSize run) (headSize run - headerSize run) ≡ drop (headerSize run) (headFinished (run .geometry) (run .uuid))
+  closing-behind : (d : Device) → read d 0 (headBytesOf run) ≡ headWritten (run .geometry) (run .uuid) 0
+      → read (applied (closing run) d) (0 + headerBytesOf run) (headBytesOf run - headerBytesOf run) ≡ drop (headerBytesOf run) (headFinished (run .geometry) (run .uuid))
   closing-behind d e =
       let p = spans run device s in
-      missed (0 + headerSize run) (headSize run - headerSize run) (closing run) d (closing-miss run (0 + headerSize run) (headSize run - headerSize run) (omega arith))
-      ∙ read-behind d 0 (headerSize run) (headSize run) (p .header-head)
-      ∙ ap (drop (headerSize run)) e
-      ∙ sym (drop-agree (headerSize run) (headFinished (run .geometry) (run .uuid)) (headWritten (run .geometry) (run .uuid) 0)
+      missed (0 + headerBytesOf run) (headBytesOf run - headerBytesOf run) (closing run) d (closing-miss run (0 + headerBytesOf run) (headBytesOf run - headerBytesOf run) (omega arith))
+      ∙ read-behind d 0 (headerBytesOf run) (headBytesOf run) (p .header-head)
+      ∙ ap (drop (headerBytesOf run)) e
+      ∙ sym (drop-agree (headerBytesOf run) (headFinished (run .geometry) (run .uuid)) (headWritten (run .geometry) (run .uuid) 0)
       (s .finished-long ∙ sym (s .head-long 0 (omega (arith, s .two)))) (λ i h. s .agrees i (omega (arith, p .header-some))))
 
-  closing-head : (d : Device) → read d 0 (headSize run) ≡ headWritten (run .geometry) (run .uuid) 0
-      → read (applied (closing run) d) 0 (headSize run) ≡ headFinished (run .geometry) (run .uuid)
+  closing-head : (d : Device) → read d 0 (headBytesOf run) ≡ headWritten (run .geometry) (run .uuid) 0
+      → read (applied (closing run) d) 0 (headBytesOf run) ≡ headFinished (run .geometry) (run .uuid)
   closing-head d e =
       let p = spans run device s in
-      read-split (applied (closing run) d) 0 (headerSize run) (headSize run) (p .header-head)
-      ∙ rw (closing-header d, closing-behind d e) (take-append-drop (headerSize run) (headFinished (run .geometry) (run .uuid)))
+      read-split (applied (closing run) d) 0 (headerBytesOf run) (headBytesOf run) (p .header-head)
+      ∙ rw (closing-header d, closing-behind d e) (take-append-drop (headerBytesOf run) (headFinished (run .geometry) (run .uuid)))
 
   -- ---- after the whole list
 
-  list-head : (k : ℕ) → k < run .geometry .agcount → (d : Device) → read (applied (listOf run device) d) (headAt run k) (headSize run) ≡ headLeft (run .geometry) (run .uuid) k
+  list-head : (k : ℕ) → k < run .geometry .agcount → (d : Device) → read (applied (listOf run device) d) (headAt run k) (headBytesOf run) ≡ headLeft (run .geometry) (run .uuid) k
   unfolding headLeft
   list-head zero h d =
       let p = spans run device s in
@@ -156,10 +156,10 @@ module _ (run : Run) (device : ℕ) (s : Sound run device) where
       (closing-head (applied (unfinished run device) d) (rw e at (unfinished-head 0 h d)))
   list-head (suc k) h d =
       rw (ne-eqb (suc k) 0 (λ e. omega arith), list-parts run device)
-      (missed-after (headAt run (suc k)) (headSize run) (unfinished run device) (closing run) d (alone run device s (suc k) h .closing (omega arith))
+      (missed-after (headAt run (suc k)) (headBytesOf run) (unfinished run device) (closing run) d (alone run device s (suc k) h .closing (omega arith))
       ∙ unfinished-head (suc k) h d)
 
-  list-same : (off n : ℕ) → headerSize run ≤ off → (d : Device) → read (applied (listOf run device) d) off n ≡ read (applied (unfinished run device) d) off n
+  list-same : (off n : ℕ) → headerBytesOf run ≤ off → (d : Device) → read (applied (listOf run device) d) off n ≡ read (applied (unfinished run device) d) off n
   list-same off n h d = rw (list-parts run device) (missed-after off n (unfinished run device) (closing run) d (closing-miss run off n h))
 
   list-log : (d : Device) → read (applied (listOf run device) d) (logOffset (run .geometry)) (logSize run)
@@ -169,14 +169,14 @@ module _ (run : Run) (device : ℕ) (s : Sound run device) where
       after-opening (logOffset (run .geometry)) (logSize run) d (λ k x c a b e f. log-apart run device s k x e f a b) (λ x a b e f. omega (arith, p .log-chunk)) (omega arith)
       ∙ opening-log d
 
-  list-start : (off n : ℕ) (d : Device) → headSize run ≤ off → off + n ≤ whackSize → (off + n ≤ chunkAt run) ⊎ (chunkAt run + chunkSize run ≤ off)
+  list-start : (off n : ℕ) (d : Device) → headBytesOf run ≤ off → off + n ≤ whackSize → (off + n ≤ chunkOffset run) ⊎ (chunkOffset run + chunkBytesOf run ≤ off)
       → read (applied (listOf run device) d) off n ≡ zeros n
   list-start off n d h k c =
       let p = spans run device s in
-      after-opening off n d heads (λ x a b e f. ⊎-elim (λ (l : off + n ≤ chunkAt run). omega arith) (λ (l : chunkAt run + chunkSize run ≤ off). omega arith) c) (omega arith)
+      after-opening off n d heads (λ x a b e f. ⊎-elim (λ (l : off + n ≤ chunkOffset run). omega arith) (λ (l : chunkOffset run + chunkBytesOf run ≤ off). omega arith) c) (omega arith)
       ∙ opening-start off n d k
     where
-      heads : (j x : ℕ) → j < run .geometry .agcount → off ≤ x → x < off + n → headAt run j ≤ x → x < headAt run j + headSize run → ⊥
+      heads : (j x : ℕ) → j < run .geometry .agcount → off ≤ x → x < off + n → headAt run j ≤ x → x < headAt run j + headBytesOf run → ⊥
       heads zero x l a b e f = let p = spans run device s in omega (arith, p .first)
       heads (suc j) x l a b e f = let p = spans run device s in omega (arith, p .start (suc j) (omega arith))
 
@@ -189,7 +189,7 @@ module _ (run : Run) (device : ℕ) (s : Sound run device) where
       ∙ opening-end d
 
   -- WHAT A RUN LEAVES, WHATEVER STOOD THERE
-  pub left : (d : Device) → Left run device (applied (listOf run device) d)
+  pub left : (d : Device) → DeviceLeft run device (applied (listOf run device) d)
   left d =
       let p = spans run device s in
       let off = logOffset (run .geometry) in
@@ -200,7 +200,7 @@ module _ (run : Run) (device : ℕ) (s : Sound run device) where
         head = λ k h. list-head k h d;
         log = read-first _ off bs (logSize run) (p .log-some) ∙ ap (take bs) (list-log d) ∙ take-at block rest bs (s .log-long);
         log-rest = read-behind _ off bs (logSize run) (p .log-some) ∙ ap (drop bs) (list-log d) ∙ drop-at block rest bs (s .log-long);
-        chunk = list-same (chunkAt run) (chunkSize run) (omega arith) d ∙ unfinished-chunk d;
+        chunk = list-same (chunkOffset run) (chunkBytesOf run) (omega arith) d ∙ unfinished-chunk d;
         start = λ o n h k c. list-start o n d h k c;
         end = list-end d;
       }

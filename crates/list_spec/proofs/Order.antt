@@ -12,16 +12,16 @@ use Rattle.run.specs.declared.Run.{Run}
 use Rattle.list_records.specs.Records.{All, OneBlock, listBytes, payload}
 use Rattle.list_records.proofs.Blocks.{blocks-whole}
 use Rattle.list_records.proofs.Sums.{payload-total, bytes-total}
-use Rattle.list_records.specs.Device.{Fits}
+use Rattle.list_records.specs.Device.{InsideDevice}
 use Rattle.list_records.proofs.Applying.{blocks-fit, blocks-rising}
 use Rattle.list_spec.specs.Listing.{tailStart, logOffset, headBlocks, headerBlocks, chunkBlocks, headWritten, headFinished, opening, headRecords, chunkRecords, listOf, blockCount, listLength}
-use Rattle.list_spec.specs.Sound.{Sound}
+use Rattle.list_spec.specs.Sound.{SoundRun}
 use Rattle.list_spec.specs.Order.{Ordered}
 use Rattle.list_spec.proofs.Counts.{list-total, list-count, list-zeros, list-flushes, list-blocks}
 use Rattle.list_spec.proofs.Parts.{list-all}
 use Rattle.list_spec.proofs.Spans.{spans}
 
-module _ (run : Run) (device : ℕ) (s : Sound run device) where
+module _ (run : Run) (device : ℕ) (s : SoundRun run device) where
   -- ---- every part has its blocks
 
   head-room : (k : ℕ) → k < run .geometry .agcount → headBlocks (run .geometry) * run .geometry .blocksize ≤ length (headWritten (run .geometry) (run .uuid) k)
@@ -35,20 +35,20 @@ module _ (run : Run) (device : ℕ) (s : Sound run device) where
 
   -- ---- where the records lie
 
-  opening-fits : All (Fits (run .geometry .blocksize) device) (opening run device)
+  opening-fits : All (InsideDevice (run .geometry .blocksize) device) (opening run device)
   unfolding opening tailStart logOffset byteOf
   opening-fits =
       let p = spans run device s in
       let bs = run .geometry .blocksize in
       ((zero-mod bs, omega arith), ((mul-mod-left _ bs, omega arith), ((mul-mod-left _ bs, omega arith), ((mul-mod-left _ bs, omega (arith, s .log-long)), tt))))
 
-  list-fits : All (Fits (run .geometry .blocksize) device) (listOf run device)
+  list-fits : All (InsideDevice (run .geometry .blocksize) device) (listOf run device)
   unfolding headRecords chunkRecords byteOf
   list-fits =
       let p = spans run device s in
       let bs = run .geometry .blocksize in
       let one = p .end 1 (omega (arith, s .two)) in
-      list-all (Fits bs device) run device opening-fits
+      list-all (InsideDevice bs device) run device opening-fits
       (λ k h. blocks-fit bs device _ _ _ _ refl (omega (arith, p .end k h)))
       (blocks-fit bs device _ _ _ _ refl (omega (arith, p .chunk-heads 1 (omega arith))))
       (zero-mod bs, omega arith)

@@ -4,30 +4,30 @@ use mathlib.Core.Path.{_≡_}
 use Prim.Native.Nat.{ℕ, _+_, _-_, _*_, _/_, _≤_, _<_}
 use native.Mathlib.Omega.{arith}
 use native.Mathlib.Nat.{mul-le-mul-right, lt-div-mul-add, div-mul-le-self}
-use Rattle.geometry_layout.specs.Places.{before, byteOf}
+use Rattle.geometry_layout.specs.Places.{diskBlocksBefore, byteOf}
 use Rattle.geometry_places.specs.Answers.{rootChunk}
 use Rattle.run.specs.declared.Run.{Run}
 use Rattle.list_spec.specs.Listing.{whackSize, blocksEnd, tailStart, logOffset}
-use Rattle.list_spec.specs.Sound.{Sound}
-use Rattle.list_spec.specs.Left.{headAt, headSize, headerSize, logSize, chunkAt, chunkSize}
+use Rattle.list_spec.specs.Sound.{SoundRun}
+use Rattle.list_spec.specs.Left.{headAt, headBytesOf, headerBytesOf, logSize, chunkOffset, chunkBytesOf}
 
 pub record Spans (run : Run) (device : ℕ) : Type 0 where
   -- heads: group 0's at 0, each before the next
   pub first : headAt run 0 ≡ 0
-  pub heads : (j k : ℕ) → j < k → headAt run j + headSize run ≤ headAt run k
-  pub header-some : run .geometry .blocksize ≤ headerSize run
-  pub header-head : headerSize run ≤ headSize run
+  pub heads : (j k : ℕ) → j < k → headAt run j + headBytesOf run ≤ headAt run k
+  pub header-some : run .geometry .blocksize ≤ headerBytesOf run
+  pub header-head : headerBytesOf run ≤ headBytesOf run
   -- the root chunk between the heads of groups 0 and 1
-  pub chunk-after : headSize run ≤ chunkAt run
-  pub chunk-heads : (k : ℕ) → 0 < k → chunkAt run + chunkSize run ≤ headAt run k
+  pub chunk-after : headBytesOf run ≤ chunkOffset run
+  pub chunk-heads : (k : ℕ) → 0 < k → chunkOffset run + chunkBytesOf run ≤ headAt run k
   -- the log behind its group's head
   pub log-some : run .geometry .blocksize ≤ logSize run
-  pub log-chunk : chunkAt run + chunkSize run ≤ logOffset (run .geometry)
-  pub log-after : (k : ℕ) → k ≤ run .geometry .logagno → headAt run k + headSize run ≤ logOffset (run .geometry)
+  pub log-chunk : chunkOffset run + chunkBytesOf run ≤ logOffset (run .geometry)
+  pub log-after : (k : ℕ) → k ≤ run .geometry .logagno → headAt run k + headBytesOf run ≤ logOffset (run .geometry)
   pub log-before : (k : ℕ) → run .geometry .logagno < k → logOffset (run .geometry) + logSize run ≤ headAt run k
   -- the zeros at the device's ends
   pub start : (k : ℕ) → 0 < k → whackSize ≤ headAt run k
-  pub end : (k : ℕ) → k < run .geometry .agcount → headAt run k + headSize run ≤ tailStart (run .geometry .blocksize) device
+  pub end : (k : ℕ) → k < run .geometry .agcount → headAt run k + headBytesOf run ≤ tailStart (run .geometry .blocksize) device
   pub tail-ends : tailStart (run .geometry .blocksize) device ≤ blocksEnd (run .geometry .blocksize) device
   pub blocks-end : blocksEnd (run .geometry .blocksize) device ≤ device
   pub log-tail : logOffset (run .geometry) + run .geometry .blocksize ≤ tailStart (run .geometry .blocksize) device
@@ -37,7 +37,7 @@ pub record Spans (run : Run) (device : ℕ) : Type 0 where
 module _ (bs s : ℕ) where
   -- the offset of a block, as a sum
   pub byte-sum : (k b : ℕ) → byteOf bs s k b ≡ k * s * bs + b * bs
-  unfolding byteOf before
+  unfolding byteOf diskBlocksBefore
   byte-sum k b = omega arith
 
   -- a group's first bytes end before a later group begins
@@ -68,7 +68,7 @@ pub end-low : (bs device : ℕ) → blocksEnd bs device ≤ device
 unfolding blocksEnd
 end-low bs device = div-mul-le-self device bs
 
-module _ (run : Run) (device : ℕ) (s : Sound run device) where
+module _ (run : Run) (device : ℕ) (s : SoundRun run device) where
   pub spans : Spans run device
   unfolding logOffset
   spans =
@@ -77,8 +77,8 @@ module _ (run : Run) (device : ℕ) (s : Sound run device) where
       let n = g .agsize in
       let at = byte-sum bs n in
       let apart = groups-apart bs n in
-      let head : headSize run ≤ n * bs = mul-le-mul-right bs (s .head-room) in
-      let chunk : rootChunk g * bs + chunkSize run ≤ n * bs = omega (arith, mul-le-mul-right bs (s .chunk-room)) in
+      let head : headBytesOf run ≤ n * bs = mul-le-mul-right bs (s .head-room) in
+      let chunk : rootChunk g * bs + chunkBytesOf run ≤ n * bs = omega (arith, mul-le-mul-right bs (s .chunk-room)) in
       let log : g .«log_agbno» * bs + logSize run ≤ n * bs = omega (arith, mul-le-mul-right bs (s .log-room)) in
       let zero-group : 0 * n * bs ≡ 0 = omega arith in
       let later : (k : ℕ) → 0 < k → n * bs ≤ k * n * bs = λ k h. omega (arith, apart 0 k h) in
@@ -102,13 +102,13 @@ module _ (run : Run) (device : ℕ) (s : Sound run device) where
         log-ends = log-inside;
       }
     where
-      log-behind : (k : ℕ) → k ≤ run .geometry .logagno → headAt run k + headSize run ≤ byteOf (run .geometry .blocksize) (run .geometry .agsize) (run .geometry .logagno) (run .geometry .«log_agbno»)
+      log-behind : (k : ℕ) → k ≤ run .geometry .logagno → headAt run k + headBytesOf run ≤ byteOf (run .geometry .blocksize) (run .geometry .agsize) (run .geometry .logagno) (run .geometry .«log_agbno»)
       log-behind k h =
           let g = run .geometry in
           let m : k * g .agsize * g .blocksize ≤ g .logagno * g .agsize * g .blocksize = mul-le-mul-right (g .blocksize) (mul-le-mul-right (g .agsize) h) in
           omega (arith, m, byte-sum (g .blocksize) (g .agsize) k 0, byte-sum (g .blocksize) (g .agsize) (g .logagno) (g .«log_agbno»), mul-le-mul-right (g .blocksize) (s .log-after))
 
-      ends : (k : ℕ) → k < run .geometry .agcount → headAt run k + headSize run ≤ tailStart (run .geometry .blocksize) device
+      ends : (k : ℕ) → k < run .geometry .agcount → headAt run k + headBytesOf run ≤ tailStart (run .geometry .blocksize) device
       ends k h =
           let g = run .geometry in
           let bs = g .blocksize in

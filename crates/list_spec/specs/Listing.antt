@@ -12,13 +12,13 @@ use Rattle.geometry.specs.Log.{headerOf, preallocOf}
 use Rattle.geometry_layout.specs.Places.{chunkOf, lsunitBytes, logsunitOf, byteOf}
 use Rattle.geometry_places.specs.Answers.{rootChunk}
 use Rattle.log.specs.Record.{clearSunit}
-use Rattle.log.specs.Record.{recordBytes as logRecord}
+use Rattle.log.specs.Record.{logRecordBytes as logRecord}
 use Rattle.plan.specs.Plan.{planned}
 use Rattle.head_bytes.specs.Head.{zeros, headBytes}
 use Rattle.chunk.specs.Chunk.{chunkBytes}
 use Rattle.sb_states.specs.States.{stateOf, finishedState}
 use Rattle.run.specs.declared.Run.{Run}
-use Rattle.list_records.specs.Records.{Record, WZ, WB, FL, blocks}
+use Rattle.list_records.specs.Records.{Record, WZ, WB, FL, blockRecords}
 
 -- ---- the device's ends: whole blocks only
 
@@ -84,7 +84,7 @@ opening run device =
 -- the head of group k
 unfoldable pub headRecords : Run → ℕ → List Record
 headRecords run k =
-    blocks (run .geometry .blocksize) (byteOf (run .geometry .blocksize) (run .geometry .agsize) k 0) (headBlocks (run .geometry))
+    blockRecords (run .geometry .blocksize) (byteOf (run .geometry .blocksize) (run .geometry .agsize) k 0) (headBlocks (run .geometry))
     (headWritten (run .geometry) (run .uuid) k)
 
 -- the heads of the first n groups
@@ -95,12 +95,12 @@ headsTo run (suc n) = headsTo run n ++ headRecords run n
 -- the root chunk, in group 0
 unfoldable pub chunkRecords : Run → List Record
 chunkRecords run =
-    blocks (run .geometry .blocksize) (byteOf (run .geometry .blocksize) (run .geometry .agsize) 0 (rootChunk (run .geometry))) (chunkBlocks (run .geometry))
+    blockRecords (run .geometry .blocksize) (byteOf (run .geometry .blocksize) (run .geometry .agsize) 0 (rootChunk (run .geometry))) (chunkBlocks (run .geometry))
     (chunkBytes (run .geometry) (rootChunk (run .geometry)) (run .uuid) (run .time) (run .seed))
 
 -- the header blocks of group 0 again, with the finished superblock
 abbrev pub headerRecords : Run → List Record
-headerRecords run = blocks (run .geometry .blocksize) 0 (headerBlocks (run .geometry)) (headFinished (run .geometry) (run .uuid))
+headerRecords run = blockRecords (run .geometry .blocksize) 0 (headerBlocks (run .geometry)) (headFinished (run .geometry) (run .uuid))
 
 -- a flush, these, and a flush
 unfoldable pub closing : Run → List Record

@@ -9,7 +9,7 @@ use Rattle.chunk.specs.Chunk.{chunkBytes}
 use Rattle.run.specs.declared.Run.{Run}
 use Rattle.list_spec.specs.Listing.{headBlocks, headerBlocks, chunkBlocks, logBlock, headWritten, headFinished}
 
-pub record Sound (run : Run) (device : ℕ) : Type 0 where
+pub record SoundRun (run : Run) (device : ℕ) : Type 0 where
   pub block-least : 1024 ≤ run .geometry .blocksize
   pub block-most : run .geometry .blocksize ≤ 16384
   pub large : 314572800 ≤ device + 16384

@@ -13,9 +13,9 @@ use Rattle.structs.proofs.Reading.{patch-whole}
 use Rattle.geometry.specs.declared.Geometry.{Geometry}
 use Rattle.geometry.specs.Log.{preallocOf}
 use Rattle.geometry_layout.specs.Bounds.{Bounds}
-use Rattle.geometry_layout.specs.Places.{byteOf, before}
+use Rattle.geometry_layout.specs.Places.{byteOf, diskBlocksBefore}
 use Rattle.geometry_places.specs.Answers.{rootChunk}
-use Rattle.list_records.specs.Records.{Record, WZ, WB, FL, recordBytes, listBytes, blocks}
+use Rattle.list_records.specs.Records.{Record, WZ, WB, FL, recordBytes, listBytes, blockRecords}
 use Rattle.run.specs.declared.Run.{Run}
 use Rattle.list_spec.specs.Listing.{blocksEnd, tailStart, logOffset, logBlock, headBlocks, headerBlocks, chunkBlocks, headFinished, opening, headRecords, chunkRecords, closing, listChunk}
 use Rattle.list_lengths.specs.Lengths.{blocksLength}
@@ -44,10 +44,10 @@ three-runs o p q a b c xs e f = ap (λ (l : List ℕ). patch o a l) (two-runs p 
 
 module _ (bs device log n : ℕ) where
   -- the three records of zeros
-  pub zeros-done : (end before tail last first : ℕ) (xs ys zs ws : List ℕ) → end ≡ device / bs * bs → before ≡ end - 131072 → tail ≡ before / bs * bs → last ≡ end - tail → first ≡ min 131072 end
+  pub zeros-done : (end diskBlocksBefore tail last first : ℕ) (xs ys zs ws : List ℕ) → end ≡ device / bs * bs → diskBlocksBefore ≡ end - 131072 → tail ≡ diskBlocksBefore / bs * bs → last ≡ end - tail → first ≡ min 131072 end
       → ys ≡ patch 36 (recordHead 0x575a log n) xs → zs ≡ patch 18 (recordHead 0x575a tail last) ys → ws ≡ patch 0 (recordHead 0x575a 0 first) zs → ws ≡ patch 0 (zeroHeads bs device log n) xs
   unfolding zeroHeads blocksEnd tailStart
-  zeros-done end before tail last first xs ys zs ws e b t l f p q r =
+  zeros-done end diskBlocksBefore tail last first xs ys zs ws e b t l f p q r =
       let ht = recordHead 0x575a tail last in
       let hf = recordHead 0x575a 0 first in
       r
@@ -92,13 +92,13 @@ module _ (run : Run) (device : ℕ) where
 
 -- ---- blocks alone
 
-pub blocks-done : (bs offset n : ℕ) (src xs ys : List ℕ) → n * bs ≤ length src → length xs ≡ blocksLength bs n → ys ≡ patch 0 (listBytes (blocks bs offset n src)) xs → ys ≡ listBytes (blocks bs offset n src)
-blocks-done bs offset n src xs ys h l e = e ∙ patch-whole (listBytes (blocks bs offset n src)) xs (blocks-length bs offset n src h ∙ sym l)
+pub blocks-done : (bs offset n : ℕ) (src xs ys : List ℕ) → n * bs ≤ length src → length xs ≡ blocksLength bs n → ys ≡ patch 0 (listBytes (blockRecords bs offset n src)) xs → ys ≡ listBytes (blockRecords bs offset n src)
+blocks-done bs offset n src xs ys h l e = e ∙ patch-whole (listBytes (blockRecords bs offset n src)) xs (blocks-length bs offset n src h ∙ sym l)
 
 module _ (run : Run) (device : ℕ) where
   pub group-done : (bs at n k : ℕ) (src xs ys : List ℕ) → (k ≡ 0 → ⊥) → k ≤ run .geometry .agcount → bs ≡ run .geometry .blocksize → n ≡ headBlocks (run .geometry) → at ≡ byteOf bs (run .geometry .agsize) (k - 1) 0
       → src ≡ partBytes run k → length src ≡ partLength (run .geometry) k → length xs ≡ listedLength (run .geometry) k
-      → ys ≡ patch 0 (listBytes (blocks bs at n src)) xs → ys ≡ listBytes (listChunk run device k)
+      → ys ≡ patch 0 (listBytes (blockRecords bs at n src)) xs → ys ≡ listBytes (listChunk run device k)
   unfolding headRecords
   group-done bs at n k src xs ys z h b m a s l lx e =
       let g = run .geometry in
@@ -109,7 +109,7 @@ module _ (run : Run) (device : ℕ) where
 
   pub root-done : (bs at block n k : ℕ) (src xs ys : List ℕ) → run .geometry .agcount < k → k - 1 ≡ run .geometry .agcount → bs ≡ run .geometry .blocksize → n ≡ chunkBlocks (run .geometry) → block ≡ rootChunk (run .geometry)
       → at ≡ byteOf bs (run .geometry .agsize) 0 block → src ≡ partBytes run k → length src ≡ partLength (run .geometry) k → length xs ≡ listedLength (run .geometry) k
-      → ys ≡ patch 0 (listBytes (blocks bs at n src)) xs → ys ≡ listBytes (listChunk run device k)
+      → ys ≡ patch 0 (listBytes (blockRecords bs at n src)) xs → ys ≡ listBytes (listChunk run device k)
   unfolding chunkRecords
   root-done bs at block n k src xs ys z h b m r a s l lx e =
       let g = run .geometry in
@@ -120,22 +120,22 @@ module _ (run : Run) (device : ℕ) where
 
   -- ---- the closing
 
-  closing-is : listBytes (closing run) ≡ recordBytes FL ++ (listBytes (blocks (run .geometry .blocksize) 0 (headerBlocks (run .geometry)) (headFinished (run .geometry) (run .uuid))) ++ recordBytes FL)
+  closing-is : listBytes (closing run) ≡ recordBytes FL ++ (listBytes (blockRecords (run .geometry .blocksize) 0 (headerBlocks (run .geometry)) (headFinished (run .geometry) (run .uuid))) ++ recordBytes FL)
   unfolding closing listBytes
-  closing-is = ap (λ (l : List ℕ). recordBytes FL ++ l) (list-append (blocks (run .geometry .blocksize) 0 (headerBlocks (run .geometry)) (headFinished (run .geometry) (run .uuid))) (FL ∷ []) ∙ rw append-nil refl)
+  closing-is = ap (λ (l : List ℕ). recordBytes FL ++ l) (list-append (blockRecords (run .geometry .blocksize) 0 (headerBlocks (run .geometry)) (headFinished (run .geometry) (run .uuid))) (FL ∷ []) ∙ rw append-nil refl)
 
   pub closing-done : (bs n k : ℕ) (src ws : List ℕ) → run .geometry .agcount < k → (k - 1 ≡ run .geometry .agcount → ⊥) → bs ≡ run .geometry .blocksize → n ≡ headerBlocks (run .geometry) → src ≡ partBytes run k
-      → ws ≡ recordBytes FL ++ (listBytes (blocks bs 0 n src) ++ recordBytes FL) → ws ≡ listBytes (listChunk run device k)
+      → ws ≡ recordBytes FL ++ (listBytes (blockRecords bs 0 n src) ++ recordBytes FL) → ws ≡ listBytes (listChunk run device k)
   closing-done bs n k src ws z h b m s e =
       e ∙ rw (s, closing-part run k z h, m, b) (sym closing-is) ∙ ap (λ (r : List Record). listBytes r) (sym (closing-chunk run device k z h))
 
 -- a flush, blocks, and a flush, the last written first
 pub closing-whole : {r t : ℕ} (bs n end : ℕ) (src xs ys zs ws : List ℕ) → end ≡ length xs - 2 → n * bs ≤ length src → length xs ≡ 2 + blocksLength bs n + 2
-    → Put (end + 2) (patch end (beBytes 2 0x464c) xs) xs r ys → zs ≡ patch 2 (listBytes (blocks bs 0 n src)) ys → Put (0 + 2) (patch 0 (beBytes 2 0x464c) zs) zs t ws
-    → ws ≡ recordBytes FL ++ (listBytes (blocks bs 0 n src) ++ recordBytes FL)
+    → Put (end + 2) (patch end (beBytes 2 0x464c) xs) xs r ys → zs ≡ patch 2 (listBytes (blockRecords bs 0 n src)) ys → Put (0 + 2) (patch 0 (beBytes 2 0x464c) zs) zs t ws
+    → ws ≡ recordBytes FL ++ (listBytes (blockRecords bs 0 n src) ++ recordBytes FL)
 closing-whole bs n end src xs ys zs ws f l lx p q u =
     let F = beBytes 2 0x464c in
-    let B = listBytes (blocks bs 0 n src) in
+    let B = listBytes (blockRecords bs 0 n src) in
     let lf : length F ≡ 2 = length-be 2 0x464c in
     let lb : length B ≡ blocksLength bs n = blocks-length bs 0 n src l in
     let e : ys ≡ patch end F xs = put-in p (omega arith) in
@@ -170,7 +170,7 @@ module _ (g : Geometry) (z : Bounds g) where
   -- n blocks of group k from block b on, over the whole buffer
   pub blocks-room : (bs at n few k b len work : ℕ) → bs ≡ g .blocksize → n ≡ few → at ≡ byteOf bs (g .agsize) k b → k < g .agcount → b + few ≤ 1000 → len ≡ few * g .blocksize → work ≡ blocksLength (g .blocksize) few
       → (at + n * bs ≤ 2 ^ 64) × (0 < bs) × (n * bs ≤ len) × (0 + n * (18 + bs) ≤ work)
-  unfolding byteOf before blocksLength
+  unfolding byteOf diskBlocksBefore blocksLength
   blocks-room bs at n few k b len work e m a h f l r =
       let w = group-blocks g z k b few h f in
       let s = size-least g z in

@@ -12,7 +12,7 @@ use Rattle.endian.specs.Answer.{Put}
 use Rattle.endian.specs.Bytes.{beBytes, patch}
 use Rattle.endian.proofs.Laws.{length-be, length-patch, patch-append, put-in}
 use Rattle.structs.proofs.Reading.{patch-apart}
-use Rattle.list_records.specs.Records.{Record, WZ, WB, FL, recordBytes, listBytes, blocks}
+use Rattle.list_records.specs.Records.{Record, WZ, WB, FL, recordBytes, listBytes, blockRecords}
 use Rattle.list_records.proofs.Sizes.{block-bytes}
 use Rattle.list_records.proofs.Sums.{blocks-bytes}
 use Rattle.list_lengths.specs.Lengths.{blocksLength}
@@ -96,19 +96,19 @@ unfolding listBytes
 list-append [] ss = refl
 list-append (r ∷ rs) ss = ap (λ (l : List ℕ). recordBytes r ++ l) (list-append rs ss) ∙ sym (append-assoc (recordBytes r) (listBytes rs) (listBytes ss))
 
-pub blocks-length : (bs offset n : ℕ) (bytes : List ℕ) → n * bs ≤ length bytes → length (listBytes (blocks bs offset n bytes)) ≡ blocksLength bs n
+pub blocks-length : (bs offset n : ℕ) (bytes : List ℕ) → n * bs ≤ length bytes → length (listBytes (blockRecords bs offset n bytes)) ≡ blocksLength bs n
 unfolding blocksLength
 blocks-length = blocks-bytes
 
 -- the blocks of a write from j on, as records from the j-th on
 pub blocksFrom : ℕ → ℕ → ℕ → List ℕ → ℕ → List ℕ
-blocksFrom bs offset n src j = listBytes (blocks bs (offset + j * bs) (n - j) (drop (j * bs) src))
+blocksFrom bs offset n src j = listBytes (blockRecords bs (offset + j * bs) (n - j) (drop (j * bs) src))
 
 module _ (bs offset n at : ℕ) (src : List ℕ) where
   -- block i is put before those that are there
   turn-at : (i : ℕ) (xs : List ℕ) → i < n → n * bs ≤ length src → patch (at + i * (18 + bs)) (recordBytes (WB (offset + i * bs) (take bs (drop (i * bs) src)))) (patch (at + suc i * (18 + bs)) (blocksFrom bs offset n src (suc i)) xs)
       ≡ patch (at + i * (18 + bs)) (blocksFrom bs offset n src i) xs
-  unfolding blocksFrom listBytes blocks
+  unfolding blocksFrom listBytes blockRecords
   turn-at i xs h l =
       let m : n - i ≡ suc (n - suc i) = omega arith in
       let w = mul-le-mul-right bs h in
@@ -119,12 +119,12 @@ module _ (bs offset n at : ℕ) (src : List ℕ) where
       let o : offset + suc i * bs ≡ offset + i * bs + bs = omega arith in
       let k : suc i * bs ≡ i * bs + bs = omega arith in
       let d : drop (suc i * bs) src ≡ drop bs (drop (i * bs) src) = ap (λ (x : ℕ). drop x src) k ∙ sym (drop-drop bs (i * bs) src) in
-      rw (p, o, d) (sym (rw m (patch-append (at + i * (18 + bs)) b (listBytes (blocks bs (offset + i * bs + bs) (n - suc i) (drop bs (drop (i * bs) src)))) xs)))
+      rw (p, o, d) (sym (rw m (patch-append (at + i * (18 + bs)) b (listBytes (blockRecords bs (offset + i * bs + bs) (n - suc i) (drop bs (drop (i * bs) src)))) xs)))
 
   -- block j is put, and those after it are still to come
-  pub blocks-turn : (j : ℕ) (xs ys zs : List ℕ) → j < n → n * bs ≤ length src → patch (at + j * (18 + bs)) (blocksFrom bs offset n src j) ys ≡ patch at (listBytes (blocks bs offset n src)) xs
+  pub blocks-turn : (j : ℕ) (xs ys zs : List ℕ) → j < n → n * bs ≤ length src → patch (at + j * (18 + bs)) (blocksFrom bs offset n src j) ys ≡ patch at (listBytes (blockRecords bs offset n src)) xs
       → zs ≡ patch (at + j * (18 + bs)) (recordBytes (WB (offset + j * bs) (take bs (drop (j * bs) src)))) ys
-      → patch (at + (j + 1) * (18 + bs)) (blocksFrom bs offset n src (j + 1)) zs ≡ patch at (listBytes (blocks bs offset n src)) xs
+      → patch (at + (j + 1) * (18 + bs)) (blocksFrom bs offset n src (j + 1)) zs ≡ patch at (listBytes (blockRecords bs offset n src)) xs
   blocks-turn j xs ys zs h l e d =
       let w = mul-le-mul-right bs h in
       let b = recordBytes (WB (offset + j * bs) (take bs (drop (j * bs) src))) in
@@ -139,7 +139,7 @@ module _ (bs offset n at : ℕ) (src : List ℕ) where
       ∙ e
 
   -- all are still to come
-  pub blocks-start : (xs : List ℕ) → patch (at + 0 * (18 + bs)) (blocksFrom bs offset n src 0) xs ≡ patch at (listBytes (blocks bs offset n src)) xs
+  pub blocks-start : (xs : List ℕ) → patch (at + 0 * (18 + bs)) (blocksFrom bs offset n src 0) xs ≡ patch at (listBytes (blockRecords bs offset n src)) xs
   unfolding blocksFrom
   blocks-start xs =
       let a : at + 0 * (18 + bs) ≡ at = omega arith in
@@ -150,10 +150,10 @@ module _ (bs offset n at : ℕ) (src : List ℕ) where
 
   -- none is
   blocks-none : (j : ℕ) (ys : List ℕ) → n ≤ j → ys ≡ patch (at + j * (18 + bs)) (blocksFrom bs offset n src j) ys
-  unfolding blocksFrom listBytes blocks patch
+  unfolding blocksFrom listBytes blockRecords patch
   blocks-none j ys h = let z : n - j ≡ 0 = omega arith in rw z refl
 
-  pub blocks-end : (j : ℕ) (xs ys : List ℕ) → n ≤ j → patch (at + j * (18 + bs)) (blocksFrom bs offset n src j) ys ≡ patch at (listBytes (blocks bs offset n src)) xs → ys ≡ patch at (listBytes (blocks bs offset n src)) xs
+  pub blocks-end : (j : ℕ) (xs ys : List ℕ) → n ≤ j → patch (at + j * (18 + bs)) (blocksFrom bs offset n src j) ys ≡ patch at (listBytes (blockRecords bs offset n src)) xs → ys ≡ patch at (listBytes (blockRecords bs offset n src)) xs
   blocks-end j xs ys h e = blocks-none j ys h ∙ e
 
 -- what block j needs

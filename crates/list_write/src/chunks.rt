@@ -5,9 +5,9 @@ ghost use Prim.Native.Nat.{_+_, _*_, _<_, _≤_, _^_};
 ghost use lib.ListN.{length};
 ghost use Rattle.endian.specs.Bytes.{patch};
 ghost use Rattle.geometry_layout.specs.Places.{byteOf};
-ghost use Rattle.list_records.specs.Records.{WB, FL, recordBytes, listBytes, blocks};
+ghost use Rattle.list_records.specs.Records.{WB, FL, recordBytes, listBytes, blockRecords};
 ghost use Rattle.list_spec.specs.Listing.{listChunk};
-ghost use Rattle.list_lengths.specs.Lengths.{flushSize, headSize, blocksLength};
+ghost use Rattle.list_lengths.specs.Lengths.{flushSize, recordHeadSize, blocksLength};
 ghost use Rattle.list_lengths.specs.Chunks.{listedLength, partLength, formatNumber};
 ghost use Rattle.list_write.specs.Writing.{partBytes, zeroHeads};
 use crate::split::put_block;
@@ -37,7 +37,7 @@ fn byte_of(bs: usize, agsize: u64, k: u64, b: u64) -> u64
 
 // The heads of the three records of zeros: at the start and the end of the device, and over the log.
 fn put_zeros(bs: usize, device: u64, log: u64, n: u64, buf: &mut [u8])
-    requires { ⌜ 3 * headSize ≤ length (now buf) ⌝ }
+    requires { ⌜ 3 * recordHeadSize ≤ length (now buf) ⌝ }
     ensures { λ _. ⌜ now (buf .exit) ≡ patch 0 (zeroHeads bs device log n) (now (buf .entry)) ⌝ }
 {
     let end = round_down(device, bs as u64);
@@ -49,7 +49,7 @@ fn put_zeros(bs: usize, device: u64, log: u64, n: u64, buf: &mut [u8])
 
 // Zeros at the start and the end of the device and over the log, n bytes at `at`, and the log's first block.
 fn put_opening(bs: usize, device: u64, at: u64, n: u64, part: &[u8], buf: &mut [u8])
-    requires { ⌜ length (now buf) ≡ 3 * headSize + (headSize + length (now part)) ⌝ }
+    requires { ⌜ length (now buf) ≡ 3 * recordHeadSize + (recordHeadSize + length (now part)) ⌝ }
     ensures { λ _. ⌜ now (buf .exit) ≡ zeroHeads bs device at n ++ recordBytes (WB at (now (part .entry))) ⌝ }
 {
     put_block(at, part, 3 * HEAD_SIZE, buf);
@@ -59,7 +59,7 @@ fn put_opening(bs: usize, device: u64, at: u64, n: u64, part: &[u8], buf: &mut [
 // A flush, the first n blocks of the disk, and a flush; the last is written first.
 fn put_closing(bs: usize, n: usize, part: &[u8], buf: &mut [u8])
     requires { ⌜ (0 < bs) × (n * bs ≤ 2 ^ 64) × (n * bs ≤ length (now part)) × (length (now buf) ≡ flushSize + blocksLength bs n + flushSize) ⌝ }
-    ensures { λ _. ⌜ now (buf .exit) ≡ recordBytes FL ++ (listBytes (blocks bs 0 n (now (part .entry))) ++ recordBytes FL) ⌝ }
+    ensures { λ _. ⌜ now (buf .exit) ≡ recordBytes FL ++ (listBytes (blockRecords bs 0 n (now (part .entry))) ++ recordBytes FL) ⌝ }
 {
     let end = buf.len() - MARK_SIZE;
     endian::put16(buf, end, FLUSH_MARK);

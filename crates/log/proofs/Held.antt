@@ -12,7 +12,7 @@ use Rattle.endian.specs.Fields.{Field, spans}
 use Rattle.structs.specs.Holds.{Holds}
 use Rattle.structs.proofs.Reading.{held}
 use Rattle.structs.proofs.Rising.{rises, end, both, le-test, rises-tidy}
-use Rattle.log.specs.Record.{cycleOf, blocksOf, headerFields, stamps, unmountFields, recordFields, recordBytes}
+use Rattle.log.specs.Record.{cycleOf, basicBlocksOf, headerFields, stamps, unmountFields, recordFields, logRecordBytes}
 use Rattle.log.proofs.Laws.{blocks-least}
 
 -- rising from `o` on and ending by `m`
@@ -38,13 +38,13 @@ unfolding headerFields unmountFields beBytes leBytes
 prefix-in uuid sunit lsn tailLsn cycle m fs u w = rw u w
 
 -- the fields of a record are held
-pub record-holds : (uuid : List ℕ) (sunit lsn tailLsn : ℕ) → length uuid ≡ 16 → Holds (recordFields uuid sunit lsn tailLsn) (recordBytes uuid sunit lsn tailLsn)
-unfolding recordBytes recordFields
+pub record-holds : (uuid : List ℕ) (sunit lsn tailLsn : ℕ) → length uuid ≡ 16 → Holds (recordFields uuid sunit lsn tailLsn) (logRecordBytes uuid sunit lsn tailLsn)
+unfolding logRecordBytes recordFields
 record-holds uuid sunit lsn tailLsn u =
-    let m = 512 * blocksOf sunit in
+    let m = 512 * basicBlocksOf sunit in
     let b = blocks-least sunit in
     let fs = recordFields uuid sunit lsn tailLsn in
     let w : Within 0 m fs =
-    prefix-in uuid sunit lsn tailLsn (cycleOf lsn) m (stamps (cycleOf lsn) 2 (blocksOf sunit - 2)) u (stamps-in (cycleOf lsn) 1 (blocksOf sunit - 2) 526 m (lit≤ tt) (omega arith)) in
+    prefix-in uuid sunit lsn tailLsn (cycleOf lsn) m (stamps (cycleOf lsn) 2 (basicBlocksOf sunit - 2)) u (stamps-in (cycleOf lsn) 1 (basicBlocksOf sunit - 2) 526 m (lit≤ tt) (omega arith)) in
     let z : length (replicate {A = ℕ} m 0) ≡ m = length-replicate m 0 in
     held (spans fs) m (rises-tidy 0 m (spans fs) (w .0) (w .1)) fs refl (replicate m 0) (omega arith)

@@ -5,8 +5,8 @@ use mathlib.Core.List.{List, [], _++_}
 use Prim.Native.Nat.{ℕ, zero, suc, _*_, _-_, max}
 use lib.ListN.{length, replicate}
 use Rattle.endian.specs.Bytes.{beAt}
-use Rattle.endian.specs.Fields.{Field, write}
-use Rattle.log.specs.Record.{basicBlock, bigRecord, cycleOf, roundedUp, blocksOf, headerFields, unmountFields, stamps, recordBytes}
+use Rattle.endian.specs.Fields.{Field, writeFields}
+use Rattle.log.specs.Record.{basicBlock, bigRecord, cycleOf, roundedUp, basicBlocksOf, headerFields, unmountFields, stamps, logRecordBytes}
 
 -- a header sector for each 32,768 bytes of the stripe unit, at least one
 unfoldable pub headersOf : ℕ → ℕ
@@ -14,7 +14,7 @@ headersOf sunit = max 1 (roundedUp sunit 32768)
 
 -- a sector of zeros with these fields
 abbrev pub sector : List Field → List ℕ
-sector fs = write fs (replicate basicBlock 0)
+sector fs = writeFields fs (replicate basicBlock 0)
 
 -- the same bytes `n` times
 unfoldable pub repeated : ℕ → List ℕ → List ℕ
@@ -25,9 +25,9 @@ repeated (suc n) xs = xs ++ repeated n xs
 -- but for the cycle in each first word; and the two header fields in which the count or the unit stands, h_len and h_size.
 pub record OneHeader (uuid : List ℕ) (sunit lsn tailLsn : ℕ) : Type 0 where
   pub headers : headersOf sunit ≡ 1
-  pub sectors : recordBytes uuid sunit lsn tailLsn
+  pub sectors : logRecordBytes uuid sunit lsn tailLsn
       ≡ sector (headerFields uuid sunit lsn tailLsn)
-      ++ (sector (unmountFields 0 (cycleOf lsn)) ++ repeated (blocksOf sunit - 2) (sector (stamps (cycleOf lsn) 0 1)))
+      ++ (sector (unmountFields 0 (cycleOf lsn)) ++ repeated (basicBlocksOf sunit - 2) (sector (stamps (cycleOf lsn) 0 1)))
   pub each : (fs : List Field) → length (sector fs) ≡ basicBlock
-  pub len : beAt 4 12 (recordBytes uuid sunit lsn tailLsn) ≡ max (2 * basicBlock) sunit - basicBlock * headersOf sunit
-  pub size : beAt 4 320 (recordBytes uuid sunit lsn tailLsn) ≡ max sunit bigRecord
+  pub len : beAt 4 12 (logRecordBytes uuid sunit lsn tailLsn) ≡ max (2 * basicBlock) sunit - basicBlock * headersOf sunit
+  pub size : beAt 4 320 (logRecordBytes uuid sunit lsn tailLsn) ≡ max sunit bigRecord

@@ -7,7 +7,7 @@ use lib.Dec.{leb, eqb}
 use lib.ListN.{replicate}
 use Rattle.refusals.specs.Numbers.{wrongLength, sunitTooLarge}
 use Rattle.endian_little.specs.Bytes.{leBytes}
-use Rattle.endian.specs.Fields.{Field, field, run, write}
+use Rattle.endian.specs.Fields.{Field, field, byteRun, writeFields}
 use Rattle.structs.specs.Written.{null32, require}
 
 abbrev pub largestSunit : ℕ
@@ -60,11 +60,11 @@ unfoldable pub roundedUp : ℕ → ℕ → ℕ
 roundedUp a b = (a + (b - 1)) / b
 
 -- a record is the larger of 2 and (stripe unit / 512, rounded up) basic blocks
-unfoldable pub blocksOf : ℕ → ℕ
-blocksOf sunit = max 2 (roundedUp sunit basicBlock)
+unfoldable pub basicBlocksOf : ℕ → ℕ
+basicBlocksOf sunit = max 2 (roundedUp sunit basicBlock)
 
 unfoldable pub recordNumber : ℕ → ℕ → ℕ
-recordNumber sunit len = require wrongLength (eqb len (basicBlock * blocksOf sunit)) (require sunitTooLarge (leb sunit largestSunit) 0)
+recordNumber sunit len = require wrongLength (eqb len (basicBlock * basicBlocksOf sunit)) (require sunitTooLarge (leb sunit largestSunit) 0)
 
 -- `struct xlog_rec_header`. The unmount record's first word has moved into the cycle data. The length is that of what follows.
 unfoldable pub headerFields : List ℕ → ℕ → ℕ → ℕ → List Field
@@ -80,7 +80,7 @@ headerFields uuid sunit lsn tailLsn =
     ∷ field 40 4 1  -- h_num_logops
     ∷ field 44 4 unmountTid  -- h_cycle_data, the first of 64
     ∷ field 300 4 linuxLe  -- h_fmt
-    ∷ run 304 uuid  -- h_fs_uuid
+    ∷ byteRun 304 uuid  -- h_fs_uuid
     ∷ field 320 4 bigRecord  -- h_size
     ∷ []
 
@@ -91,7 +91,7 @@ unmountFields at cycle =
     ∷ field (at + 4) 4 8  -- oh_len
     ∷ field (at + 8) 1 clientLog  -- oh_clientid
     ∷ field (at + 9) 1 unmountTrans  -- oh_flags
-    ∷ run (at + 12) (leBytes 2 unmountType)  -- magic
+    ∷ byteRun (at + 12) (leBytes 2 unmountType)  -- magic
     ∷ []
 
 -- the first word of each of `n` basic blocks from the block `from` on is the cycle
@@ -102,8 +102,8 @@ stamps cycle from (suc n) = field (basicBlock * from) 4 cycle ∷ stamps cycle (
 -- the header, the unmount record in the block behind it, and stamps in all others
 unfoldable pub recordFields : List ℕ → ℕ → ℕ → ℕ → List Field
 recordFields uuid sunit lsn tailLsn =
-    headerFields uuid sunit lsn tailLsn ++ (unmountFields basicBlock (cycleOf lsn) ++ stamps (cycleOf lsn) 2 (blocksOf sunit - 2))
+    headerFields uuid sunit lsn tailLsn ++ (unmountFields basicBlock (cycleOf lsn) ++ stamps (cycleOf lsn) 2 (basicBlocksOf sunit - 2))
 
 -- every byte that no field names is zero
-unfoldable pub recordBytes : List ℕ → ℕ → ℕ → ℕ → List ℕ
-recordBytes uuid sunit lsn tailLsn = write (recordFields uuid sunit lsn tailLsn) (replicate (basicBlock * blocksOf sunit) 0)
+unfoldable pub logRecordBytes : List ℕ → ℕ → ℕ → ℕ → List ℕ
+logRecordBytes uuid sunit lsn tailLsn = writeFields (recordFields uuid sunit lsn tailLsn) (replicate (basicBlock * basicBlocksOf sunit) 0)

@@ -2,8 +2,8 @@
 ghost use mathlib.Core.Path.{_≡_};
 ghost use Prim.Native.Nat.{_*_, _-_, _≤_, max};
 ghost use lib.ListN.{length};
-ghost use Rattle.endian.specs.Fields.{write};
-ghost use Rattle.log.specs.Record.{blocksOf, headerFields, stamps, unmountFields};
+ghost use Rattle.endian.specs.Fields.{writeFields};
+ghost use Rattle.log.specs.Record.{basicBlocksOf, headerFields, stamps, unmountFields};
 
 // A basic block, in bytes.
 pub const BBSIZE: usize = 512;
@@ -63,7 +63,7 @@ fn larger(a: u64, b: u64) -> u64
 
 // The basic blocks of a record.
 pub(crate) fn record_blocks(sunit: u32) -> usize
-    ensures { λ r. ⌜ r ≡ blocksOf sunit ⌝ }
+    ensures { λ r. ⌜ r ≡ basicBlocksOf sunit ⌝ }
 {
     larger(2, ((sunit as u64) + 511) / 512) as usize
 }
@@ -71,7 +71,7 @@ pub(crate) fn record_blocks(sunit: u32) -> usize
 // The header, as `struct xlog_rec_header` has it.
 pub(crate) fn header(rec: &mut [u8], uuid: &[u8; 16], sunit: u32, lsn: u64, tail_lsn: u64)
     requires { ⌜ 512 ≤ length (now rec) ⌝ }
-    ensures { λ r. ⌜ now (rec .exit) ≡ write (headerFields (now (uuid .entry)) sunit lsn «tail_lsn») (now (rec .entry)) ⌝ }
+    ensures { λ r. ⌜ now (rec .exit) ≡ writeFields (headerFields (now (uuid .entry)) sunit lsn «tail_lsn») (now (rec .entry)) ⌝ }
 {
     let len = larger(1024, sunit as u64) - 512;
     let at: [usize; 24] = [
@@ -122,7 +122,7 @@ pub(crate) fn header(rec: &mut [u8], uuid: &[u8; 16], sunit: u32, lsn: u64, tail
 // `struct xfs_unmount_log_format`.
 pub(crate) fn unmount(rec: &mut [u8], cycle: u32)
     requires { ⌜ 1024 ≤ length (now rec) ⌝ }
-    ensures { λ r. ⌜ now (rec .exit) ≡ write (unmountFields 512 cycle) (now (rec .entry)) ⌝ }
+    ensures { λ r. ⌜ now (rec .exit) ≡ writeFields (unmountFields 512 cycle) (now (rec .entry)) ⌝ }
 {
     endian::put32(rec, 512, cycle); // in the place of oh_tid
     endian::put32(rec, 516, 8); // oh_len
@@ -134,7 +134,7 @@ pub(crate) fn unmount(rec: &mut [u8], cycle: u32)
 // The cycle goes into the first word of each basic block behind the unmount record.
 pub(crate) fn stamp_blocks(rec: &mut [u8], blocks: usize, cycle: u32)
     requires { ⌜ 512 * blocks ≤ length (now rec) ⌝ }
-    ensures { λ r. ⌜ now (rec .exit) ≡ write (stamps cycle 2 (blocks - 2)) (now (rec .entry)) ⌝ }
+    ensures { λ r. ⌜ now (rec .exit) ≡ writeFields (stamps cycle 2 (blocks - 2)) (now (rec .entry)) ⌝ }
 {
     let mut i = 2;
     while i < blocks {

@@ -9,7 +9,7 @@ use lib.ListN.{length}
 use borrow.Author.Tests.{eqb-true}
 use Rattle.endian.specs.Answer.{room, answer, chosen}
 use Rattle.endian.specs.Bytes.{patch}
-use Rattle.endian.specs.Fields.{write, table, tableFits}
+use Rattle.endian.specs.Fields.{writeFields, table, tableFits}
 use Rattle.crc.proofs.Laws.{length-stamped, stamped-verifies}
 use Rattle.crc.proofs.Vectors.{vectors}
 use Rattle.geometry.specs.Compute.{chosenOf, refusals, refusalOf, geometryOf, computeDef}
@@ -68,7 +68,7 @@ one-form =
       by-length = λ m r new old left p. record { number = p .number; bytes = p .bytes ∙ same-choice (room m old) new old };
       by-table =
           λ at vs old left r p.
-          record { number = p .number; bytes = p .bytes ∙ same-choice (tableFits (length old) at (length vs)) (write (table at vs) old) old };
+          record { number = p .number; bytes = p .bytes ∙ same-choice (tableFits (length old) at (length vs)) (writeFields (table at vs) old) old };
       of-a-line =
           λ at r end bytes old left p.
           record { number = p .number-is; bytes = p .bytes-are ∙ same-choice (room (at + length bytes) old) (patch at bytes old) old };

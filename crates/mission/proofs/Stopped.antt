@@ -18,7 +18,7 @@ use Rattle.profile.specs.Rules.{profileNumber, labelOn}
 use Rattle.profile.proofs.Labels.{allowed-number}
 use Rattle.run.specs.declared.Run.{Run}
 use Rattle.run.specs.Runs.{runOf}
-use Rattle.list_records.specs.Records.{Record, FL, Among, byKind, blocks}
+use Rattle.list_records.specs.Records.{Record, FL, Among, byKind, blockRecords}
 use Rattle.list_records.proofs.Sums.{count-total}
 use Rattle.list_records.specs.Device.{Device, applied}
 use Rattle.list_spec.specs.Listing.{headerBlocks, headFinished, headerRecords, closing, listOf, recordCount}
@@ -44,7 +44,7 @@ use Rattle.reader_exact.proofs.Recovery.{recovered}
 use Rattle.reader_admit.specs.Admit.{admitted}
 use Rattle.reader_admit.proofs.Within.{source-within, reported-within}
 use Rattle.reader_admit.proofs.Admitted.{refused-kept}
-use Rattle.mission.specs.Mission.Words.{beforeFinished, recordsOf, stopped, Finishing, firstNumber, Admits, ReadBack}
+use Rattle.mission.specs.Mission.Words.{beforeFinished, runRecords, stoppedAfter, Finishing, firstNumber, Admits, ReadBack}
 use Rattle.mission.specs.Mission.{PowerCut}
 
 module _ (run : Run) (device : ℕ) where
@@ -103,7 +103,7 @@ module _ (r : Request) (a : AcceptedRun r) (old : Device) where
   run = runOf r
 
   -- up to the finishing record group 0's first block is zeros, or the unfinished one
-  its-early : (n : ℕ) → 0 < n → n ≤ beforeFinished (run .geometry) → Early run (stopped r n old)
+  its-early : (n : ℕ) → 0 < n → n ≤ beforeFinished (run .geometry) → Early run (stoppedAfter r n old)
   unfolding prefix
   its-early n o h =
       let l = prefix-length run (r .device) in
@@ -119,7 +119,7 @@ module _ (r : Request) (a : AcceptedRun r) (old : Device) where
       let n : f .number ≡ 30 = early-refused r a d e in
       refused-kept told (f .geometry) (f .number) (λ z. omega (arith, n, z)) ∙ n
 
-  finished : (n : ℕ) → beforeFinished (run .geometry) < n → stopped r n old ≡ formatted r old
+  finished : (n : ℕ) → beforeFinished (run .geometry) < n → stoppedAfter r n old ≡ formatted r old
   unfolding formatted beforeFinished recordCount
   finished n h =
       let rs = listOf run (r .device) in
@@ -137,13 +137,13 @@ module _ (r : Request) (a : AcceptedRun r) (old : Device) where
         log-block = ap (readLog (reported g) u) (log-formatted r a old) ∙ z .log-block;
       }
 
-  its-recovered : (n : ℕ) → beforeFinished (run .geometry) < n → ReadBack r (stopped r n old)
+  its-recovered : (n : ℕ) → beforeFinished (run .geometry) < n → ReadBack r (stoppedAfter r n old)
   its-recovered n h = rw (finished n h) read-back
 
   -- ---- the finishing record
 
   its-finishing : Finishing r
-  unfolding closing blocks
+  unfolding closing blockRecords
   its-finishing =
       let bs = run .geometry .blocksize in
       let bytes = headFinished (run .geometry) (run .uuid) in
@@ -151,8 +151,8 @@ module _ (r : Request) (a : AcceptedRun r) (old : Device) where
       let e : headerBlocks (run .geometry) ≡ suc n = omega (arith, sound r a .header-some) in
       record {
         before = unfinished run (r .device);
-        behind = blocks bs (0 + bs) n (drop bs bytes) ++ (FL ∷ []);
-        list = list-parts run (r .device) ∙ ap (λ (m : ℕ). unfinished run (r .device) ++ (FL ∷ (blocks bs 0 m bytes ++ (FL ∷ [])))) e;
+        behind = blockRecords bs (0 + bs) n (drop bs bytes) ++ (FL ∷ []);
+        list = list-parts run (r .device) ∙ ap (λ (m : ℕ). unfinished run (r .device) ++ (FL ∷ (blockRecords bs 0 m bytes ++ (FL ∷ [])))) e;
         no-flush = no-flush-before run (r .device);
         place = unfinished-length run (r .device);
       }
@@ -163,25 +163,25 @@ module _ (r : Request) (a : AcceptedRun r) (old : Device) where
   least = beforeFinished (run .geometry)
 
   -- the device once all up to the first flush are kept
-  flushed : stopped r least old ≡ applied (prefix run (r .device)) old
+  flushed : stoppedAfter r least old ≡ applied (prefix run (r .device)) old
   flushed = ap (λ (rs : List Record). applied rs old) (prefix-taken run (r .device))
 
-  its-subset : (n : ℕ) → 0 < n → n ≤ least → (rs : List Record) → Among (drop 1 (take least (recordsOf r))) rs → Early run (applied rs (stopped r n old))
+  its-subset : (n : ℕ) → 0 < n → n ≤ least → (rs : List Record) → Among (drop 1 (take least (runRecords r))) rs → Early run (applied rs (stoppedAfter r n old))
   unfolding prefix
   its-subset n o h rs m =
-      early-any run (r .device) (sound r a) rs (subst (λ (ws : List Record). Among (drop 1 ws) rs) (prefix-taken run (r .device)) m) (stopped r n old) (its-early n o h)
+      early-any run (r .device) (sound r a) rs (subst (λ (ws : List Record). Among (drop 1 ws) rs) (prefix-taken run (r .device)) m) (stoppedAfter r n old) (its-early n o h)
 
-  its-lost : (rs : List Record) → Among (drop (least + 1) (recordsOf r)) rs → Early run (applied rs (stopped r least old))
+  its-lost : (rs : List Record) → Among (drop (least + 1) (runRecords r)) rs → Early run (applied rs (stoppedAfter r least old))
   unfolding prefix beforeFinished
   its-lost rs m =
       let i = idle-any run (r .device) (sound r a) rs (subst (λ (ws : List Record). Among ws rs) (behind-left run (r .device)) m) old in
       subst (Early run) (sym (ap (applied rs) flushed ∙ i ∙ sym flushed)) (its-early least (omega arith) (omega arith))
 
-  its-closing : (rs : List Record) → Among (drop least (recordsOf r)) rs → Among (headerRecords run ++ (FL ∷ [])) rs
+  its-closing : (rs : List Record) → Among (drop least (runRecords r)) rs → Among (headerRecords run ++ (FL ∷ [])) rs
   its-closing rs m = subst (λ (ws : List Record). Among ws rs) (closing-left run (r .device)) m
 
-  its-kept : (xs ys : List Record) → Among (drop least (recordsOf r)) xs → Among (drop least (recordsOf r)) ys
-      → ReadBack r (applied (xs ++ (finishingRecord run ∷ ys)) (stopped r least old))
+  its-kept : (xs ys : List Record) → Among (drop least (runRecords r)) xs → Among (drop least (runRecords r)) ys
+      → ReadBack r (applied (xs ++ (finishingRecord run ∷ ys)) (stoppedAfter r least old))
   unfolding prefix formatted
   its-kept xs ys mx my =
       let all = xs ++ (finishingRecord run ∷ ys) in
@@ -210,14 +210,14 @@ module _ (r : Request) (a : AcceptedRun r) (old : Device) where
   power-cut =
       record {
         old-contents = refl;
-        refused = λ n o h. early-number (stopped r n old) (its-early n (omega arith) (omega arith));
+        refused = λ n o h. early-number (stoppedAfter r n old) (its-early n (omega arith) (omega arith));
         finishing = its-finishing;
         recovered = λ n h. its-recovered n (omega arith);
-        admitted-then = λ n h. its-admitted (stopped r n old) (its-recovered n (omega arith));
+        admitted-then = λ n h. its-admitted (stoppedAfter r n old) (its-recovered n (omega arith));
         profile-run = its-profile;
         sent = ap readList (sym (written-whole r a .whole)) ∙ written-whole r a .back;
         received = λ size limit i hold h k. run-front r a k size limit hold h i;
-        any-subset = λ n o h rs m. early-number (applied rs (stopped r n old)) (its-subset n (omega arith) (omega arith) rs m);
-        finished-lost = λ rs m. early-number (applied rs (stopped r (beforeFinished (run .geometry)) old)) (its-lost rs m);
+        any-subset = λ n o h rs m. early-number (applied rs (stoppedAfter r n old)) (its-subset n (omega arith) (omega arith) rs m);
+        finished-lost = λ rs m. early-number (applied rs (stoppedAfter r (beforeFinished (run .geometry)) old)) (its-lost rs m);
         finished-kept = its-kept;
       }

@@ -17,7 +17,7 @@ use Rattle.geometry.specs.declared.Chosen.{Chosen}
 use Rattle.geometry.specs.Groups.{optionsRefusals, groupsRefusals}
 use Rattle.geometry.specs.Log.{lastRefusals}
 use Rattle.geometry.specs.Compute.{refusals}
-use Rattle.mission.specs.Mission.Words.{Applies}
+use Rattle.mission.specs.Mission.Words.{Listed}
 
 -- no number of the table is below n, nor below one before it
 abbrev rising : ℕ → List Refusal → Bool
@@ -25,7 +25,7 @@ rising n [] = true
 rising n ((m if test) ∷ table) = leb n m && rising m table
 
 -- what applies is no smaller than where the table begins
-at-least : (table : List Refusal) (n m : ℕ) → T (rising n table) → Applies m table → n ≤ m
+at-least : (table : List Refusal) (n m : ℕ) → T (rising n table) → Listed m table → n ≤ m
 at-least [] n m t a = absurd a
 at-least ((k if test) ∷ table) n m t (inl e) =
     let h = leb→le n k (and-left (leb n k) (rising k table) t) in
@@ -36,7 +36,7 @@ at-least ((k if test) ∷ table) n m t (inr a) =
     let q = at-least table k m (and-right (leb n k) (rising k table) t) a in
     omega (arith, h, q)
 
-pub first-least : (table : List Refusal) (n m : ℕ) → 0 < n → T (rising n table) → Applies m table → (0 < first table 0) × (first table 0 ≤ m)
+pub first-least : (table : List Refusal) (n m : ℕ) → 0 < n → T (rising n table) → Listed m table → (0 < first table 0) × (first table 0 ≤ m)
 unfolding when
 first-least [] n m p t a = absurd a
 first-least ((k if true) ∷ table) n m p t (inl e) =

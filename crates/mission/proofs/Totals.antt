@@ -11,7 +11,7 @@ use Rattle.list_accepted.proofs.Runs.{source-plans, source-label, source-uuid}
 use Rattle.reader_exact.specs.Read.{readGroup0}
 use Rattle.reader_exact.specs.Left.{Octets, ReadWhole}
 use Rattle.reader_exact.proofs.Whole.{whole-source, whole-heads}
-use Rattle.reader_decoded.specs.Decoded.{logIn, countIn}
+use Rattle.reader_decoded.specs.Decoded.{logRunIn, countIn}
 use Rattle.reader_uses.specs.ByUse.{usesIn, Once, freeTotal, listTotal, chunkTotal, LeftHeads}
 use Rattle.reader_uses.proofs.Totals.{free-total, disk-total}
 use Rattle.reader_uses.proofs.OneUse.{one-use}
@@ -34,14 +34,14 @@ module _ (heads : ℕ → List ℕ) (log : List ℕ) (o : Octets (heads 0)) (r :
       (λ k b i j. one-use its u heads left-heads k i b j)
 
   its-totals : (freeTotal its heads + listTotal its heads ≡ countIn (heads 0))
-      × (countIn (heads 0) + its .agcount * headBlocks its + logIn its (heads 0) .blocks + chunkTotal its heads ≡ its .dblocks)
+      × (countIn (heads 0) + its .agcount * headBlocks its + logRunIn its (heads 0) .blocks + chunkTotal its heads ≡ its .dblocks)
   its-totals =
       let a = free-total its u heads left-heads in
       let b = disk-total its u heads left-heads in
       (a, omega arith)
 
   pub all-totals : (freeTotal g heads + listTotal g heads ≡ countIn (heads 0))
-      × (countIn (heads 0) + g .agcount * headBlocks g + logIn g (heads 0) .blocks + chunkTotal g heads ≡ g .dblocks)
+      × (countIn (heads 0) + g .agcount * headBlocks g + logRunIn g (heads 0) .blocks + chunkTotal g heads ≡ g .dblocks)
   all-totals =
-      subst (λ (x : Geometry). (freeTotal x heads + listTotal x heads ≡ countIn (heads 0)) × (countIn (heads 0) + x .agcount * headBlocks x + logIn x (heads 0) .blocks + chunkTotal x heads ≡ x .dblocks))
+      subst (λ (x : Geometry). (freeTotal x heads + listTotal x heads ≡ countIn (heads 0)) × (countIn (heads 0) + x .agcount * headBlocks x + logRunIn x (heads 0) .blocks + chunkTotal x heads ≡ x .dblocks))
       e its-totals

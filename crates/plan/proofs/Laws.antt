@@ -13,7 +13,7 @@ use Rattle.seqs.proofs.Laws.{appended-append, appended-packed, upFrom-step}
 use Rattle.btree.specs.declared.records.AllocRec.{AllocRec}
 use Rattle.plan_rmap.specs.Rmap as Rmap
 use Rattle.plan_site.specs.declared.Site.{Site}
-use Rattle.plan.specs.Plan.{least, gap, headMap, refcMap, logMap, mapRec, ownRefc, ownLog}
+use Rattle.plan.specs.Plan.{smallerOf, gap, headMap, refcMap, logMap, mapRec, ownRefc, ownLog}
 
 length-if : {A : Type 0} (b : Bool) (x : A) → length (choose b (x ∷ []) []) ≤ 1
 length-if true x = omega arith
@@ -39,7 +39,7 @@ least-le-at : (b : Bool) (x y : ℕ) → leb x y ≡ b → choose b x y ≤ x
 least-le-at true x y e = omega arith
 least-le-at false x y e = omega (arith, leb-false x y e)
 
-pub least-le : (x y : ℕ) → least x y ≤ x
+pub least-le : (x y : ℕ) → smallerOf x y ≤ x
 least-le x y = least-le-at (leb x y) x y refl
 
 -- two gaps fit

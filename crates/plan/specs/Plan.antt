@@ -18,7 +18,7 @@ use Rattle.plan_site.specs.Sites.{siteOf}
 use Rattle.plan_free.specs.declared.FreeList.{FreeList}
 use Rattle.plan_free.specs.declared.Taken.{Taken}
 use Rattle.plan_free.specs.declared.Choice.{Choice}
-use Rattle.plan_free.specs.Free.{packFree, taken, picked}
+use Rattle.plan_free.specs.Free.{packFree, taken, pickAnswer}
 use Rattle.plan_rmap.specs.declared.RmapList.{RmapList}
 use Rattle.plan_rmap.specs.declared.Inserted.{Inserted}
 use Rattle.plan_rmap.specs.Rmap.{packRmap, inserted}
@@ -126,22 +126,22 @@ moved w start n =
     (noted w (w .want - n) (taken (w .free) start n .list) (toAgfl (appended (ofAgfl (w .agfl)) (upFrom start n))) (mapped (w .rmapbt) (w .rmap) (mapRec start n ownAg)))
     (failed w (taken (w .free) start n .number))
 
-abbrev pub least : ℕ → ℕ → ℕ
-least a b = choose (leb a b) a b
+abbrev pub smallerOf : ℕ → ℕ → ℕ
+smallerOf a b = choose (leb a b) a b
 
 -- one turn: nothing is done once the list is full or a number was given; 25 where no record is left
-unfoldable pub turn : Work → Work
-turn w =
+unfoldable pub listTurn : Work → Work
+listTurn w =
     choose (eqb (w .number) 0)
     (choose (eqb (w .want) 0) w
-    (choose (picked (w .free) (w .want) .found)
-    (moved w (picked (w .free) (w .want) .rec .start) (least (w .want) (picked (w .free) (w .want) .rec .count)))
+    (choose (pickAnswer (w .free) (w .want) .found)
+    (moved w (pickAnswer (w .free) (w .want) .rec .start) (smallerOf (w .want) (pickAnswer (w .free) (w .want) .rec .count)))
     (failed w freeListShort)))
     w
 
 -- every turn moves a block at least, so there are no more turns than blocks wanted
-unfoldable pub listed : Site → Work
-listed s = turns turn (s .need) (atFirst s)
+unfoldable pub listFilled : Site → Work
+listFilled s = turns listTurn (s .need) (atFirst s)
 
 -- ---- the root chunk
 
@@ -161,8 +161,8 @@ noPlan = record { agno = 0; length = 0; free = packFree []; agfl = packAgfl []; 
 abbrev pub refusedPlan : ℕ → Planned
 refusedPlan n = record { number = n; plan = noPlan }
 
-unfoldable pub answer : Site → OptU64 → Work → Planned
-answer s chunk w =
+unfoldable pub planAnswer : Site → OptU64 → Work → Planned
+planAnswer s chunk w =
     choose (eqb (w .number) 0)
     (record { number = 0; plan = record { agno = s .agno; length = s .length; free = w .free; agfl = w .agfl; rmap = w .rmap; chunk = chunk } })
     (refusedPlan (w .number))
@@ -171,8 +171,8 @@ answer s chunk w =
 unfoldable pub planOf : Site → Planned
 planOf s =
     choose (eqb (s .agno) 0)
-    (answer s (Given (s .«chunk_at»)) (chunked s (listed s)))
-    (answer s Absent (listed s))
+    (planAnswer s (Given (s .«chunk_at»)) (chunked s (listFilled s)))
+    (planAnswer s Absent (listFilled s))
 
 -- `plan_ag`: 31 and 29 before the plan
 unfoldable pub planned : Geometry → ℕ → Planned

@@ -3,7 +3,7 @@ ghost use mathlib.Core.Path.{_≡_};
 ghost use mathlib.Core.List.{[]};
 ghost use Prim.Native.Nat.{_+_, _-_, _≤_, _^_};
 ghost use Rattle.seqs.specs.Lists.{pushed, appended, turns, upFrom};
-ghost use Rattle.plan.specs.Plan.{ofAgfl, toAgfl, packAgfl, failed, mapped, noted, moved, least, turn};
+ghost use Rattle.plan.specs.Plan.{ofAgfl, toAgfl, packAgfl, failed, mapped, noted, moved, smallerOf, listTurn};
 use crate::Agfl;
 use crate::Work;
 use btree::owner;
@@ -112,14 +112,14 @@ fn move_blocks(w: Work, start: u32, n: u32) -> Work
 }
 
 fn least_of(a: u32, b: u32) -> u32
-    ensures { λ x. ⌜ x ≡ least a b ⌝ }
+    ensures { λ x. ⌜ x ≡ smallerOf a b ⌝ }
 {
     if a <= b { a } else { b }
 }
 
 // One turn: 25 where no record is left.
 fn one_turn(w: Work) -> Work
-    ensures { λ x. ⌜ x ≡ turn w ⌝ }
+    ensures { λ x. ⌜ x ≡ listTurn w ⌝ }
 {
     if w.number == 0 {
         let want = w.want;
@@ -141,7 +141,7 @@ fn one_turn(w: Work) -> Work
 
 // At most `need` turns.
 pub(crate) fn fill_list(w: Work, need: u32) -> Work
-    ensures { λ x. ⌜ x ≡ turns turn need w ⌝ }
+    ensures { λ x. ⌜ x ≡ turns listTurn need w ⌝ }
 {
     let mut out = w;
     let mut k = need;

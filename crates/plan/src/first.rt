@@ -4,7 +4,7 @@ ghost use Prim.Native.Nat.{_+_};
 ghost use Rattle.seqs.specs.Lists.{pushed, appended};
 ghost use Rattle.plan_free.specs.Free.{packFree, ofFree, toFree};
 ghost use Rattle.plan_rmap.specs.Rmap.{packRmap, ofRmap, toRmap};
-ghost use Rattle.plan_site.specs.Sites.{Sound};
+ghost use Rattle.plan_site.specs.Sites.{SoundSite};
 ghost use Rattle.plan.specs.Plan.{gap, freeAtFirst, headMap, refcMap, logMap, rmapAtFirst, atFirst};
 use crate::Work;
 use crate::fill::no_blocks;
@@ -58,7 +58,7 @@ fn put_gap(l: FreeList, a: u32, b: u32) -> FreeList
 
 // Everything after the head, less the log in its group.
 fn first_free(s: Site) -> FreeList
-    requires { ⌜ Sound s ⌝ }
+    requires { ⌜ SoundSite s ⌝ }
     ensures { λ x. ⌜ x ≡ packFree (freeAtFirst s) ⌝ }
 {
     let none = plan_free::empty();
@@ -75,7 +75,7 @@ fn first_free(s: Site) -> FreeList
 
 // The head by its parts.
 fn put_head(l: RmapList, s: Site) -> RmapList
-    requires { ⌜ Sound s ⌝ }
+    requires { ⌜ SoundSite s ⌝ }
     ensures { λ x. ⌜ x ≡ toRmap (appended (ofRmap l) (headMap s)) ⌝ }
 {
     let a = push_rmap(
@@ -141,7 +141,7 @@ fn put_log(l: RmapList, s: Site) -> RmapList
 }
 
 fn first_rmap(s: Site) -> RmapList
-    requires { ⌜ Sound s ⌝ }
+    requires { ⌜ SoundSite s ⌝ }
     ensures { λ x. ⌜ x ≡ packRmap (rmapAtFirst s) ⌝ }
 {
     let none = plan_rmap::empty();
@@ -154,7 +154,7 @@ fn first_rmap(s: Site) -> RmapList
 }
 
 pub(crate) fn start_work(s: Site) -> Work
-    requires { ⌜ Sound s ⌝ }
+    requires { ⌜ SoundSite s ⌝ }
     ensures { λ x. ⌜ x ≡ atFirst s ⌝ }
 {
     let free = first_free(s);

@@ -1,8 +1,8 @@
 // The plan of an allocation group: what mkfs.xfs leaves of its blocks.
 // The types stand here; the functions stand in the modules, in the order in which a plan is made.
 ghost use mathlib.Core.Path.{_≡_};
-ghost use Rattle.plan_site.specs.Sites.{Sound};
-ghost use Rattle.plan.specs.Plan.{refusedPlan, answer, planOf, planned};
+ghost use Rattle.plan_site.specs.Sites.{SoundSite};
+ghost use Rattle.plan.specs.Plan.{refusedPlan, planAnswer, planOf, planned};
 
 pub mod first; // first.rt: the records before anything is taken
 pub mod fill; // fill.rt: the free list
@@ -71,7 +71,7 @@ fn refuse(n: u32) -> Planned
 }
 
 fn answer_with(s: Site, chunk: OptU64, w: Work) -> Planned
-    ensures { λ r. ⌜ r ≡ answer s chunk w ⌝ }
+    ensures { λ r. ⌜ r ≡ planAnswer s chunk w ⌝ }
 {
     let number = w.number;
     if number == 0 {
@@ -93,7 +93,7 @@ fn answer_with(s: Site, chunk: OptU64, w: Work) -> Planned
 
 // The plan of the group at this site.
 fn plan_site(s: Site) -> Planned
-    requires { ⌜ Sound s ⌝ }
+    requires { ⌜ SoundSite s ⌝ }
     ensures { λ r. ⌜ r ≡ planOf s ⌝ }
 {
     let first = start_work(s);

@@ -15,17 +15,17 @@ use Rattle.params.specs.declared.OptU64.the-variants.{Absent}
 use Rattle.btree.specs.declared.records.AllocRec.{AllocRec}
 use Rattle.btree.specs.declared.records.RmapRec.{RmapRec}
 use Rattle.plan_site.specs.declared.Site.{Site}
-use Rattle.plan_site.specs.Sites.{Sound}
+use Rattle.plan_site.specs.Sites.{SoundSite}
 use Rattle.plan_free.specs.Free.{packFree, taken}
 use Rattle.plan_rmap.specs.Rmap.{packRmap}
 use Rattle.plan.specs.declared.Work.{Work}
-use Rattle.plan.specs.Plan.{ownInodes, gap, mapRec, mapped, freeAtFirst, rmapAtFirst, atFirst, noted, listed, chunked, refusedPlan, answer, planOf}
-use Rattle.plan_closed.specs.Closed.{isFirst, listAt, closedFree, closedList, closedRmap, short, closedAgPlan, closedPlan}
+use Rattle.plan.specs.Plan.{ownInodes, gap, mapRec, mapped, freeAtFirst, rmapAtFirst, atFirst, noted, listFilled, chunked, refusedPlan, planAnswer, planOf}
+use Rattle.plan_closed.specs.Closed.{hasRootChunk, listAt, closedFree, closedList, closedRmap, listShort, closedAgPlan, closedPlan}
 use Rattle.plan_closed.proofs.Takings.{one-taken}
 use Rattle.plan_closed.proofs.Filling.{work, filled, emptied, starved}
 use Rattle.plan_closed.proofs.Mappings.{listedMap, withChunk, list-mapped, chunk-mapped}
 
-module _ (s : Site) (ok : Sound s) where
+module _ (s : Site) (ok : SoundSite s) where
   -- ---- what is free at first: all from the free list's first block on
 
   free-at : (t : Bool) → choose t (s .«log_at» + s .«log_blocks») (s .head) < s .length
@@ -55,8 +55,8 @@ module _ (s : Site) (ok : Sound s) where
   unfolding listAt
   list-wide = list-from (s .«has_log»)
 
-  listed-full : s .need ≤ s .length - listAt s → listed s ≡ work 0 (s .rmapbt) (gap (listAt s + s .need) (s .length)) (closedList s) (listedMap s (s .need))
-  unfolding listed atFirst closedList
+  listed-full : s .need ≤ s .length - listAt s → listFilled s ≡ work 0 (s .rmapbt) (gap (listAt s + s .need) (s .length)) (closedList s) (listedMap s (s .need))
+  unfolding listFilled atFirst closedList
   listed-full h =
       let n = ok .need-least in
       let m = ok .need-most in
@@ -66,8 +66,8 @@ module _ (s : Site) (ok : Sound s) where
       let f = filled (s .need) (listAt s) (s .length - listAt s) (s .rmapbt) (rmapAtFirst s) (listedMap s (s .need)) (omega arith) (omega arith) (omega arith) h (list-mapped s ok (s .need) (omega arith) (omega arith)) in
       rw (free-first (omega arith)) (f ∙ ap (λ (b : ℕ). work 0 (s .rmapbt) (gap (listAt s + s .need) b) (upFrom (listAt s) (s .need)) (listedMap s (s .need))) e)
 
-  listed-short : s .«has_log» ≡ true → s .length - listAt s < s .need → listed s .number ≡ 25
-  unfolding listed atFirst
+  listed-short : s .«has_log» ≡ true → s .length - listAt s < s .need → listFilled s .number ≡ 25
+  unfolding listFilled atFirst
   listed-short e h =
       let n = ok .need-least in
       let m = ok .need-most in
@@ -89,24 +89,24 @@ module _ (s : Site) (ok : Sound s) where
 
   -- ---- the answer
 
-  first-log : isFirst s ≡ true → s .«has_log» ≡ false
+  first-log : hasRootChunk s ≡ true → s .«has_log» ≡ false
   first-log z = ok .log-not-first (eqb-true (s .agno) 0 z)
 
-  first-list : isFirst s ≡ true → listAt s ≡ s .head
+  first-list : hasRootChunk s ≡ true → listAt s ≡ s .head
   unfolding listAt
   first-list z = rw (first-log z)
 
   never : {X : Type 0} (t : Bool) → t ≡ true → t ≡ false → X
   never t e f = let z : _≡_ {A = ℕ} 0 1 = cc in absurd (omega arith)
 
-  refused : (c : OptU64) (w : Work) → w .number ≡ 25 → answer s c w ≡ refusedPlan 25
-  unfolding answer
+  refused : (c : OptU64) (w : Work) → w .number ≡ 25 → planAnswer s c w ≡ refusedPlan 25
+  unfolding planAnswer
   refused c w e = rw e
 
-  log-refused : (t : Bool) → isFirst s ≡ t → s .«has_log» ≡ true → s .length - listAt s < s .need → planOf s ≡ refusedPlan 25
+  log-refused : (t : Bool) → hasRootChunk s ≡ t → s .«has_log» ≡ true → s .length - listAt s < s .need → planOf s ≡ refusedPlan 25
   unfolding planOf
   log-refused true z e h = never (s .«has_log») e (first-log z)
-  log-refused false z e h = rw z (refused Absent (listed s) (listed-short e h))
+  log-refused false z e h = rw z (refused Absent (listFilled s) (listed-short e h))
 
   -- the root chunk, where a run can be taken and a record put
   chunked-by : (free free′ : List AllocRec) (list : List ℕ) (map map′ : List RmapRec)
@@ -129,23 +129,23 @@ module _ (s : Site) (ok : Sound s) where
       (one-taken (s .head + s .need) (s .length - (s .head + s .need)) (s .«chunk_at») (s .«chunk_blocks») (omega arith) a (omega arith) (omega arith)
       ∙ ap (λ (b : ℕ). record { number = 0; list = packFree (gap (s .head + s .need) (s .«chunk_at») ++ gap (s .«chunk_at» + s .«chunk_blocks») b) }) e)
 
-  first-free : isFirst s ≡ true → closedFree s ≡ gap (s .head + s .need) (s .«chunk_at») ++ gap (s .«chunk_at» + s .«chunk_blocks») (s .length)
+  first-free : hasRootChunk s ≡ true → closedFree s ≡ gap (s .head + s .need) (s .«chunk_at») ++ gap (s .«chunk_at» + s .«chunk_blocks») (s .length)
   unfolding closedFree
   first-free z = rw z
 
-  other-free : isFirst s ≡ false → closedFree s ≡ gap (listAt s + s .need) (s .length)
+  other-free : hasRootChunk s ≡ false → closedFree s ≡ gap (listAt s + s .need) (s .length)
   unfolding closedFree
   other-free z = rw z
 
-  first-map : isFirst s ≡ true → closedRmap s ≡ withChunk s (s .need)
+  first-map : hasRootChunk s ≡ true → closedRmap s ≡ withChunk s (s .need)
   unfolding closedRmap listAt
   first-map z = rw z
 
-  other-map : isFirst s ≡ false → closedRmap s ≡ listedMap s (s .need)
+  other-map : hasRootChunk s ≡ false → closedRmap s ≡ listedMap s (s .need)
   unfolding closedRmap listAt
   other-map z = rw (z, append-nil)
 
-  chunked-first : isFirst s ≡ true
+  chunked-first : hasRootChunk s ≡ true
       → chunked s (work 0 (s .rmapbt) (gap (listAt s + s .need) (s .length)) (closedList s) (listedMap s (s .need))) ≡ work 0 (s .rmapbt) (closedFree s) (closedList s) (closedRmap s)
   chunked-first z =
       let n = ok .need-least in
@@ -153,23 +153,23 @@ module _ (s : Site) (ok : Sound s) where
       (chunked-by (gap (s .head + s .need) (s .length)) (gap (s .head + s .need) (s .«chunk_at») ++ gap (s .«chunk_at» + s .«chunk_blocks») (s .length)) (closedList s) (listedMap s (s .need)) (withChunk s (s .need)) chunk-taken (chunk-mapped s ok (s .need) (omega arith) (first-log z) (ok .chunk-after)))
 
   -- a plan of its parts
-  accepted : (t : Bool) → isFirst s ≡ t → s .need ≤ s .length - listAt s → planOf s ≡ record { number = 0; plan = closedAgPlan s }
-  unfolding planOf answer
+  accepted : (t : Bool) → hasRootChunk s ≡ t → s .need ≤ s .length - listAt s → planOf s ≡ record { number = 0; plan = closedAgPlan s }
+  unfolding planOf planAnswer
   accepted true z h = rw (z, listed-full h, chunked-first z)
   accepted false z h = rw (z, listed-full h, other-free z, other-map z)
 
   plan-at : (t u : Bool) → s .«has_log» ≡ t → ltb (s .length - listAt s) (s .need) ≡ u → planOf s ≡ choose (both t u) (refusedPlan 25) (record { number = 0; plan = closedAgPlan s })
-  plan-at true true e f = log-refused (isFirst s) refl e (ltb-true _ _ f)
-  plan-at true false e f = accepted (isFirst s) refl (ltb-false _ _ f)
-  plan-at false u e f = accepted (isFirst s) refl (elsewhere e)
+  plan-at true true e f = log-refused (hasRootChunk s) refl e (ltb-true _ _ f)
+  plan-at true false e f = accepted (hasRootChunk s) refl (ltb-false _ _ f)
+  plan-at false u e f = accepted (hasRootChunk s) refl (elsewhere e)
 
 -- A TAKEN ROOT CHUNK CAN'T OCCUR: after the free list is filled its blocks are free
-pub chunk-is-free : (s : Site) → Sound s → s .agno ≡ 0 → taken (listed s .free) (s .«chunk_at») (s .«chunk_blocks») .number ≡ 0
+pub chunk-is-free : (s : Site) → SoundSite s → s .agno ≡ 0 → taken (listFilled s .free) (s .«chunk_at») (s .«chunk_blocks») .number ≡ 0
 chunk-is-free s ok z =
     let e = eq-eqb (s .agno) 0 z in
     rw (listed-full s ok (elsewhere s ok (ok .log-not-first z)), first-list s ok e, chunk-taken s ok)
 
 -- THE PLANNER'S PLAN IN CLOSED FORM
-pub closed-form : (s : Site) → Sound s → planOf s ≡ closedPlan s
-unfolding closedPlan short
+pub closed-form : (s : Site) → SoundSite s → planOf s ≡ closedPlan s
+unfolding closedPlan listShort
 closed-form s ok = plan-at s ok (s .«has_log») (ltb (s .length - listAt s) (s .need)) refl refl

@@ -12,10 +12,10 @@ use Rattle.seqs.specs.Lists.{both, choose}
 use Rattle.btree.specs.Owners.{negative}
 use Rattle.btree.specs.declared.records.RmapRec.{RmapRec}
 use Rattle.plan_site.specs.declared.Site.{Site}
-use Rattle.plan_site.specs.Sites.{Sound}
+use Rattle.plan_site.specs.Sites.{SoundSite}
 use Rattle.plan_rmap.specs.Rmap.{packRmap, joins, inserted}
 use Rattle.plan.specs.Plan.{ownFs, ownLog, ownAg, ownInobt, ownInodes, ownRefc, mapRec, headMap, mapped, rmapAtFirst}
-use Rattle.plan_closed.specs.Closed.{listAt, headParts}
+use Rattle.plan_closed.specs.Closed.{listAt, headMappings}
 use Rattle.plan_closed.proofs.Insertions.{validRmap, valid-nil, valid-cons, inserted-joined, inserted-apart}
 
 bit-at : (t : Bool) → bit t ≡ choose t 1 0
@@ -52,7 +52,7 @@ listIf s u = choose u (s .«log_at» + s .«log_blocks») (s .head)
 -- the reverse mappings with n blocks of the free list
 abbrev listedIf : Site → ℕ → Bool → Bool → List RmapRec
 listedIf s n t u =
-    headParts s
+    headMappings s
     ++ choose (both (not t) (not u)) (mapRec (s .«rmap_at») (1 + n) ownAg ∷ [])
     (mapRec (s .«rmap_at») 1 ownAg ∷ (refcIf s t ++ (logIf s u ++ mapRec (listIf s u) n ownAg ∷ [])))
 
@@ -63,7 +63,7 @@ listedMap s n = choose (s .rmapbt) (listedIf s n (s .reflink) (s .«has_log»)) 
 abbrev pub withChunk : Site → ℕ → List RmapRec
 withChunk s n = choose (s .rmapbt) (listedIf s n (s .reflink) (s .«has_log») ++ mapRec (s .«chunk_at») (s .«chunk_blocks») ownInodes ∷ []) []
 
-module _ (s : Site) (ok : Sound s) (on : s .rmapbt ≡ true) where
+module _ (s : Site) (ok : SoundSite s) (on : s .rmapbt ≡ true) where
   -- what Sound says where rmapbt is on
   pub refc-is : s .«refc_at» ≡ s .«rmap_at» + 1
   refc-is = ok .refc-next on
@@ -72,7 +72,7 @@ module _ (s : Site) (ok : Sound s) (on : s .rmapbt ≡ true) where
   head-is t e = ok .head-next on ∙ ap (λ (b : Bool). s .«rmap_at» + 1 + bit b) e ∙ ap (λ (n : ℕ). s .«rmap_at» + 1 + n) (bit-at t)
 
   -- the head's parts are valid before what is valid after the rmap root
-  pub parts-valid : (rest : List RmapRec) → validRmap (s .«rmap_at») rest ≡ true → validRmap 0 (headParts s ++ rest) ≡ true
+  pub parts-valid : (rest : List RmapRec) → validRmap (s .«rmap_at») rest ≡ true → validRmap 0 (headMappings s ++ rest) ≡ true
   parts-valid rest v =
       let n = ok .ibt-next in
       let a = ok .rmap-after in
@@ -95,7 +95,7 @@ module _ (s : Site) (ok : Sound s) (on : s .rmapbt ≡ true) where
         → inserted (packRmap (headMap s ++ (refcIf s t ++ logIf s u))) (mapRec (listIf s u) n ownAg) ≡ record { number = 0; list = packRmap (listedIf s n t u) }
     put-list false false r w =
         let h = head-is false r in
-        inserted-joined (mapRec (s .«rmap_at») 1 ownAg) (mapRec (s .head) n ownAg) (omega arith) some w (headParts s) (root-valid [] (valid-nil _)) (omega arith)
+        inserted-joined (mapRec (s .«rmap_at») 1 ownAg) (mapRec (s .head) n ownAg) (omega arith) some w (headMappings s) (root-valid [] (valid-nil _)) (omega arith)
         (rw (eq-eqb ownAg ownAg refl, eq-eqb (s .«rmap_at» + 1) (s .head) (omega arith)))
     put-list true false r w =
         let h = head-is true r in
@@ -124,7 +124,7 @@ module _ (s : Site) (ok : Sound s) (on : s .rmapbt ≡ true) where
     put-chunk false r k =
         let h = head-is false r in
         let e = ok .chunk-ends in
-        inserted-apart (mapRec (s .«rmap_at») (1 + n) ownAg) (mapRec (s .«chunk_at») (s .«chunk_blocks») ownInodes) (omega arith) (ok .chunk-least) (omega arith) (headParts s)
+        inserted-apart (mapRec (s .«rmap_at») (1 + n) ownAg) (mapRec (s .«chunk_at») (s .«chunk_blocks») ownInodes) (omega arith) (ok .chunk-least) (omega arith) (headMappings s)
         (parts-valid _ (valid-cons _ (mapRec (s .«rmap_at») (1 + n) ownAg) [] (omega arith) (omega arith) (omega arith) (valid-nil _))) (omega arith)
         (apart (mapRec (s .«rmap_at») (1 + n) ownAg) (mapRec (s .«chunk_at») (s .«chunk_blocks») ownInodes) ag-inodes)
     put-chunk true r k =
@@ -138,7 +138,7 @@ module _ (s : Site) (ok : Sound s) (on : s .rmapbt ≡ true) where
 
 -- ---- with rmapbt or without
 
-module _ (s : Site) (ok : Sound s) (n : ℕ) (some : 0 < n) where
+module _ (s : Site) (ok : SoundSite s) (n : ℕ) (some : 0 < n) where
   list-at : (b : Bool) → s .rmapbt ≡ b → listAt s + n < 2 ^ 32
       → mapped b (packRmap (choose b (headMap s ++ (refcIf s (s .reflink) ++ logIf s (s .«has_log»))) [])) (mapRec (listAt s) n ownAg) ≡ record { number = 0; list = packRmap (choose b (listedIf s n (s .reflink) (s .«has_log»)) []) }
   unfolding listAt

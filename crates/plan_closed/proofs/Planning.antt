@@ -10,7 +10,7 @@ use borrow.Author.Tests.{eq-eqb, ne-eqb, eqb-true, le-ltb}
 use lib.Dec.{ltb, eqb}
 use lib.ListN.{length}
 use Rattle.seqs.specs.Lists.{both, choose}
-use Rattle.seqs.specs.Runs.{weigh, blocks}
+use Rattle.seqs.specs.Runs.{weigh, runLength}
 use Rattle.seqs.proofs.Weights.{additive-blocks, weigh-append, weigh-one}
 use Rattle.geometry.specs.declared.Geometry.{Geometry}
 use Rattle.geometry_answers.specs.Named.{isAnswer}
@@ -18,13 +18,13 @@ use Rattle.geometry_layout.specs.Places.{freelistOf, groupBlocks}
 use Rattle.geometry_layout.proofs.Bounding.{answer-bounds}
 use Rattle.geometry_places.proofs.Refused.{group-there}
 use Rattle.plan_site.specs.declared.Site.{Site}
-use Rattle.plan_site.specs.Sites.{siteOf, Sound}
+use Rattle.plan_site.specs.Sites.{siteOf, SoundSite}
 use Rattle.plan_site.proofs.Sites.{site-sound}
-use Rattle.plan_free.specs.Free.{startOf, countOf}
+use Rattle.plan_free.specs.Free.{allocStart, allocCount}
 use Rattle.plan_free.proofs.Uses.{piece-weighs}
 use Rattle.plan.specs.declared.Planned.{Planned}
 use Rattle.plan.specs.Plan.{gap, freeAtFirst, refusedPlan, planned}
-use Rattle.plan_closed.specs.Closed.{listAt, freeBlocks, short, closedAgPlan, closedPlan}
+use Rattle.plan_closed.specs.Closed.{listAt, freeBeforeList, listShort, closedAgPlan, closedPlan}
 use Rattle.plan_closed.proofs.ClosedForm.{closed-form}
 
 -- the number of a choice between 25 and a plan
@@ -38,31 +38,31 @@ either-at false n e = inl e
 
 -- ---- the blocks that are free before the free list is filled
 
-module _ (s : Site) (ok : Sound s) where
+module _ (s : Site) (ok : SoundSite s) where
   blocks-at : (t : Bool)
-      → weigh startOf countOf blocks (choose t (gap (s .head) (s .«log_at») ++ gap (s .«log_at» + s .«log_blocks») (s .length)) (record { start = s .head; count = s .length - s .head } ∷ []))
+      → weigh allocStart allocCount runLength (choose t (gap (s .head) (s .«log_at») ++ gap (s .«log_at» + s .«log_blocks») (s .length)) (record { start = s .head; count = s .length - s .head } ∷ []))
       ≡ s .length - choose t (s .«log_at» + s .«log_blocks») (s .head)
-  unfolding blocks
+  unfolding runLength
   blocks-at true =
       let l = ok .log-after in
-      let u = weigh-append startOf countOf blocks (gap (s .head) (s .«log_at»)) (gap (s .«log_at» + s .«log_blocks») (s .length)) in
-      let p = piece-weighs blocks additive-blocks (s .head) (s .«log_at») in
-      let q = piece-weighs blocks additive-blocks (s .«log_at» + s .«log_blocks») (s .length) in
+      let u = weigh-append allocStart allocCount runLength (gap (s .head) (s .«log_at»)) (gap (s .«log_at» + s .«log_blocks») (s .length)) in
+      let p = piece-weighs runLength additive-blocks (s .head) (s .«log_at») in
+      let q = piece-weighs runLength additive-blocks (s .«log_at» + s .«log_blocks») (s .length) in
       omega arith
-  blocks-at false = let u = weigh-one startOf countOf blocks (record { start = s .head; count = s .length - s .head }) in omega arith
+  blocks-at false = let u = weigh-one allocStart allocCount runLength (record { start = s .head; count = s .length - s .head }) in omega arith
 
-  pub free-blocks : freeBlocks s ≡ s .length - listAt s
+  pub free-blocks : freeBeforeList s ≡ s .length - listAt s
   unfolding freeAtFirst listAt
   free-blocks = blocks-at (s .«has_log»)
 
-  pub short-means : short s ≡ both (s .«has_log») (ltb (freeBlocks s) (s .need))
-  unfolding short
+  pub short-means : listShort s ≡ both (s .«has_log») (ltb (freeBeforeList s) (s .need))
+  unfolding listShort
   short-means = rw free-blocks
 
   -- the number is 25 where the log group is short, else 0
-  pub its-number : closedPlan s .number ≡ choose (short s) 25 0
+  pub its-number : closedPlan s .number ≡ choose (listShort s) 25 0
   unfolding closedPlan
-  its-number = number-at (short s) (record { number = 0; plan = closedAgPlan s }) refl
+  its-number = number-at (listShort s) (record { number = 0; plan = closedAgPlan s }) refl
 
 module _ (g : Geometry) (l : length (g .label) ≡ 12) (h : isAnswer g ≡ true) where
   -- THE PLAN OF EVERY GROUP OF AN ANSWER
@@ -70,36 +70,36 @@ module _ (g : Geometry) (l : length (g .label) ≡ 12) (h : isAnswer g ≡ true)
   unfolding planned
   closed-plan k i = rw (group-there g k h i) (closed-form (siteOf g k) (site-sound g k l h))
 
-  pub planned-number : (k : ℕ) → k < g .agcount → planned g k .number ≡ choose (short (siteOf g k)) 25 0
+  pub planned-number : (k : ℕ) → k < g .agcount → planned g k .number ≡ choose (listShort (siteOf g k)) 25 0
   planned-number k i = ap (λ (p : Planned). p .number) (closed-plan k i) ∙ its-number (siteOf g k) (site-sound g k l h)
 
   -- the plan of a group that isn't short
-  pub planned-plan : (k : ℕ) → k < g .agcount → short (siteOf g k) ≡ false → planned g k .plan ≡ closedAgPlan (siteOf g k)
+  pub planned-plan : (k : ℕ) → k < g .agcount → listShort (siteOf g k) ≡ false → planned g k .plan ≡ closedAgPlan (siteOf g k)
   unfolding closedPlan
   planned-plan k i f = rw (closed-plan k i, f)
 
   -- NO NUMBER BUT 25 COMES UP INSIDE
   pub refused-or-not : (k : ℕ) → k < g .agcount → (planned g k .number ≡ 0) ⊎ (planned g k .number ≡ 25)
-  refused-or-not k i = either-at (short (siteOf g k)) (planned g k .number) (planned-number k i)
+  refused-or-not k i = either-at (listShort (siteOf g k)) (planned g k .number) (planned-number k i)
 
-  pub elsewhere-long : (k : ℕ) → eqb k (g .logagno) ≡ false → short (siteOf g k) ≡ false
-  unfolding short siteOf
+  pub elsewhere-long : (k : ℕ) → eqb k (g .logagno) ≡ false → listShort (siteOf g k) ≡ false
+  unfolding listShort siteOf
   elsewhere-long k e = rw e
 
   -- NO GROUP BUT THE LOG GROUP IS REFUSED
   pub others-planned : (k : ℕ) → k < g .agcount → (k ≡ g .logagno → ⊥) → planned g k .number ≡ 0
   others-planned k i n = planned-number k i ∙ rw (elsewhere-long k (ne-eqb k (g .logagno) n))
 
-  log-short : short (siteOf g (g .logagno)) ≡ ltb (freeBlocks (siteOf g (g .logagno))) (freelistOf (g .features))
+  log-short : listShort (siteOf g (g .logagno)) ≡ ltb (freeBeforeList (siteOf g (g .logagno))) (freelistOf (g .features))
   unfolding siteOf
   log-short = short-means (siteOf g (g .logagno)) (site-sound g (g .logagno) l h) ∙ rw (eq-eqb (g .logagno) (g .logagno) refl)
 
   -- THE LOG GROUP IS REFUSED EXACTLY WHERE ITS FREE BLOCKS ARE FEWER THAN ITS FREE LIST
-  pub log-group-refused : planned g (g .logagno) .number ≡ choose (ltb (freeBlocks (siteOf g (g .logagno))) (freelistOf (g .features))) 25 0
+  pub log-group-refused : planned g (g .logagno) .number ≡ choose (ltb (freeBeforeList (siteOf g (g .logagno))) (freelistOf (g .features))) 25 0
   log-group-refused = planned-number (g .logagno) (answer-bounds g l h .places .log-inside) ∙ rw log-short
 
-  roomy-long : g .roomy ≡ true → short (siteOf g (g .logagno)) ≡ false
-  unfolding short siteOf listAt
+  roomy-long : g .roomy ≡ true → listShort (siteOf g (g .logagno)) ≡ false
+  unfolding listShort siteOf listAt
   roomy-long e =
       let z = answer-bounds g l h .places in
       let w = z .log-roomy e in
@@ -110,7 +110,7 @@ module _ (g : Geometry) (l : length (g .label) ≡ 12) (h : isAnswer g ≡ true)
   pub roomy-planned : g .roomy ≡ true → (k : ℕ) → k < g .agcount → planned g k .number ≡ 0
   roomy-planned e k i = planned-number k i ∙ ap (λ (t : Bool). choose t 25 0) (by-group k (eqb k (g .logagno)) refl)
     where
-      by-group : (k : ℕ) (t : Bool) → eqb k (g .logagno) ≡ t → short (siteOf g k) ≡ false
+      by-group : (k : ℕ) (t : Bool) → eqb k (g .logagno) ≡ t → listShort (siteOf g k) ≡ false
       by-group k true q = rw (eqb-true k (g .logagno) q) (roomy-long e)
       by-group k false q = elsewhere-long k q
 

@@ -10,24 +10,24 @@ use lib.Dec.{leb, ltb}
 use Rattle.seqs.specs.Lists.{both, choose, firstIndex, fold}
 use Rattle.seqs.specs.Runs.{valid}
 use Rattle.btree.specs.declared.records.AllocRec.{AllocRec}
-use Rattle.plan_free.specs.Free.{packFree, startOf, countOf, holdsRun, cut, kept, takenAt, takenFrom, taken, noChoice, chosen, fitter, bigger, pickedFrom, picked}
+use Rattle.plan_free.specs.Free.{packFree, allocStart, allocCount, holdsRun, withoutRun, takenList, takenAt, takenFrom, taken, noChoice, choiceOf, fitter, bigger, pickedFrom, pickAnswer}
 use Rattle.plan.specs.Plan.{gap}
 
 -- the one record is picked, whether it holds all that is wanted or not
-one-picked-at : (t : Bool) (r : AllocRec) → choose (choose (both t true) (chosen r) noChoice .found) (choose (both t true) (chosen r) noChoice) (chosen r) ≡ chosen r
+one-picked-at : (t : Bool) (r : AllocRec) → choose (choose (both t true) (choiceOf r) noChoice .found) (choose (both t true) (choiceOf r) noChoice) (choiceOf r) ≡ choiceOf r
 one-picked-at true r = refl
 one-picked-at false r = refl
 
-pub one-picked : (r : AllocRec) (want : ℕ) → picked (packFree (r ∷ [])) want ≡ chosen r
-unfolding picked pickedFrom fold fitter bigger
+pub one-picked : (r : AllocRec) (want : ℕ) → pickAnswer (packFree (r ∷ [])) want ≡ choiceOf r
+unfolding pickAnswer pickedFrom fold fitter bigger
 one-picked r want = one-picked-at (leb want (r .count)) r
 
-pub none-picked : (want : ℕ) → picked (packFree []) want ≡ noChoice
-unfolding picked pickedFrom fold
+pub none-picked : (want : ℕ) → pickAnswer (packFree []) want ≡ noChoice
+unfolding pickAnswer pickedFrom fold
 none-picked want = refl
 
 -- two records at most are kept
-two-kept : (t u : Bool) (x y : AllocRec) → kept ((choose t (x ∷ []) [] ++ choose u (y ∷ []) []) ++ []) ≡ record { number = 0; list = packFree (choose t (x ∷ []) [] ++ choose u (y ∷ []) []) }
+two-kept : (t u : Bool) (x y : AllocRec) → takenList ((choose t (x ∷ []) [] ++ choose u (y ∷ []) []) ++ []) ≡ record { number = 0; list = packFree (choose t (x ∷ []) [] ++ choose u (y ∷ []) []) }
 two-kept true true x y = refl
 two-kept true false x y = refl
 two-kept false true x y = refl
@@ -38,7 +38,7 @@ module _ (a c s n : ℕ) (some : 0 < c) (low : a ≤ s) (high : s + n ≤ a + c)
   abbrev r : AllocRec
   r = record { start = a; count = c }
 
-  one-valid : valid startOf countOf 0 (r ∷ []) ≡ true
+  one-valid : valid allocStart allocCount 0 (r ∷ []) ≡ true
   unfolding valid
   one-valid = rw (le-leb 0 a (omega arith), lt-ltb 0 c some, lt-ltb (a + c) (2 ^ 32) wide)
 
@@ -46,7 +46,7 @@ module _ (a c s n : ℕ) (some : 0 < c) (low : a ≤ s) (high : s + n ≤ a + c)
   one-holds = rw (le-leb a s low, le-leb (s + n) (a + c) high)
 
   from-one : takenFrom (r ∷ []) s (s + n) ≡ record { number = 0; list = packFree (gap a s ++ gap (s + n) (a + c)) }
-  unfolding takenFrom takenAt firstIndex cut
+  unfolding takenFrom takenAt firstIndex withoutRun
   from-one = rw one-holds (two-kept (ltb a s) (ltb (s + n) (a + c)) (record { start = a; count = s - a }) (record { start = s + n; count = a + c - (s + n) }))
 
   pub one-taken : taken (packFree (r ∷ [])) s n ≡ record { number = 0; list = packFree (gap a s ++ gap (s + n) (a + c)) }

@@ -10,16 +10,16 @@ use Rattle.params.specs.declared.OptU64.the-variants.{Absent, Given}
 use Rattle.btree.specs.declared.records.AllocRec.{AllocRec}
 use Rattle.btree.specs.declared.records.RmapRec.{RmapRec}
 use Rattle.plan_site.specs.declared.Site.{Site}
-use Rattle.seqs.specs.Runs.{weigh, blocks}
-use Rattle.plan_free.specs.Free.{packFree, startOf, countOf}
+use Rattle.seqs.specs.Runs.{weigh, runLength}
+use Rattle.plan_free.specs.Free.{packFree, allocStart, allocCount}
 use Rattle.plan_rmap.specs.Rmap.{packRmap}
 use Rattle.plan.specs.declared.AgPlan.{AgPlan}
 use Rattle.plan.specs.declared.Planned.{Planned}
 use Rattle.plan.specs.Plan.{packAgfl, ownFs, ownAg, ownInobt, ownInodes, gap, freeAtFirst, mapRec, refcMap, logMap, refusedPlan}
 
 -- group 0 has the root chunk
-abbrev pub isFirst : Site → Bool
-isFirst s = eqb (s .agno) 0
+abbrev pub hasRootChunk : Site → Bool
+hasRootChunk s = eqb (s .agno) 0
 
 -- the free list's first block: after the head, in the log group after the log
 unfoldable pub listAt : Site → ℕ
@@ -28,7 +28,7 @@ listAt s = choose (s .«has_log») (s .«log_at» + s .«log_blocks») (s .head)
 -- free: all after the free list, less the root chunk in group 0
 unfoldable pub closedFree : Site → List AllocRec
 closedFree s =
-    choose (isFirst s) (gap (s .head + s .need) (s .«chunk_at») ++ gap (s .«chunk_at» + s .«chunk_blocks») (s .length))
+    choose (hasRootChunk s) (gap (s .head + s .need) (s .«chunk_at») ++ gap (s .«chunk_at» + s .«chunk_blocks») (s .length))
     (gap (listAt s + s .need) (s .length))
 
 -- the free list's blocks follow each other
@@ -40,8 +40,8 @@ abbrev pub isJoined : Site → Bool
 isJoined s = both (not (s .reflink)) (not (s .«has_log»))
 
 -- the head's parts before the rmap root: header blocks, free-space roots, inode roots
-abbrev pub headParts : Site → List RmapRec
-headParts s =
+abbrev pub headMappings : Site → List RmapRec
+headMappings s =
     mapRec 0 (s .bno) ownFs
     ∷ mapRec (s .bno) 2 ownAg
     ∷ mapRec (s .ibt) (s .«rmap_at» - s .ibt) ownInobt
@@ -53,20 +53,20 @@ listParts s =
     choose (isJoined s) (mapRec (s .«rmap_at») (1 + s .need) ownAg ∷ [])
     (mapRec (s .«rmap_at») 1 ownAg ∷ (refcMap s ++ (logMap s ++ mapRec (listAt s) (s .need) ownAg ∷ [])))
 
-abbrev pub chunkParts : Site → List RmapRec
-chunkParts s = choose (isFirst s) (mapRec (s .«chunk_at») (s .«chunk_blocks») ownInodes ∷ []) []
+abbrev pub chunkMapping : Site → List RmapRec
+chunkMapping s = choose (hasRootChunk s) (mapRec (s .«chunk_at») (s .«chunk_blocks») ownInodes ∷ []) []
 
 -- the reverse mappings, where their feature is on: every block that isn't free, by its owner
 unfoldable pub closedRmap : Site → List RmapRec
-closedRmap s = choose (s .rmapbt) (headParts s ++ (listParts s ++ chunkParts s)) []
+closedRmap s = choose (s .rmapbt) (headMappings s ++ (listParts s ++ chunkMapping s)) []
 
 -- blocks that are free before the free list is filled
-abbrev pub freeBlocks : Site → ℕ
-freeBlocks s = weigh startOf countOf blocks (freeAtFirst s)
+abbrev pub freeBeforeList : Site → ℕ
+freeBeforeList s = weigh allocStart allocCount runLength (freeAtFirst s)
 
 -- the log group has fewer free blocks than its free list
-unfoldable pub short : Site → Bool
-short s = both (s .«has_log») (ltb (s .length - listAt s) (s .need))
+unfoldable pub listShort : Site → Bool
+listShort s = both (s .«has_log») (ltb (s .length - listAt s) (s .need))
 
 abbrev pub closedAgPlan : Site → AgPlan
 closedAgPlan s =
@@ -76,9 +76,9 @@ closedAgPlan s =
       free = packFree (closedFree s);
       agfl = packAgfl (closedList s);
       rmap = packRmap (closedRmap s);
-      chunk = choose (isFirst s) (Given (s .«chunk_at»)) Absent;
+      chunk = choose (hasRootChunk s) (Given (s .«chunk_at»)) Absent;
     }
 
 -- 25 where the log group is short of blocks, else the plan
 unfoldable pub closedPlan : Site → Planned
-closedPlan s = choose (short s) (refusedPlan freeListShort) (record { number = 0; plan = closedAgPlan s })
+closedPlan s = choose (listShort s) (refusedPlan freeListShort) (record { number = 0; plan = closedAgPlan s })

@@ -16,7 +16,7 @@ use Rattle.seqs.proofs.Laws.{never, both-left, both-right, total-append, total-
 use Rattle.seqs.proofs.Parts.{Follows, ended, valid-uncons, valid-cons, valid-join, valid-unjoin}
 use Rattle.seqs.proofs.Weights.{Additive, additive-has}
 use Rattle.btree.specs.declared.records.RmapRec.{RmapRec}
-use Rattle.plan_rmap.specs.Rmap.{zeroRec, rmapOf, packRmap, startOf, countOf, endOf, joins, glued, joinsLeft, joinsRight, joinedAt}
+use Rattle.plan_rmap.specs.Rmap.{zeroRmapRec, rmapOf, packRmap, rmapStart, rmapCount, rmapEnd, joins, glued, joinsLeft, joinsRight, joinedAt}
 use Rattle.plan_extents.specs.Inserts.{holdsBlock, ownsBlock}
 
 pub nil-of : (xs : List RmapRec) → length xs ≡ 0 → xs ≡ []
@@ -24,7 +24,7 @@ nil-of [] e = refl
 nil-of (x ∷ xs) e = absurd (omega arith)
 
 pub rmap-packed : (xs : List RmapRec) → rmapOf (packRmap xs) ≡ xs
-rmap-packed xs = take-append-seam xs (replicate (64 - length xs) zeroRec)
+rmap-packed xs = take-append-seam xs (replicate (64 - length xs) zeroRmapRec)
 
 -- ys is xs with neighbours that join, of one owner and without a gap, put together
 pub data Joined : List RmapRec → List RmapRec → Type 0 where
@@ -34,34 +34,34 @@ pub data Joined : List RmapRec → List RmapRec → Type 0 where
 -- ---- two records that join
 pub record Joins (a b : RmapRec) : Type 0 where
   pub owner : a .owner ≡ b .owner
-  pub meet : endOf a ≡ b .start
+  pub meet : rmapEnd a ≡ b .start
 
 pub joins-facts : (a b : RmapRec) → joins a b ≡ true → Joins a b
 joins-facts a b e =
     record {
-      owner = eqb-true _ _ (both-left (eqb (a .owner) (b .owner)) (eqb (endOf a) (b .start)) e);
-      meet = eqb-true _ _ (both-right (eqb (a .owner) (b .owner)) (eqb (endOf a) (b .start)) e);
+      owner = eqb-true _ _ (both-left (eqb (a .owner) (b .owner)) (eqb (rmapEnd a) (b .start)) e);
+      meet = eqb-true _ _ (both-right (eqb (a .owner) (b .owner)) (eqb (rmapEnd a) (b .start)) e);
     }
 
 -- ---- what joining keeps
-glued-follows : (lo : ℕ) (a b : RmapRec) → Joins a b → Follows lo (a .start) (a .count) → Follows (endOf a) (b .start) (b .count) → Follows lo (a .start) (a .count + b .count)
+glued-follows : (lo : ℕ) (a b : RmapRec) → Joins a b → Follows lo (a .start) (a .count) → Follows (rmapEnd a) (b .start) (b .count) → Follows lo (a .start) (a .count + b .count)
 glued-follows lo a b j f g =
     let m = j .meet in
     let s = f .some in
     let h = g .high in
     record { low = f .low; some = omega arith; high = omega arith }
 
-pub joined-valid : (lo : ℕ) (xs ys : List RmapRec) → Joined xs ys → valid startOf countOf lo xs ≡ true → valid startOf countOf lo ys ≡ true
+pub joined-valid : (lo : ℕ) (xs ys : List RmapRec) → Joined xs ys → valid rmapStart rmapCount lo xs ≡ true → valid rmapStart rmapCount lo ys ≡ true
 joined-valid lo xs ys (same e) v = rw (← e) v
 joined-valid lo xs ys (join us a b vs e j k) v =
-    let w = valid-unjoin startOf countOf lo us (a ∷ b ∷ vs) (rw e at v) in
-    let f = valid-uncons startOf countOf (ended startOf countOf lo us) a (b ∷ vs) (w .1) in
-    let g = valid-uncons startOf countOf (endOf a) b vs (f .1) in
+    let w = valid-unjoin rmapStart rmapCount lo us (a ∷ b ∷ vs) (rw e at v) in
+    let f = valid-uncons rmapStart rmapCount (ended rmapStart rmapCount lo us) a (b ∷ vs) (w .1) in
+    let g = valid-uncons rmapStart rmapCount (rmapEnd a) b vs (f .1) in
     let q = joins-facts a b j in
     let m = q .meet in
-    let d : a .start + (a .count + b .count) ≡ endOf b = omega arith in
+    let d : a .start + (a .count + b .count) ≡ rmapEnd b = omega arith in
     joined-valid lo (us ++ glued a b ∷ vs) ys k
-    (valid-join startOf countOf lo us (glued a b ∷ vs) (w .0) (valid-cons startOf countOf (ended startOf countOf lo us) (glued a b) vs (glued-follows (ended startOf countOf lo us) a b q (f .0) (g .0)) (rw d (g .1))))
+    (valid-join rmapStart rmapCount lo us (glued a b ∷ vs) (w .0) (valid-cons rmapStart rmapCount (ended rmapStart rmapCount lo us) (glued a b) vs (glued-follows (ended rmapStart rmapCount lo us) a b q (f .0) (g .0)) (rw d (g .1))))
 
 -- a number of each record that adds up where two join adds up to the same
 module _ (g : RmapRec → ℕ) (adds : (a b : RmapRec) → joins a b ≡ true → g (glued a b) ≡ g a + g b) where
@@ -97,12 +97,12 @@ owns-adds o k a b j =
     choose-adds (eqb (a .owner) o) (eqb (b .owner) o) (holdsBlock k a) (holdsBlock k b) (holdsBlock k (glued a b)) (ap (λ (w : ℕ). eqb w o) (joins-facts a b j .owner)) (holds-adds k a b j)
 
 -- ---- the record put in and joined with its neighbours
-pub put-left : (xs : List RmapRec) (p : ℕ) (ys : List RmapRec) → 0 < p → p ≤ length xs → take p xs ++ ys ≡ take (p - 1) xs ++ getD xs (p - 1) zeroRec ∷ ys
+pub put-left : (xs : List RmapRec) (p : ℕ) (ys : List RmapRec) → 0 < p → p ≤ length xs → take p xs ++ ys ≡ take (p - 1) xs ++ getD xs (p - 1) zeroRmapRec ∷ ys
 put-left xs zero ys h k = absurd (omega arith)
-put-left xs (suc q) ys h k = let e : suc q - 1 ≡ q = omega arith in rw (e, take-suc xs q zeroRec k) (append-snoc (take q xs) (getD xs q zeroRec) ys)
+put-left xs (suc q) ys h k = let e : suc q - 1 ≡ q = omega arith in rw (e, take-suc xs q zeroRmapRec k) (append-snoc (take q xs) (getD xs q zeroRmapRec) ys)
 
-pub put-right : (xs : List RmapRec) (p : ℕ) → p < length xs → drop p xs ≡ getD xs p zeroRec ∷ drop (p + 1) xs
-put-right xs p h = rw add-one (drop-cons xs p zeroRec h)
+pub put-right : (xs : List RmapRec) (p : ℕ) → p < length xs → drop p xs ≡ getD xs p zeroRmapRec ∷ drop (p + 1) xs
+put-right xs p h = rw add-one (drop-cons xs p zeroRmapRec h)
 
 -- what joins the second of two that join joins them both
 joins-on : (a r b : RmapRec) → joins a r ≡ true → joins r b ≡ true → joins (glued a r) b ≡ true
@@ -111,8 +111,8 @@ joins-on a r b j k =
     let y = joins-facts r b k in
     let m = x .meet in
     let n = y .meet in
-    let e : endOf (glued a r) ≡ b .start = omega arith in
-    rw (eq-eqb (a .owner) (b .owner) (x .owner ∙ y .owner), eq-eqb (endOf (glued a r)) (b .start) e)
+    let e : rmapEnd (glued a r) ≡ b .start = omega arith in
+    rw (eq-eqb (a .owner) (b .owner) (x .owner ∙ y .owner), eq-eqb (rmapEnd (glued a r)) (b .start) e)
 
 -- the records with r put in at index p
 abbrev pub withRec : List RmapRec → ℕ → RmapRec → List RmapRec
@@ -121,40 +121,40 @@ withRec xs p r = joinedAt (joinsLeft xs p r) (joinsRight xs p r) xs p r
 module _ (xs : List RmapRec) (p : ℕ) (r : RmapRec) where
   pub record Left : Type 0 where
     pub some : 0 < p
-    pub joined : joins (getD xs (p - 1) zeroRec) r ≡ true
+    pub joined : joins (getD xs (p - 1) zeroRmapRec) r ≡ true
 
   pub record Right : Type 0 where
     pub some : p < length xs
-    pub joined : joins r (getD xs p zeroRec) ≡ true
+    pub joined : joins r (getD xs p zeroRmapRec) ≡ true
 
   pub left-facts : joinsLeft xs p r ≡ true → Left
   unfolding joinsLeft
   left-facts e =
       record {
-        some = ltb-true _ _ (both-left (ltb 0 p) (joins (getD xs (p - 1) zeroRec) r) e);
-        joined = both-right (ltb 0 p) (joins (getD xs (p - 1) zeroRec) r) e;
+        some = ltb-true _ _ (both-left (ltb 0 p) (joins (getD xs (p - 1) zeroRmapRec) r) e);
+        joined = both-right (ltb 0 p) (joins (getD xs (p - 1) zeroRmapRec) r) e;
       }
 
   pub right-facts : joinsRight xs p r ≡ true → Right
   unfolding joinsRight
   right-facts e =
       record {
-        some = ltb-true _ _ (both-left (ltb p (length xs)) (joins r (getD xs p zeroRec)) e);
-        joined = both-right (ltb p (length xs)) (joins r (getD xs p zeroRec)) e;
+        some = ltb-true _ _ (both-left (ltb p (length xs)) (joins r (getD xs p zeroRmapRec)) e);
+        joined = both-right (ltb p (length xs)) (joins r (getD xs p zeroRmapRec)) e;
       }
 
   pub joined-by : p ≤ length xs → (x y : Bool) → joinsLeft xs p r ≡ x → joinsRight xs p r ≡ y → Joined (spliced xs p p (r ∷ [])) (joinedAt x y xs p r)
   joined-by h true true e f =
       let a = left-facts e in
       let b = right-facts f in
-      join (take (p - 1) xs) (getD xs (p - 1) zeroRec) r (drop p xs) (put-left xs p (r ∷ drop p xs) (a .some) h) (a .joined)
-      (join (take (p - 1) xs) (glued (getD xs (p - 1) zeroRec) r) (getD xs p zeroRec) (drop (p + 1) xs) (ap (λ (ys : List RmapRec). take (p - 1) xs ++ glued (getD xs (p - 1) zeroRec) r ∷ ys) (put-right xs p (b .some)))
-      (joins-on (getD xs (p - 1) zeroRec) r (getD xs p zeroRec) (a .joined) (b .joined))
+      join (take (p - 1) xs) (getD xs (p - 1) zeroRmapRec) r (drop p xs) (put-left xs p (r ∷ drop p xs) (a .some) h) (a .joined)
+      (join (take (p - 1) xs) (glued (getD xs (p - 1) zeroRmapRec) r) (getD xs p zeroRmapRec) (drop (p + 1) xs) (ap (λ (ys : List RmapRec). take (p - 1) xs ++ glued (getD xs (p - 1) zeroRmapRec) r ∷ ys) (put-right xs p (b .some)))
+      (joins-on (getD xs (p - 1) zeroRmapRec) r (getD xs p zeroRmapRec) (a .joined) (b .joined))
       (same refl))
   joined-by h true false e f =
       let a = left-facts e in
-      join (take (p - 1) xs) (getD xs (p - 1) zeroRec) r (drop p xs) (put-left xs p (r ∷ drop p xs) (a .some) h) (a .joined) (same refl)
+      join (take (p - 1) xs) (getD xs (p - 1) zeroRmapRec) r (drop p xs) (put-left xs p (r ∷ drop p xs) (a .some) h) (a .joined) (same refl)
   joined-by h false true e f =
       let b = right-facts f in
-      join (take p xs) r (getD xs p zeroRec) (drop (p + 1) xs) (ap (λ (ys : List RmapRec). take p xs ++ r ∷ ys) (put-right xs p (b .some))) (b .joined) (same refl)
+      join (take p xs) r (getD xs p zeroRmapRec) (drop (p + 1) xs) (ap (λ (ys : List RmapRec). take p xs ++ r ∷ ys) (put-right xs p (b .some))) (b .joined) (same refl)
   joined-by h false false e f = same refl

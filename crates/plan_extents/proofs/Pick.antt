@@ -14,8 +14,8 @@ use Rattle.seqs.proofs.Laws.{never}
 use Rattle.btree.specs.declared.records.AllocRec.{AllocRec}
 use Rattle.plan_free.specs.declared.FreeList.{FreeList}
 use Rattle.plan_free.specs.declared.Choice.{Choice}
-use Rattle.plan_free.specs.Free.{freeOf, noChoice, chosen, ahead, smaller, larger, next, fitter, bigger, pickedFrom, picked}
-use Rattle.plan_extents.specs.Picks.{Ahead, NoLarger, NoSmaller, Fits, Largest, Picks, fits, largest, none}
+use Rattle.plan_free.specs.Free.{freeOf, noChoice, choiceOf, ahead, smaller, largerRecord, next, fitter, bigger, pickedFrom, pickAnswer}
+use Rattle.plan_extents.specs.Picks.{Ahead, NoLarger, NoSmaller, SmallestFit, Largest, Picks, fits, largest, none}
 
 -- ---- a loop that keeps the better of what it has and the next that passes a test
 abbrev better-of : (AllocRec → Bool) → (AllocRec → AllocRec → Bool) → Choice → AllocRec → Choice
@@ -37,7 +37,7 @@ module _ (ok : AllocRec → Bool) (Le : AllocRec → AllocRec → Type 0) where
 
 module _ (ok : AllocRec → Bool) (better : AllocRec → AllocRec → Bool) (Le : AllocRec → AllocRec → Type 0) (o : Order better Le) where
   -- the next is kept
-  replaced : (c : Choice) (r : AllocRec) (xs : List AllocRec) (d : Choice) → ok r ≡ true → (c .found ≡ true → Le r (c .rec)) → Kept ok Le (chosen r) xs d → Kept ok Le c (r ∷ xs) d
+  replaced : (c : Choice) (r : AllocRec) (xs : List AllocRec) (d : Choice) → ok r ≡ true → (c .found ≡ true → Le r (c .rec)) → Kept ok Le (choiceOf r) xs d → Kept ok Le c (r ∷ xs) d
   replaced c r xs d p q k =
       let s : (d .found ≡ true) × Le (d .rec) r = k .stays refl in
       record {
@@ -56,7 +56,7 @@ module _ (ok : AllocRec → Bool) (better : AllocRec → AllocRec → Bool) (Le 
       }
 
   step : (c : Choice) (r : AllocRec) (xs : List AllocRec) (d : Choice) (p f b : Bool) → ok r ≡ p → c .found ≡ f → better r (c .rec) ≡ b
-      → Kept ok Le (choose (both p (choose f b true)) (chosen r) c) xs d → Kept ok Le c (r ∷ xs) d
+      → Kept ok Le (choose (both p (choose f b true)) (choiceOf r) c) xs d → Kept ok Le c (r ∷ xs) d
   step c r xs d false f b x y z k = skipped c r xs d (λ e. never (sym x ∙ e)) k
   step c r xs d true false b x y z k = replaced c r xs d x (λ e. never (sym y ∙ e)) k
   step c r xs d true true true x y z k = replaced c r xs d x (λ e. o .yes r (c .rec) z) k
@@ -93,7 +93,7 @@ no-larger =
       no = λ a b. ahead-no (a .count) (b .count) (a .start) (b .start);
     }
 
-no-smaller : Order larger NoSmaller
+no-smaller : Order largerRecord NoSmaller
 no-smaller =
     record {
       same = λ a. ahead-same (a .count) (a .start);
@@ -115,9 +115,9 @@ fit-kept want xs = kept (hasAll want) smaller NoLarger no-larger xs noChoice
 
 size-kept : (xs : List AllocRec) → Kept any NoSmaller noChoice xs (fold bigger noChoice xs)
 unfolding bigger
-size-kept xs = kept any larger NoSmaller no-smaller xs noChoice
+size-kept xs = kept any largerRecord NoSmaller no-smaller xs noChoice
 
-fit-found : (want : ℕ) (xs : List AllocRec) → fold (fitter want) noChoice xs .found ≡ true → Fits want xs (fold (fitter want) noChoice xs .rec)
+fit-found : (want : ℕ) (xs : List AllocRec) → fold (fitter want) noChoice xs .found ≡ true → SmallestFit want xs (fold (fitter want) noChoice xs .rec)
 fit-found want xs e =
     let k = fit-kept want xs in
     let m = ⊎-elim (λ f. never (f .0)) (λ n. n) (k .from e) in
@@ -147,18 +147,18 @@ picks-by want xs true e = fits e (fit-found want xs e)
 picks-by want xs false e = largest-of want xs (λ x m. short want xs e x m (leb want (x .count)) refl)
 
 -- ---- `pick` by its meaning
-pub pick-means : (l : FreeList) (want : ℕ) → l .len ≤ 64 → Picks want (freeOf l) (picked l want)
-unfolding picked pickedFrom
+pub pick-means : (l : FreeList) (want : ℕ) → l .len ≤ 64 → Picks want (freeOf l) (pickAnswer l want)
+unfolding pickAnswer pickedFrom
 pick-means l want h = rw (le-ltb 64 (l .len) h) (picks-by want (freeOf l) (fold (fitter want) noChoice (freeOf l) .found) refl)
 
-fits-if : (want : ℕ) (xs : List AllocRec) (c : Choice) (x : AllocRec) → List·Memᴰ x xs → want ≤ x .count → Picks want xs c → (c .found ≡ true) × Fits want xs (c .rec)
+fits-if : (want : ℕ) (xs : List AllocRec) (c : Choice) (x : AllocRec) → List·Memᴰ x xs → want ≤ x .count → Picks want xs c → (c .found ≡ true) × SmallestFit want xs (c .rec)
 fits-if want xs c x m h (fits f p) = (f, p)
 fits-if want xs c x m h (largest f s p) = let k = s x m in absurd (omega arith)
 fits-if want xs c x m h (none n e) = absurd (List·Memᴰ·not-nil (rw e at m))
 
 -- where some record has all that is wanted, the smallest such with the lowest start
-pub pick-fits : (l : FreeList) (want : ℕ) → l .len ≤ 64 → (x : AllocRec) → List·Memᴰ x (freeOf l) → want ≤ x .count → (picked l want .found ≡ true) × Fits want (freeOf l) (picked l want .rec)
-pick-fits l want h x m k = fits-if want (freeOf l) (picked l want) x m k (pick-means l want h)
+pub pick-fits : (l : FreeList) (want : ℕ) → l .len ≤ 64 → (x : AllocRec) → List·Memᴰ x (freeOf l) → want ≤ x .count → (pickAnswer l want .found ≡ true) × SmallestFit want (freeOf l) (pickAnswer l want .rec)
+pick-fits l want h x m k = fits-if want (freeOf l) (pickAnswer l want) x m k (pick-means l want h)
 
 largest-if : (want : ℕ) (xs : List AllocRec) (c : Choice) (x : AllocRec) → List·Memᴰ x xs → ((y : AllocRec) → List·Memᴰ y xs → y .count < want) → Picks want xs c → (c .found ≡ true) × Largest xs (c .rec)
 largest-if want xs c x m h (fits f p) = let k = h (c .rec) (p .there) in let e = p .enough in absurd (omega arith)
@@ -167,8 +167,8 @@ largest-if want xs c x m h (none n e) = absurd (List·Memᴰ·not-nil (rw e at m
 
 -- where there are records and none has all that is wanted, the largest with the lowest start
 pub pick-largest : (l : FreeList) (want : ℕ) → l .len ≤ 64 → (x : AllocRec) → List·Memᴰ x (freeOf l) → ((y : AllocRec) → List·Memᴰ y (freeOf l) → y .count < want)
-    → (picked l want .found ≡ true) × Largest (freeOf l) (picked l want .rec)
-pick-largest l want h x m k = largest-if want (freeOf l) (picked l want) x m k (pick-means l want h)
+    → (pickAnswer l want .found ≡ true) × Largest (freeOf l) (pickAnswer l want .rec)
+pick-largest l want h x m k = largest-if want (freeOf l) (pickAnswer l want) x m k (pick-means l want h)
 
 none-if : (want : ℕ) (xs : List AllocRec) (c : Choice) → Picks want xs c → (c .found ≡ false) ↔ (xs ≡ [])
 none-if want xs c (fits f p) = (λ e. never (sym e ∙ f), λ e. absurd (List·Memᴰ·not-nil (rw e at (p .there))))
@@ -176,5 +176,5 @@ none-if want xs c (largest f s p) = (λ e. never (sym e ∙ f), λ e. absurd (Li
 none-if want xs c (none n e) = (λ x. e, λ x. ap (λ (y : Choice). y .found) n)
 
 -- nothing exactly where there is no record
-pub pick-none : (l : FreeList) (want : ℕ) → l .len ≤ 64 → (picked l want .found ≡ false) ↔ (freeOf l ≡ [])
-pick-none l want h = none-if want (freeOf l) (picked l want) (pick-means l want h)
+pub pick-none : (l : FreeList) (want : ℕ) → l .len ≤ 64 → (pickAnswer l want .found ≡ false) ↔ (freeOf l ≡ [])
+pick-none l want h = none-if want (freeOf l) (pickAnswer l want) (pick-means l want h)

@@ -10,7 +10,7 @@ use lib.Dec.{ltb, eqb}
 use lib.ListN.{length, take, drop, getD, length-drop, take-append-drop}
 use Rattle.seqs.specs.Lists.{both}
 use Rattle.btree.specs.declared.records.RmapRec.{RmapRec}
-use Rattle.plan_rmap.specs.Rmap.{zeroRec, endOf, joins, glued, joinsLeft, joinsRight, joinedAt}
+use Rattle.plan_rmap.specs.Rmap.{zeroRmapRec, rmapEnd, joins, glued, joinsLeft, joinsRight, joinedAt}
 use Rattle.plan_extents.specs.Inserts.{Unjoined}
 use Rattle.plan_extents.proofs.Join.{nil-of, joins-facts, put-left, put-right, left-facts, right-facts}
 
@@ -40,37 +40,37 @@ glued-joins : (a b x : RmapRec) → joins a b ≡ true → joins (glued a b) x �
 glued-joins a b x j =
     let f = joins-facts a b j in
     let m = f .meet in
-    let e : a .start + (a .count + b .count) ≡ endOf b = omega arith in
-    same-joins (a .owner) (b .owner) (a .start + (a .count + b .count)) (endOf b) x (f .owner) e
+    let e : a .start + (a .count + b .count) ≡ rmapEnd b = omega arith in
+    same-joins (a .owner) (b .owner) (a .start + (a .count + b .count)) (rmapEnd b) x (f .owner) e
   where
     same-joins : (o p d e : ℕ) (x : RmapRec) → o ≡ p → d ≡ e → both (eqb o (x .owner)) (eqb d (x .start)) ≡ both (eqb p (x .owner)) (eqb e (x .start))
     same-joins o p d e x f g = rw (f, g)
 
 -- ---- the records before the place, and from it on, with g at the place
 module _ (xs : List RmapRec) (p : ℕ) (r : RmapRec) (h : p ≤ length xs) (u : Unjoined xs) where
-  left-part : 0 < p → Unjoined (take (p - 1) xs ++ getD xs (p - 1) zeroRec ∷ [])
+  left-part : 0 < p → Unjoined (take (p - 1) xs ++ getD xs (p - 1) zeroRmapRec ∷ [])
   left-part k =
-      let e : xs ≡ take (p - 1) xs ++ getD xs (p - 1) zeroRec ∷ drop p xs = sym (take-append-drop p xs) ∙ put-left xs p (drop p xs) k h in
-      unjoined-parts (take (p - 1) xs) (getD xs (p - 1) zeroRec) (drop p xs) (rw e at u) .0
+      let e : xs ≡ take (p - 1) xs ++ getD xs (p - 1) zeroRmapRec ∷ drop p xs = sym (take-append-drop p xs) ∙ put-left xs p (drop p xs) k h in
+      unjoined-parts (take (p - 1) xs) (getD xs (p - 1) zeroRmapRec) (drop p xs) (rw e at u) .0
 
-  right-part : p < length xs → Unjoined (getD xs p zeroRec ∷ drop (p + 1) xs)
+  right-part : p < length xs → Unjoined (getD xs p zeroRmapRec ∷ drop (p + 1) xs)
   right-part k =
-      let e : xs ≡ take p xs ++ getD xs p zeroRec ∷ drop (p + 1) xs = sym (take-append-drop p xs) ∙ ap (λ (ys : List RmapRec). take p xs ++ ys) (put-right xs p k) in
-      unjoined-parts (take p xs) (getD xs p zeroRec) (drop (p + 1) xs) (rw e at u) .1
+      let e : xs ≡ take p xs ++ getD xs p zeroRmapRec ∷ drop (p + 1) xs = sym (take-append-drop p xs) ∙ ap (λ (ys : List RmapRec). take p xs ++ ys) (put-right xs p k) in
+      unjoined-parts (take p xs) (getD xs p zeroRmapRec) (drop (p + 1) xs) (rw e at u) .1
 
-  left-joined : joinsLeft xs p r ≡ true → (g : RmapRec) → ((x : RmapRec) → joins x g ≡ joins x (getD xs (p - 1) zeroRec)) → Unjoined (take (p - 1) xs ++ g ∷ [])
-  left-joined e g f = unjoined-last (take (p - 1) xs) (getD xs (p - 1) zeroRec) g f (left-part (left-facts xs p r e .some))
+  left-joined : joinsLeft xs p r ≡ true → (g : RmapRec) → ((x : RmapRec) → joins x g ≡ joins x (getD xs (p - 1) zeroRmapRec)) → Unjoined (take (p - 1) xs ++ g ∷ [])
+  left-joined e g f = unjoined-last (take (p - 1) xs) (getD xs (p - 1) zeroRmapRec) g f (left-part (left-facts xs p r e .some))
 
-  right-joined : joinsRight xs p r ≡ true → (g : RmapRec) → ((x : RmapRec) → joins g x ≡ joins (getD xs p zeroRec) x) → Unjoined (g ∷ drop (p + 1) xs)
-  right-joined e g f = unjoined-first (getD xs p zeroRec) g (drop (p + 1) xs) f (right-part (right-facts xs p r e .some))
+  right-joined : joinsRight xs p r ≡ true → (g : RmapRec) → ((x : RmapRec) → joins g x ≡ joins (getD xs p zeroRmapRec) x) → Unjoined (g ∷ drop (p + 1) xs)
+  right-joined e g f = unjoined-first (getD xs p zeroRmapRec) g (drop (p + 1) xs) f (right-part (right-facts xs p r e .some))
 
   left-apart : (t : Bool) → ltb 0 p ≡ t → joinsLeft xs p r ≡ false → (g : RmapRec) → ((x : RmapRec) → joins x g ≡ joins x r) → Unjoined (take p xs ++ g ∷ [])
   unfolding joinsLeft
   left-apart false z e g f = let k : p ≡ 0 = let q = ltb-false 0 p z in omega arith in rw k tt
   left-apart true z e g f =
       let k : 0 < p = ltb-true 0 p z in
-      let n : joins (getD xs (p - 1) zeroRec) r ≡ false = rw z at e in
-      rw (put-left xs p (g ∷ []) k h) (unjoined-whole (take (p - 1) xs) (getD xs (p - 1) zeroRec) (g ∷ []) (left-part k) (f (getD xs (p - 1) zeroRec) ∙ n, tt))
+      let n : joins (getD xs (p - 1) zeroRmapRec) r ≡ false = rw z at e in
+      rw (put-left xs p (g ∷ []) k h) (unjoined-whole (take (p - 1) xs) (getD xs (p - 1) zeroRmapRec) (g ∷ []) (left-part k) (f (getD xs (p - 1) zeroRmapRec) ∙ n, tt))
 
   right-apart : (t : Bool) → ltb p (length xs) ≡ t → joinsRight xs p r ≡ false → (g : RmapRec) → ((x : RmapRec) → joins g x ≡ joins r x) → Unjoined (g ∷ drop p xs)
   unfolding joinsRight
@@ -79,24 +79,24 @@ module _ (xs : List RmapRec) (p : ℕ) (r : RmapRec) (h : p ≤ length xs) (u : 
       rw (nil-of (drop p xs) k) tt
   right-apart true z e g f =
       let k : p < length xs = ltb-true p (length xs) z in
-      let n : joins r (getD xs p zeroRec) ≡ false = rw z at e in
-      rw (put-right xs p k) (f (getD xs p zeroRec) ∙ n, right-part k)
+      let n : joins r (getD xs p zeroRmapRec) ≡ false = rw z at e in
+      rw (put-right xs p k) (f (getD xs p zeroRmapRec) ∙ n, right-part k)
 
   pub unjoined-by : (x y : Bool) → joinsLeft xs p r ≡ x → joinsRight xs p r ≡ y → Unjoined (joinedAt x y xs p r)
   unjoined-by true true e f =
       let a = left-facts xs p r e .joined in
       let b = right-facts xs p r f .joined in
-      unjoined-whole (take (p - 1) xs) (glued (glued (getD xs (p - 1) zeroRec) r) (getD xs p zeroRec)) (drop (p + 1) xs)
-      (left-joined e (glued (glued (getD xs (p - 1) zeroRec) r) (getD xs p zeroRec)) (λ x. refl))
-      (right-joined f (glued (glued (getD xs (p - 1) zeroRec) r) (getD xs p zeroRec)) (λ x. glued-joins (glued (getD xs (p - 1) zeroRec) r) (getD xs p zeroRec) x (glued-joins (getD xs (p - 1) zeroRec) r (getD xs p zeroRec) a ∙ b)))
+      unjoined-whole (take (p - 1) xs) (glued (glued (getD xs (p - 1) zeroRmapRec) r) (getD xs p zeroRmapRec)) (drop (p + 1) xs)
+      (left-joined e (glued (glued (getD xs (p - 1) zeroRmapRec) r) (getD xs p zeroRmapRec)) (λ x. refl))
+      (right-joined f (glued (glued (getD xs (p - 1) zeroRmapRec) r) (getD xs p zeroRmapRec)) (λ x. glued-joins (glued (getD xs (p - 1) zeroRmapRec) r) (getD xs p zeroRmapRec) x (glued-joins (getD xs (p - 1) zeroRmapRec) r (getD xs p zeroRmapRec) a ∙ b)))
   unjoined-by true false e f =
       let a = left-facts xs p r e .joined in
-      unjoined-whole (take (p - 1) xs) (glued (getD xs (p - 1) zeroRec) r) (drop p xs)
-      (left-joined e (glued (getD xs (p - 1) zeroRec) r) (λ x. refl))
-      (right-apart _ refl f (glued (getD xs (p - 1) zeroRec) r) (λ x. glued-joins (getD xs (p - 1) zeroRec) r x a))
+      unjoined-whole (take (p - 1) xs) (glued (getD xs (p - 1) zeroRmapRec) r) (drop p xs)
+      (left-joined e (glued (getD xs (p - 1) zeroRmapRec) r) (λ x. refl))
+      (right-apart _ refl f (glued (getD xs (p - 1) zeroRmapRec) r) (λ x. glued-joins (getD xs (p - 1) zeroRmapRec) r x a))
   unjoined-by false true e f =
       let b = right-facts xs p r f .joined in
-      unjoined-whole (take p xs) (glued r (getD xs p zeroRec)) (drop (p + 1) xs)
-      (left-apart _ refl e (glued r (getD xs p zeroRec)) (λ x. refl))
-      (right-joined f (glued r (getD xs p zeroRec)) (λ x. glued-joins r (getD xs p zeroRec) x b))
+      unjoined-whole (take p xs) (glued r (getD xs p zeroRmapRec)) (drop (p + 1) xs)
+      (left-apart _ refl e (glued r (getD xs p zeroRmapRec)) (λ x. refl))
+      (right-joined f (glued r (getD xs p zeroRmapRec)) (λ x. glued-joins r (getD xs p zeroRmapRec) x b))
   unjoined-by false false e f = unjoined-whole (take p xs) r (drop p xs) (left-apart _ refl e r (λ x. refl)) (right-apart _ refl f r (λ x. refl))

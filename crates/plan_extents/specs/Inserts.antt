@@ -13,7 +13,7 @@ use Rattle.seqs.specs.Runs.{valid, has}
 use Rattle.btree.specs.declared.records.RmapRec.{RmapRec}
 use Rattle.plan_rmap.specs.declared.RmapList.{RmapList}
 use Rattle.plan_rmap.specs.declared.Inserted.{Inserted}
-use Rattle.plan_rmap.specs.Rmap.{rmapOf, startOf, countOf, endOf, joins, refusal}
+use Rattle.plan_rmap.specs.Rmap.{rmapOf, rmapStart, rmapCount, rmapEnd, joins, insertRefused}
 
 -- no two neighbours join
 abbrev pub Unjoined : List RmapRec → Type 0
@@ -23,7 +23,7 @@ Unjoined (x ∷ y ∷ xs) = (joins x y ≡ false) × Unjoined (y ∷ xs)
 
 -- 1 if the record has block b, else 0; the same for the records of owner o alone
 abbrev pub holdsBlock : ℕ → RmapRec → ℕ
-holdsBlock b r = has b (r .start) (endOf r)
+holdsBlock b r = has b (r .start) (rmapEnd r)
 
 abbrev pub ownsBlock : ℕ → ℕ → RmapRec → ℕ
 ownsBlock o b r = choose (eqb (r .owner) o) (holdsBlock b r) 0
@@ -32,25 +32,25 @@ ownsBlock o b r = choose (eqb (r .owner) o) (holdsBlock b r) 0
 -- without neighbours that join if there were none
 pub record Gains (xs : List RmapRec) (r : RmapRec) (ys : List RmapRec) : Type 0 where
   pub few : length ys ≤ 64
-  pub sorted : valid startOf countOf 0 ys ≡ true
+  pub sorted : valid rmapStart rmapCount 0 ys ≡ true
   pub covers : (b : ℕ) → total (holdsBlock b) ys ≡ total (holdsBlock b) xs + holdsBlock b r
   pub owners : (o b : ℕ) → total (ownsBlock o b) ys ≡ total (ownsBlock o b) xs + ownsBlock o b r
   pub unjoined : Unjoined xs → Unjoined ys
 
 -- the record can be put in: the list is valid, the record isn't empty, ends at 2^32 − 1 or before, and has no block of another
 pub record Accepts (xs : List RmapRec) (r : RmapRec) : Type 0 where
-  pub sorted : valid startOf countOf 0 xs ≡ true
+  pub sorted : valid rmapStart rmapCount 0 xs ≡ true
   pub some : 0 < r .count
-  pub high : endOf r < 2 ^ 32
-  pub apart : (x : RmapRec) → List·Memᴰ x xs → (endOf x ≤ r .start) ⊎ (endOf r ≤ x .start)
+  pub high : rmapEnd r < 2 ^ 32
+  pub apart : (x : RmapRec) → List·Memᴰ x xs → (rmapEnd x ≤ r .start) ⊎ (rmapEnd r ≤ x .start)
 
 -- no record joins it
-abbrev pub Alone : List RmapRec → RmapRec → Type 0
-Alone xs r = (x : RmapRec) → List·Memᴰ x xs → (joins x r ≡ false) × (joins r x ≡ false)
+abbrev pub NoneJoins : List RmapRec → RmapRec → Type 0
+NoneJoins xs r = (x : RmapRec) → List·Memᴰ x xs → (joins x r ≡ false) × (joins r x ≡ false)
 
 -- what `rmap_insert` answers, case by case
-pub data Answers (l : RmapList) (r : RmapRec) (t : Inserted) : Type 0 where
-  long : 64 < l .len → t ≡ refusal tooManyRecords → Answers l r t
-  unfit : l .len ≤ 64 → (Accepts (rmapOf l) r → ⊥) → t ≡ refusal notValid → Answers l r t
-  full : l .len ≤ 64 → Accepts (rmapOf l) r → length (rmapOf l) ≡ 64 → Alone (rmapOf l) r → t ≡ refusal tooManyRecords → Answers l r t
-  done : l .len ≤ 64 → Accepts (rmapOf l) r → (length (rmapOf l) ≡ 64 → Alone (rmapOf l) r → ⊥) → t .number ≡ 0 → Gains (rmapOf l) r (rmapOf (t .list)) → Answers l r t
+pub data InsertAnswers (l : RmapList) (r : RmapRec) (t : Inserted) : Type 0 where
+  long : 64 < l .len → t ≡ insertRefused tooManyRecords → InsertAnswers l r t
+  unfit : l .len ≤ 64 → (Accepts (rmapOf l) r → ⊥) → t ≡ insertRefused notValid → InsertAnswers l r t
+  full : l .len ≤ 64 → Accepts (rmapOf l) r → length (rmapOf l) ≡ 64 → NoneJoins (rmapOf l) r → t ≡ insertRefused tooManyRecords → InsertAnswers l r t
+  done : l .len ≤ 64 → Accepts (rmapOf l) r → (length (rmapOf l) ≡ 64 → NoneJoins (rmapOf l) r → ⊥) → t .number ≡ 0 → Gains (rmapOf l) r (rmapOf (t .list)) → InsertAnswers l r t

@@ -22,7 +22,7 @@ abbrev pub NoSmaller : AllocRec → AllocRec → Type 0
 NoSmaller r x = Ahead (x .count) (r .count) (r .start) (x .start)
 
 -- r is one of the records, has all that is wanted, and of those that have is the smallest with the lowest start
-pub record Fits (want : ℕ) (xs : List AllocRec) (r : AllocRec) : Type 0 where
+pub record SmallestFit (want : ℕ) (xs : List AllocRec) (r : AllocRec) : Type 0 where
   pub there : List·Memᴰ r xs
   pub enough : want ≤ r .count
   pub smallest : (x : AllocRec) → List·Memᴰ x xs → want ≤ x .count → NoLarger r x
@@ -34,6 +34,6 @@ pub record Largest (xs : List AllocRec) (r : AllocRec) : Type 0 where
 
 -- what is picked: a record that fits where one has all that is wanted, else the largest, and nothing where there is none
 pub data Picks (want : ℕ) (xs : List AllocRec) (c : Choice) : Type 0 where
-  fits : c .found ≡ true → Fits want xs (c .rec) → Picks want xs c
+  fits : c .found ≡ true → SmallestFit want xs (c .rec) → Picks want xs c
   largest : c .found ≡ true → ((x : AllocRec) → List·Memᴰ x xs → x .count < want) → Largest xs (c .rec) → Picks want xs c
   none : c ≡ noChoice → xs ≡ [] → Picks want xs c

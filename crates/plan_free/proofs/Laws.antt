@@ -17,43 +17,43 @@ use Rattle.seqs.proofs.Laws.{both-left, both-right, index-passes, appended-appe
 use Rattle.btree.specs.declared.records.AllocRec.{AllocRec}
 use Rattle.plan_free.specs.declared.FreeList.{FreeList}
 use Rattle.plan_free.specs.declared.Taken.{Taken}
-use Rattle.plan_free.specs.Free.{packFree, zeroRec, freeOf, startOf, countOf, toFree, endOf, holdsRun, before, after, cut, refusal, takenAt, takenFrom, taken}
+use Rattle.plan_free.specs.Free.{packFree, zeroFreeRec, freeOf, allocStart, allocCount, toFree, allocEnd, holdsRun, restBefore, restAfter, withoutRun, takeRefused, takenAt, takenFrom, taken}
 
 -- ---- the record that the search finds in a struct's list
 module _ (xs : List AllocRec) (n i : ℕ) (k : n ≤ length xs) (h : i < n) where
-  pub live-holds : (s e : ℕ) → i ≡ firstIndex (holdsRun s e) (take n xs) → e ≤ endOf (getD xs i zeroRec)
+  pub live-holds : (s e : ℕ) → i ≡ firstIndex (holdsRun s e) (take n xs) → e ≤ allocEnd (getD xs i zeroFreeRec)
   live-holds s e q =
       let l : length (take n xs) ≡ n = length-take-le n xs k in
-      let p : holdsRun s e (getD (take n xs) i zeroRec) ≡ true = rw q (index-passes (holdsRun s e) (take n xs) zeroRec (omega arith)) in
-      leb-true _ _ (both-right (leb (getD xs i zeroRec .start) s) _ (rw (getD-take n xs i zeroRec h) at p))
+      let p : holdsRun s e (getD (take n xs) i zeroFreeRec) ≡ true = rw q (index-passes (holdsRun s e) (take n xs) zeroFreeRec (omega arith)) in
+      leb-true _ _ (both-right (leb (getD xs i zeroFreeRec .start) s) _ (rw (getD-take n xs i zeroFreeRec h) at p))
 
 module _ (xs : List AllocRec) (n i s e : ℕ) (k : n ≤ length xs) (h : i < n) where
-  pub taken-at-full : 64 < n - 1 + length (cut s e (getD xs i zeroRec)) → takenAt (take n xs) i s e ≡ refusal tooManyRecords
+  pub taken-at-full : 64 < n - 1 + length (withoutRun s e (getD xs i zeroFreeRec)) → takenAt (take n xs) i s e ≡ takeRefused tooManyRecords
   unfolding takenAt
   taken-at-full m =
-      let l = length-spliced zeroRec xs n i (i + 1) (cut s e (getD xs i zeroRec)) k (omega arith) in
-      let t : 64 < length (spliced (take n xs) i (i + 1) (cut s e (getD xs i zeroRec))) = omega arith in
-      rw (getD-take n xs i zeroRec h, lt-leb _ _ t)
+      let l = length-spliced zeroFreeRec xs n i (i + 1) (withoutRun s e (getD xs i zeroFreeRec)) k (omega arith) in
+      let t : 64 < length (spliced (take n xs) i (i + 1) (withoutRun s e (getD xs i zeroFreeRec))) = omega arith in
+      rw (getD-take n xs i zeroFreeRec h, lt-leb _ _ t)
 
-  pub taken-at-fits : n - 1 + length (cut s e (getD xs i zeroRec)) ≤ 64
+  pub taken-at-fits : n - 1 + length (withoutRun s e (getD xs i zeroFreeRec)) ≤ 64
       → takenAt (take n xs) i s e
-      ≡ record { number = 0; list = toFree (appended (appended (appended (appended (packed zeroRec []) (slice 0 i xs)) (before s (getD xs i zeroRec))) (after e (getD xs i zeroRec))) (slice (i + 1) n xs)) }
-  unfolding takenAt cut
+      ≡ record { number = 0; list = toFree (appended (appended (appended (appended (packed zeroFreeRec []) (slice 0 i xs)) (restBefore s (getD xs i zeroFreeRec))) (restAfter e (getD xs i zeroFreeRec))) (slice (i + 1) n xs)) }
+  unfolding takenAt withoutRun
   taken-at-fits m =
-      let l = length-spliced zeroRec xs n i (i + 1) (cut s e (getD xs i zeroRec)) k (omega arith) in
-      let t : length (spliced (take n xs) i (i + 1) (cut s e (getD xs i zeroRec))) ≤ 64 = omega arith in
-      let p = splice-packed zeroRec xs n i (i + 1) (cut s e (getD xs i zeroRec)) k (omega arith) t in
-      rw (getD-take n xs i zeroRec h, le-leb _ _ t, appended-append zeroRec (appended (packed zeroRec []) (slice 0 i xs)) (before s (getD xs i zeroRec)) (after e (getD xs i zeroRec)), p)
+      let l = length-spliced zeroFreeRec xs n i (i + 1) (withoutRun s e (getD xs i zeroFreeRec)) k (omega arith) in
+      let t : length (spliced (take n xs) i (i + 1) (withoutRun s e (getD xs i zeroFreeRec))) ≤ 64 = omega arith in
+      let p = splice-packed zeroFreeRec xs n i (i + 1) (withoutRun s e (getD xs i zeroFreeRec)) k (omega arith) t in
+      rw (getD-take n xs i zeroFreeRec h, le-leb _ _ t, appended-append zeroFreeRec (appended (packed zeroFreeRec []) (slice 0 i xs)) (restBefore s (getD xs i zeroFreeRec)) (restAfter e (getD xs i zeroFreeRec)), p)
 
 -- ---- the index of the record that holds the run, the record, and what is left of the list
 abbrev pub holder : List AllocRec → ℕ → ℕ → ℕ
 holder xs s e = firstIndex (holdsRun s e) xs
 
 abbrev pub held : List AllocRec → ℕ → ℕ → AllocRec
-held xs s e = getD xs (holder xs s e) zeroRec
+held xs s e = getD xs (holder xs s e) zeroFreeRec
 
 abbrev pub leftOf : List AllocRec → ℕ → ℕ → List AllocRec
-leftOf xs s e = spliced xs (holder xs s e) (holder xs s e + 1) (cut s e (held xs s e))
+leftOf xs s e = spliced xs (holder xs s e) (holder xs s e + 1) (withoutRun s e (held xs s e))
 
 -- ---- where the number is 0, every test was passed
 number-first : (b : Bool) (x y : Taken) → (x .number ≡ 0 → ⊥) → choose b x y .number ≡ 0 → (b ≡ false) × (y .number ≡ 0)
@@ -66,25 +66,25 @@ number-then false x y h e = absurd (h e)
 
 -- what an accepted `take` found and answers: a record that holds the run, and the records left
 pub record TakenOk (xs : List AllocRec) (s e : ℕ) (t : Taken) : Type 0 where
-  pub sorted : valid startOf countOf 0 xs ≡ true
+  pub sorted : valid allocStart allocCount 0 xs ≡ true
   pub below : holder xs s e < length xs
   pub low : held xs s e .start ≤ s
-  pub high : e ≤ endOf (held xs s e)
+  pub high : e ≤ allocEnd (held xs s e)
   pub small : length (leftOf xs s e) ≤ 64
   pub same : t .list ≡ packFree (leftOf xs s e)
 
-from-ok : (xs : List AllocRec) (s e : ℕ) → valid startOf countOf 0 xs ≡ true → takenFrom xs s e .number ≡ 0 → TakenOk xs s e (takenFrom xs s e)
+from-ok : (xs : List AllocRec) (s e : ℕ) → valid allocStart allocCount 0 xs ≡ true → takenFrom xs s e .number ≡ 0 → TakenOk xs s e (takenFrom xs s e)
 unfolding takenFrom takenAt
 from-ok xs s e v q =
-    let t = number-then (ltb (holder xs s e) (length xs)) (takenAt xs (holder xs s e) s e) (refusal notFree) (λ n. omega arith) q in
-    let k = number-then (leb (length (leftOf xs s e)) 64) (record { number = 0; list = packFree (leftOf xs s e) }) (refusal tooManyRecords) (λ n. omega arith) (t .1) in
+    let t = number-then (ltb (holder xs s e) (length xs)) (takenAt xs (holder xs s e) s e) (takeRefused notFree) (λ n. omega arith) q in
+    let k = number-then (leb (length (leftOf xs s e)) 64) (record { number = 0; list = packFree (leftOf xs s e) }) (takeRefused tooManyRecords) (λ n. omega arith) (t .1) in
     let h : holder xs s e < length xs = ltb-true _ _ (t .0) in
-    let p = index-passes (holdsRun s e) xs zeroRec h in
+    let p = index-passes (holdsRun s e) xs zeroFreeRec h in
     record {
       sorted = v;
       below = h;
-      low = leb-true _ _ (both-left (leb (held xs s e .start) s) (leb e (endOf (held xs s e))) p);
-      high = leb-true _ _ (both-right (leb (held xs s e .start) s) (leb e (endOf (held xs s e))) p);
+      low = leb-true _ _ (both-left (leb (held xs s e .start) s) (leb e (allocEnd (held xs s e))) p);
+      high = leb-true _ _ (both-right (leb (held xs s e .start) s) (leb e (allocEnd (held xs s e))) p);
       small = leb-true _ _ (k .0);
       same = rw (t .0, k .0);
     }
@@ -92,12 +92,12 @@ from-ok xs s e v q =
 pub taken-ok : (l : FreeList) (s n : ℕ) → taken l s n .number ≡ 0 → TakenOk (freeOf l) s (s + n) (taken l s n)
 unfolding taken
 taken-ok l s n q =
-    let a = number-first (ltb 64 (l .len)) (refusal tooManyRecords) (choose (valid startOf countOf 0 (freeOf l)) (choose (ltb (s + n) (2 ^ 64)) (takenFrom (freeOf l) s (s + n)) (refusal notFree)) (refusal notValid)) (λ n. omega arith) q in
-    let b = number-then (valid startOf countOf 0 (freeOf l)) (choose (ltb (s + n) (2 ^ 64)) (takenFrom (freeOf l) s (s + n)) (refusal notFree)) (refusal notValid) (λ n. omega arith) (a .1) in
-    let c = number-then (ltb (s + n) (2 ^ 64)) (takenFrom (freeOf l) s (s + n)) (refusal notFree) (λ n. omega arith) (b .1) in
+    let a = number-first (ltb 64 (l .len)) (takeRefused tooManyRecords) (choose (valid allocStart allocCount 0 (freeOf l)) (choose (ltb (s + n) (2 ^ 64)) (takenFrom (freeOf l) s (s + n)) (takeRefused notFree)) (takeRefused notValid)) (λ n. omega arith) q in
+    let b = number-then (valid allocStart allocCount 0 (freeOf l)) (choose (ltb (s + n) (2 ^ 64)) (takenFrom (freeOf l) s (s + n)) (takeRefused notFree)) (takeRefused notValid) (λ n. omega arith) (a .1) in
+    let c = number-then (ltb (s + n) (2 ^ 64)) (takenFrom (freeOf l) s (s + n)) (takeRefused notFree) (λ n. omega arith) (b .1) in
     rw (a .0, b .0, c .0) (from-ok (freeOf l) s (s + n) (b .0) (c .1))
 
-pub taken-valid : (l : FreeList) (s n : ℕ) → taken l s n .number ≡ 0 → valid startOf countOf 0 (freeOf l) ≡ true
+pub taken-valid : (l : FreeList) (s n : ℕ) → taken l s n .number ≡ 0 → valid allocStart allocCount 0 (freeOf l) ≡ true
 taken-valid l s n q = taken-ok l s n q .sorted
 
 -- a run that was taken ends below 2^32
@@ -105,5 +105,5 @@ pub taken-ends : (l : FreeList) (s n : ℕ) → taken l s n .number ≡ 0 → s 
 taken-ends l s n q =
     let o = taken-ok l s n q in
     let h = o .high in
-    let b = valid-at startOf countOf zeroRec 0 (freeOf l) (holder (freeOf l) s (s + n)) (o .sorted) (o .below) in
+    let b = valid-at allocStart allocCount zeroFreeRec 0 (freeOf l) (holder (freeOf l) s (s + n)) (o .sorted) (o .below) in
     omega arith

@@ -19,15 +19,15 @@ use Rattle.btree.specs.declared.records.AllocRec.{AllocRec}
 use Rattle.plan_free.specs.declared.FreeList.{FreeList}
 use Rattle.plan_free.specs.declared.Choice.{Choice}
 use Rattle.refusals.specs.Numbers.{tooManyRecords}
-use Rattle.plan_free.specs.Free.{zeroRec, freeOf, packFree, startOf, countOf, endOf, before, after, cut, taken, unpicked, noChoice, chosen, smaller, larger, fitter, bigger, pickedFrom, picked}
+use Rattle.plan_free.specs.Free.{zeroFreeRec, freeOf, packFree, allocStart, allocCount, allocEnd, restBefore, restAfter, withoutRun, taken, unpicked, noChoice, choiceOf, smaller, largerRecord, fitter, bigger, pickedFrom, pickAnswer}
 use Rattle.plan_free.proofs.Laws.{holder, held, leftOf, taken-ok}
 
 abbrev pub weighFree : (ℕ → ℕ → ℕ) → List AllocRec → ℕ
-weighFree f xs = weigh startOf countOf f xs
+weighFree f xs = weigh allocStart allocCount f xs
 
 -- ---- the records of a packed list
 pub free-packed : (xs : List AllocRec) → freeOf (packFree xs) ≡ xs
-free-packed xs = take-append-seam xs (replicate (64 - length xs) zeroRec)
+free-packed xs = take-append-seam xs (replicate (64 - length xs) zeroFreeRec)
 
 -- ---- the records between a and c
 abbrev pub piece : ℕ → ℕ → List AllocRec
@@ -42,14 +42,14 @@ module _ (f : ℕ → ℕ → ℕ) (add : Additive f) where
       (λ g. rw (le-ltb a c g) (sym (add .none a c g)))
       (lt-or-le a c)
 
-  pub cut-weighs : (s e : ℕ) (r : AllocRec) → r .start ≤ s → s ≤ e → e ≤ endOf r → weighFree f (cut s e r) + f s e ≡ f (r .start) (endOf r)
-  unfolding cut
+  pub cut-weighs : (s e : ℕ) (r : AllocRec) → r .start ≤ s → s ≤ e → e ≤ allocEnd r → weighFree f (withoutRun s e r) + f s e ≡ f (r .start) (allocEnd r)
+  unfolding withoutRun
   cut-weighs s e r h k l =
-      let u = weigh-append startOf countOf f (before s r) (after e r) in
+      let u = weigh-append allocStart allocCount f (restBefore s r) (restAfter e r) in
       let p = piece-weighs (r .start) s in
-      let q = piece-weighs e (endOf r) in
-      let x = add .split (r .start) s (endOf r) h (omega arith) in
-      let y = add .split s e (endOf r) k l in
+      let q = piece-weighs e (allocEnd r) in
+      let x = add .split (r .start) s (allocEnd r) h (omega arith) in
+      let y = add .split s e (allocEnd r) k l in
       omega arith
 
 -- ---- what is free before weighs as much as what is free after and the run
@@ -57,7 +57,7 @@ pub taken-weighs : (f : ℕ → ℕ → ℕ) → Additive f → (l : FreeList) (
     → weighFree f (freeOf l) ≡ weighFree f (freeOf (taken l s n .list)) + f s (s + n)
 taken-weighs f add l s n q =
     let o = taken-ok l s n q in
-    let u = weigh-spliced startOf countOf f zeroRec (freeOf l) (holder (freeOf l) s (s + n)) (cut s (s + n) (held (freeOf l) s (s + n))) (o .below) in
+    let u = weigh-spliced allocStart allocCount f zeroFreeRec (freeOf l) (holder (freeOf l) s (s + n)) (withoutRun s (s + n) (held (freeOf l) s (s + n))) (o .below) in
     let c = cut-weighs f add s (s + n) (held (freeOf l) s (s + n)) (o .low) (omega arith) (o .high) in
     rw (o .same, free-packed (leftOf (freeOf l) s (s + n))) (omega arith)
 
@@ -69,23 +69,23 @@ follows-count : (lo s c : ℕ) → follows lo s c ≡ true → 0 < c
 follows-count lo s c e = ltb-true _ _ (both-left (ltb 0 c) (ltb (s + c) (2 ^ 32)) (both-right (leb lo s) (both (ltb 0 c) (ltb (s + c) (2 ^ 32))) e))
 
 fold-some : (f : Choice → AllocRec → Choice) → ((c : Choice) (r : AllocRec) → 0 < r .count → Some c → Some (f c r))
-    → (lo : ℕ) (xs : List AllocRec) (c : Choice) → valid startOf countOf lo xs ≡ true → Some c → Some (fold f c xs)
+    → (lo : ℕ) (xs : List AllocRec) (c : Choice) → valid allocStart allocCount lo xs ≡ true → Some c → Some (fold f c xs)
 unfolding fold valid
 fold-some f step lo [] c v g = g
 fold-some f step lo (x ∷ xs) c v g =
-    fold-some f step (endOf x) xs (f c x) (both-right (follows lo (x .start) (x .count)) (valid startOf countOf (endOf x) xs) v)
-    (step c x (follows-count lo (x .start) (x .count) (both-left (follows lo (x .start) (x .count)) (valid startOf countOf (endOf x) xs) v)) g)
+    fold-some f step (allocEnd x) xs (f c x) (both-right (follows lo (x .start) (x .count)) (valid allocStart allocCount (allocEnd x) xs) v)
+    (step c x (follows-count lo (x .start) (x .count) (both-left (follows lo (x .start) (x .count)) (valid allocStart allocCount (allocEnd x) xs) v)) g)
 
 fitter-some : (want : ℕ) (c : Choice) (r : AllocRec) → 0 < r .count → Some c → Some (fitter want c r)
 unfolding fitter
-fitter-some want c r h g = choose-elim Some (both (leb want (r .count)) (choose (c .found) (smaller r (c .rec)) true)) (chosen r) c (λ t e. h) (λ t. g)
+fitter-some want c r h g = choose-elim Some (both (leb want (r .count)) (choose (c .found) (smaller r (c .rec)) true)) (choiceOf r) c (λ t e. h) (λ t. g)
 
 bigger-some : (c : Choice) (r : AllocRec) → 0 < r .count → Some c → Some (bigger c r)
 unfolding bigger
-bigger-some c r h g = choose-elim Some (choose (c .found) (larger r (c .rec)) true) (chosen r) c (λ t e. h) (λ t. g)
+bigger-some c r h g = choose-elim Some (choose (c .found) (largerRecord r (c .rec)) true) (choiceOf r) c (λ t e. h) (λ t. g)
 
-pub picked-some : (l : FreeList) (want : ℕ) → valid startOf countOf 0 (freeOf l) ≡ true → picked l want .found ≡ true → 0 < picked l want .rec .count
-unfolding picked pickedFrom
+pub picked-some : (l : FreeList) (want : ℕ) → valid allocStart allocCount 0 (freeOf l) ≡ true → pickAnswer l want .found ≡ true → 0 < pickAnswer l want .rec .count
+unfolding pickAnswer pickedFrom
 picked-some l want v =
     choose-elim Some (ltb 64 (l .len)) (unpicked tooManyRecords) _ (λ t e. never e)
     (λ t. choose-elim Some (fold (fitter want) noChoice (freeOf l) .found) _ _

@@ -14,8 +14,8 @@ use Rattle.plan_free.specs.declared.Taken.{Taken}
 use Rattle.plan_free.specs.declared.Choice.{Choice}
 
 -- what stands in a slot past the count
-abbrev pub zeroRec : AllocRec
-zeroRec = record { start = 0; count = 0 }
+abbrev pub zeroFreeRec : AllocRec
+zeroFreeRec = record { start = 0; count = 0 }
 
 -- a struct of the code as an array with a count, and back
 abbrev pub ofFree : FreeList → Store AllocRec
@@ -30,68 +30,68 @@ freeOf l = live (ofFree l)
 
 -- a list as a struct: the slots past the count are zero records
 abbrev pub packFree : List AllocRec → FreeList
-packFree xs = toFree (packed zeroRec xs)
+packFree xs = toFree (packed zeroFreeRec xs)
 
 -- the first block of a record, and how many there are
-abbrev pub startOf : AllocRec → ℕ
-startOf r = r .start
+abbrev pub allocStart : AllocRec → ℕ
+allocStart r = r .start
 
-abbrev pub countOf : AllocRec → ℕ
-countOf r = r .count
+abbrev pub allocCount : AllocRec → ℕ
+allocCount r = r .count
 
 -- the first block past a record
-abbrev pub endOf : AllocRec → ℕ
-endOf r = r .start + r .count
+abbrev pub allocEnd : AllocRec → ℕ
+allocEnd r = r .start + r .count
 
 -- the run from s up to, not including, e lies within the record
 abbrev pub holdsRun : ℕ → ℕ → AllocRec → Bool
-holdsRun s e r = both (leb (r .start) s) (leb e (endOf r))
+holdsRun s e r = both (leb (r .start) s) (leb e (allocEnd r))
 
 -- what the run leaves of the record before it, and after it
-abbrev pub before : ℕ → AllocRec → List AllocRec
-before s r = choose (ltb (r .start) s) (record { start = r .start; count = s - r .start } ∷ []) []
+abbrev pub restBefore : ℕ → AllocRec → List AllocRec
+restBefore s r = choose (ltb (r .start) s) (record { start = r .start; count = s - r .start } ∷ []) []
 
-abbrev pub after : ℕ → AllocRec → List AllocRec
-after e r = choose (ltb e (endOf r)) (record { start = e; count = endOf r - e } ∷ []) []
+abbrev pub restAfter : ℕ → AllocRec → List AllocRec
+restAfter e r = choose (ltb e (allocEnd r)) (record { start = e; count = allocEnd r - e } ∷ []) []
 
 -- both
-unfoldable pub cut : ℕ → ℕ → AllocRec → List AllocRec
-cut s e r = before s r ++ after e r
+unfoldable pub withoutRun : ℕ → ℕ → AllocRec → List AllocRec
+withoutRun s e r = restBefore s r ++ restAfter e r
 
 -- an answer of `take`: a number and no record, or 0 and the records left
-abbrev pub refusal : ℕ → Taken
-refusal n = record { number = n; list = packFree [] }
+abbrev pub takeRefused : ℕ → Taken
+takeRefused n = record { number = n; list = packFree [] }
 
 -- the records left, if they are at most 64
-abbrev pub kept : List AllocRec → Taken
-kept xs = choose (leb (length xs) 64) (record { number = 0; list = packFree xs }) (refusal tooManyRecords)
+abbrev pub takenList : List AllocRec → Taken
+takenList xs = choose (leb (length xs) 64) (record { number = 0; list = packFree xs }) (takeRefused tooManyRecords)
 
 -- the run taken out of the record at index i
 unfoldable pub takenAt : List AllocRec → ℕ → ℕ → ℕ → Taken
-takenAt xs i s e = kept (spliced xs i (i + 1) (cut s e (getD xs i zeroRec)))
+takenAt xs i s e = takenList (spliced xs i (i + 1) (withoutRun s e (getD xs i zeroFreeRec)))
 
 -- out of the first record that holds it; 33 where none does
 unfoldable pub takenFrom : List AllocRec → ℕ → ℕ → Taken
-takenFrom xs s e = choose (ltb (firstIndex (holdsRun s e) xs) (length xs)) (takenAt xs (firstIndex (holdsRun s e) xs) s e) (refusal notFree)
+takenFrom xs s e = choose (ltb (firstIndex (holdsRun s e) xs) (length xs)) (takenAt xs (firstIndex (holdsRun s e) xs) s e) (takeRefused notFree)
 
 -- `take`: the run of len blocks from start taken out of the free extents. 34 above 64 records, 32 unless they are valid, 33 where
 -- start plus len is above 2^64 − 1
 unfoldable pub taken : FreeList → ℕ → ℕ → Taken
 taken l start len =
-    choose (ltb 64 (l .len)) (refusal tooManyRecords)
-    (choose (valid startOf countOf 0 (freeOf l))
-    (choose (ltb (start + len) (2 ^ 64)) (takenFrom (freeOf l) start (start + len)) (refusal notFree))
-    (refusal notValid))
+    choose (ltb 64 (l .len)) (takeRefused tooManyRecords)
+    (choose (valid allocStart allocCount 0 (freeOf l))
+    (choose (ltb (start + len) (2 ^ 64)) (takenFrom (freeOf l) start (start + len)) (takeRefused notFree))
+    (takeRefused notValid))
 
 -- ---- the record that the free list is taken from: a number and none, 0 and none, or 0 and one
 abbrev pub unpicked : ℕ → Choice
-unpicked n = record { number = n; found = false; rec = zeroRec }
+unpicked n = record { number = n; found = false; rec = zeroFreeRec }
 
 abbrev pub noChoice : Choice
 noChoice = unpicked 0
 
-abbrev pub chosen : AllocRec → Choice
-chosen r = record { number = 0; found = true; rec = r }
+abbrev pub choiceOf : AllocRec → Choice
+choiceOf r = record { number = 0; found = true; rec = r }
 
 -- size p is less than size q, or they are equal and start s is lower than start t
 abbrev pub ahead : ℕ → ℕ → ℕ → ℕ → Bool
@@ -101,12 +101,12 @@ ahead p q s t = choose (eqb p q) (ltb s t) (ltb p q)
 abbrev pub smaller : AllocRec → AllocRec → Bool
 smaller a b = ahead (a .count) (b .count) (a .start) (b .start)
 
-abbrev pub larger : AllocRec → AllocRec → Bool
-larger a b = ahead (b .count) (a .count) (a .start) (b .start)
+abbrev pub largerRecord : AllocRec → AllocRec → Bool
+largerRecord a b = ahead (b .count) (a .count) (a .start) (b .start)
 
 -- r in the place of c where it passes a test, and wins over c or nothing is there
 abbrev pub next : Bool → Bool → Choice → AllocRec → Choice
-next passes wins c r = choose (both passes (choose (c .found) wins true)) (chosen r) c
+next passes wins c r = choose (both passes (choose (c .found) wins true)) (choiceOf r) c
 
 -- the better fit: a record that holds all still wanted, and is smaller
 unfoldable pub fitter : ℕ → Choice → AllocRec → Choice
@@ -114,12 +114,12 @@ fitter want c r = next (leb want (r .count)) (smaller r (c .rec)) c r
 
 -- the larger record
 unfoldable pub bigger : Choice → AllocRec → Choice
-bigger c r = next true (larger r (c .rec)) c r
+bigger c r = next true (largerRecord r (c .rec)) c r
 
 -- the smallest record that holds all still wanted, else the largest; the lowest start on a tie
 unfoldable pub pickedFrom : ℕ → List AllocRec → Choice
 pickedFrom want xs = choose (fold (fitter want) noChoice xs .found) (fold (fitter want) noChoice xs) (fold bigger noChoice xs)
 
 -- `pick`: 34 above 64 records
-unfoldable pub picked : FreeList → ℕ → Choice
-picked l want = choose (ltb 64 (l .len)) (unpicked tooManyRecords) (pickedFrom want (freeOf l))
+unfoldable pub pickAnswer : FreeList → ℕ → Choice
+pickAnswer l want = choose (ltb 64 (l .len)) (unpicked tooManyRecords) (pickedFrom want (freeOf l))

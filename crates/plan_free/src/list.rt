@@ -5,7 +5,7 @@ ghost use Prim.Native.Nat.{_≤_};
 ghost use lib.Seq.{slice};
 ghost use Rattle.seqs.specs.Lists.{pushed, appended};
 ghost use Rattle.seqs.specs.Runs.{valid};
-ghost use Rattle.plan_free.specs.Free.{ofFree, toFree, freeOf, packFree, startOf, countOf};
+ghost use Rattle.plan_free.specs.Free.{ofFree, toFree, freeOf, packFree, allocStart, allocCount};
 use crate::FreeList;
 use btree::AllocRec;
 
@@ -50,7 +50,7 @@ pub(crate) fn append(l: FreeList, src: FreeList, from: usize, to: usize) -> Free
 // Sorted by start, apart, no record empty, no end above 2^32 − 1.
 pub(crate) fn is_valid(l: FreeList) -> bool
     requires { ⌜ l .len ≤ 64 ⌝ }
-    ensures { λ b. ⌜ b ≡ valid startOf countOf 0 (freeOf l) ⌝ }
+    ensures { λ b. ⌜ b ≡ valid allocStart allocCount 0 (freeOf l) ⌝ }
 {
     let n = l.len;
     let mut lo: u64 = 0;

@@ -2,7 +2,7 @@
 ghost use mathlib.Core.Path.{_≡_};
 ghost use Prim.Native.Nat.{_≤_};
 ghost use Rattle.seqs.specs.Lists.{fold};
-ghost use Rattle.plan_free.specs.Free.{freeOf, unpicked, noChoice, ahead, next, fitter, bigger, picked};
+ghost use Rattle.plan_free.specs.Free.{freeOf, unpicked, noChoice, ahead, next, fitter, bigger, pickAnswer};
 use crate::Choice;
 use crate::FreeList;
 use btree::AllocRec;
@@ -117,7 +117,7 @@ fn largest(l: FreeList) -> Choice
 
 // The smallest record that has `want` blocks, else the largest; none of a list of none. 34 above 64 records.
 pub fn pick(l: FreeList, want: u64) -> Choice
-    ensures { λ x. ⌜ x ≡ picked l want ⌝ }
+    ensures { λ x. ⌜ x ≡ pickAnswer l want ⌝ }
 {
     if l.len > 64 {
         return refused(refusals::TOO_MANY_RECORDS);

@@ -3,7 +3,7 @@ ghost use mathlib.Core.Path.{_≡_};
 ghost use Prim.Native.Nat.{_+_, _-_, _≤_, _<_, _^_};
 ghost use lib.ListN.{length, getD};
 ghost use Rattle.seqs.specs.Lists.{firstIndex, appended};
-ghost use Rattle.plan_free.specs.Free.{zeroRec, ofFree, toFree, freeOf, endOf, holdsRun, before, after, cut, refusal, takenAt, taken};
+ghost use Rattle.plan_free.specs.Free.{zeroFreeRec, ofFree, toFree, freeOf, allocEnd, holdsRun, restBefore, restAfter, withoutRun, takeRefused, takenAt, taken};
 use crate::FreeList;
 use crate::Taken;
 use crate::list::append;
@@ -17,7 +17,7 @@ const MAX: u64 = 0xffff_ffff_ffff_ffff;
 
 // The answer of a refusal.
 fn refused(number: u32) -> Taken
-    ensures { λ r. ⌜ r ≡ refusal number ⌝ }
+    ensures { λ r. ⌜ r ≡ takeRefused number ⌝ }
 {
     let list = empty();
     Taken { number, list }
@@ -54,7 +54,7 @@ fn find(l: FreeList, s: u64, e: u64) -> usize
 
 // How many records the run leaves of a record that holds it.
 fn pieces(r: AllocRec, s: u64, e: u64) -> usize
-    ensures { λ n. ⌜ n ≡ length (cut s e r) ⌝ }
+    ensures { λ n. ⌜ n ≡ length (withoutRun s e r) ⌝ }
 {
     let re = seqs::end_of(r.start, r.count);
     if (r.start as u64) < s {
@@ -66,8 +66,8 @@ fn pieces(r: AllocRec, s: u64, e: u64) -> usize
 
 // What a run from s leaves before it, put behind the records of `l`.
 fn put_before(l: FreeList, r: AllocRec, s: u64) -> FreeList
-    requires { ⌜ s ≤ endOf r ⌝ }
-    ensures { λ x. ⌜ x ≡ toFree (appended (ofFree l) (before s r)) ⌝ }
+    requires { ⌜ s ≤ allocEnd r ⌝ }
+    ensures { λ x. ⌜ x ≡ toFree (appended (ofFree l) (restBefore s r)) ⌝ }
 {
     let rs = r.start as u64;
     if rs < s {
@@ -82,8 +82,8 @@ fn put_before(l: FreeList, r: AllocRec, s: u64) -> FreeList
 
 // What a run up to e leaves after it.
 fn put_after(l: FreeList, r: AllocRec, e: u64) -> FreeList
-    requires { ⌜ endOf r < 2 ^ 32 ⌝ }
-    ensures { λ x. ⌜ x ≡ toFree (appended (ofFree l) (after e r)) ⌝ }
+    requires { ⌜ allocEnd r < 2 ^ 32 ⌝ }
+    ensures { λ x. ⌜ x ≡ toFree (appended (ofFree l) (restAfter e r)) ⌝ }
 {
     let re = seqs::end_of(r.start, r.count);
     if e < re {
@@ -98,7 +98,7 @@ fn put_after(l: FreeList, r: AllocRec, e: u64) -> FreeList
 
 // The run taken out of the record at index i, which holds it.
 fn take_at(l: FreeList, i: usize, s: u64, e: u64) -> Taken
-    requires { ⌜ (l .len ≤ 64) × (i < l .len) × (s ≤ endOf (getD (l .recs) i zeroRec)) × (endOf (getD (l .recs) i zeroRec) < 2 ^ 32) ⌝ }
+    requires { ⌜ (l .len ≤ 64) × (i < l .len) × (s ≤ allocEnd (getD (l .recs) i zeroFreeRec)) × (allocEnd (getD (l .recs) i zeroFreeRec) < 2 ^ 32) ⌝ }
     ensures { λ r. ⌜ r ≡ takenAt (freeOf l) i s e ⌝ }
 {
     let n = l.len;

@@ -14,7 +14,7 @@ use Rattle.seqs.specs.Lists.{choose, fold}
 use Rattle.seqs.proofs.Laws.{rest-cons, rest-nil}
 use Rattle.btree.specs.declared.records.AllocRec.{AllocRec}
 use Rattle.geometry.specs.declared.Geometry.{Geometry}
-use Rattle.plan_free.specs.Free.{zeroRec}
+use Rattle.plan_free.specs.Free.{zeroFreeRec}
 use Rattle.plan_holds.specs.declared.HeldList.{HeldList}
 use Rattle.plan_holds.specs.declared.Holds.{Holds}
 use Rattle.plan_holds.specs.declared.Held.{Held}
@@ -23,7 +23,7 @@ use Rattle.plan_holds.specs.Holding.{heldOf, packHeld, isRun, anyRun, st
 
 -- ---- the runs of a packed list
 pub held-packed : (xs : List AllocRec) → heldOf (packHeld xs) ≡ xs
-held-packed xs = take-append-seam xs (replicate (8 - length xs) zeroRec)
+held-packed xs = take-append-seam xs (replicate (8 - length xs) zeroFreeRec)
 
 -- ---- a run put behind the last
 pub added-packed : (xs : List AllocRec) (r : AllocRec) → length xs < 8 → addedIf true (packHeld xs) r ≡ packHeld (xs ++ r ∷ [])
@@ -31,8 +31,8 @@ unfolding addedIf
 added-packed xs r h =
     let n : length (xs ++ r ∷ []) ≡ length xs + 1 = simp length-append in
     let k : 8 - length xs ≡ suc (8 - length (xs ++ r ∷ [])) = omega arith in
-    let e : set (xs ++ replicate (8 - length xs) zeroRec) (length xs) r ≡ (xs ++ r ∷ []) ++ replicate (8 - length (xs ++ r ∷ [])) zeroRec =
-    rw k (set-append-seam xs zeroRec (replicate (8 - length (xs ++ r ∷ [])) zeroRec) r ∙ sym (append-snoc xs r (replicate (8 - length (xs ++ r ∷ [])) zeroRec))) in
+    let e : set (xs ++ replicate (8 - length xs) zeroFreeRec) (length xs) r ≡ (xs ++ r ∷ []) ++ replicate (8 - length (xs ++ r ∷ [])) zeroFreeRec =
+    rw k (set-append-seam xs zeroFreeRec (replicate (8 - length (xs ++ r ∷ [])) zeroFreeRec) r ∙ sym (append-snoc xs r (replicate (8 - length (xs ++ r ∷ [])) zeroFreeRec))) in
     rw (lt-ltb (length xs) 8 h) (cc)
 
 -- not put
@@ -101,17 +101,17 @@ dropped-few h a l =
 
 -- ---- the search for a run
 module _ (a n : ℕ) (xs : List AllocRec) (k i : ℕ) where
-  pub any-step : i < k → k ≤ length xs → isRun a n (getD xs i zeroRec) ≡ false → anyRun a n (slice i k xs) ≡ anyRun a n (slice (i + 1) k xs)
+  pub any-step : i < k → k ≤ length xs → isRun a n (getD xs i zeroFreeRec) ≡ false → anyRun a n (slice i k xs) ≡ anyRun a n (slice (i + 1) k xs)
   unfolding anyRun
-  any-step h l e = rw (rest-cons xs zeroRec k i h l, e)
+  any-step h l e = rw (rest-cons xs zeroFreeRec k i h l, e)
 
-  pub any-found : i < k → k ≤ length xs → isRun a n (getD xs i zeroRec) ≡ true → anyRun a n (slice i k xs) ≡ true
+  pub any-found : i < k → k ≤ length xs → isRun a n (getD xs i zeroFreeRec) ≡ true → anyRun a n (slice i k xs) ≡ true
   unfolding anyRun
-  any-found h l e = rw (rest-cons xs zeroRec k i h l, e)
+  any-found h l e = rw (rest-cons xs zeroFreeRec k i h l, e)
 
   pub any-end : i ≡ k → anyRun a n (slice i k xs) ≡ false
   unfolding anyRun
-  any-end e = rw (rest-nil xs zeroRec k i e)
+  any-end e = rw (rest-nil xs zeroFreeRec k i e)
 
 -- ---- a state holds at most eight runs
 pub state-few : (g : Geometry) (s : Holds) → isState g s ≡ true → s .held .len ≤ 8

@@ -11,7 +11,7 @@ use Rattle.btree.specs.declared.records.AllocRec.{AllocRec}
 use Rattle.geometry.specs.declared.Geometry.{Geometry}
 use Rattle.plan_free.specs.declared.FreeList.{FreeList}
 use Rattle.plan_free.specs.declared.Taken.{Taken}
-use Rattle.plan_free.specs.Free.{zeroRec, packFree, taken}
+use Rattle.plan_free.specs.Free.{zeroFreeRec, packFree, taken}
 use Rattle.plan.specs.declared.Planned.{Planned}
 use Rattle.plan.specs.Plan.{planned}
 use Rattle.plan_same.specs.Same.{eqList, sameAlloc, sameFree}
@@ -27,11 +27,11 @@ heldOf l = take (l .len) (l .recs)
 
 -- a list as a struct: the slots past the count are zero records
 abbrev pub packHeld : List AllocRec → HeldList
-packHeld xs = record { recs = xs ++ replicate (8 - length xs) zeroRec; len = length xs }
+packHeld xs = record { recs = xs ++ replicate (8 - length xs) zeroFreeRec; len = length xs }
 
 -- the run of n blocks from block a
-abbrev pub run : ℕ → ℕ → AllocRec
-run a n = record { start = a; count = n }
+abbrev pub blockRun : ℕ → ℕ → AllocRec
+blockRun a n = record { start = a; count = n }
 
 abbrev pub isRun : ℕ → ℕ → AllocRec → Bool
 isRun a n r = eqb (r .start) a && eqb (r .count) n
@@ -59,31 +59,31 @@ dropRun a rs = side true a rs ++ side false a rs
 
 -- ---- answers
 
-abbrev pub noState : Holds
-noState = record { agno = 0; free = packFree []; held = packHeld [] }
+abbrev pub zeroHolds : Holds
+zeroHolds = record { agno = 0; free = packFree []; held = packHeld [] }
 
 -- a number beside a state of zeros; 0 and the state that a call leaves
-abbrev pub refusal : ℕ → Held
-refusal n = record { number = n; state = noState }
+abbrev pub holdRefused : ℕ → Held
+holdRefused n = record { number = n; state = zeroHolds }
 
-abbrev pub accepted : Holds → Held
-accepted s = record { number = 0; state = s }
+abbrev pub heldAs : Holds → Held
+heldAs s = record { number = 0; state = s }
 
 -- `start`: 31, 29, 25, or the plan's free records and nothing held
 unfoldable pub started : Geometry → ℕ → Held
 started g k =
     choose (eqb (planned g k .number) 0)
-    (accepted (record { agno = k; free = planned g k .plan .free; held = packHeld [] }))
-    (refusal (planned g k .number))
+    (heldAs (record { agno = k; free = planned g k .plan .free; held = packHeld [] }))
+    (holdRefused (planned g k .number))
 
 -- a run taken out of the free records and put to those held: 42 where it is empty or not wholly free, then 34 where eight are held
 unfoldable pub heldWith : Holds → ℕ → ℕ → Held
 heldWith s a n =
     choose (ltb 0 n && eqb (taken (s .free) a n .number) 0)
     (choose (ltb (s .held .len) 8)
-    (accepted (record { agno = s .agno; free = taken (s .free) a n .list; held = packHeld (putRun (run a n) (heldOf (s .held))) }))
-    (refusal tooManyRecords))
-    (refusal notHoldable)
+    (heldAs (record { agno = s .agno; free = taken (s .free) a n .list; held = packHeld (putRun (blockRun a n) (heldOf (s .held))) }))
+    (holdRefused tooManyRecords))
+    (holdRefused notHoldable)
 
 -- ---- the states that calls leave: those that holding their runs, one after the other from the start, gives
 
@@ -109,11 +109,11 @@ isState g s =
 
 -- `hold`: 31, then what holding the run gives
 unfoldable pub holdDef : Geometry → Holds → ℕ → ℕ → Held
-holdDef g s a n = choose (isState g s) (heldWith s a n) (refusal noAnswer)
+holdDef g s a n = choose (isState g s) (heldWith s a n) (holdRefused noAnswer)
 
 -- `release`: 31, then 43 where no run of this start and length is held; else the state in which the others are held
 unfoldable pub releaseDef : Geometry → Holds → ℕ → ℕ → Held
 releaseDef g s a n =
     choose (isState g s)
-    (choose (anyRun a n (heldOf (s .held))) (replayed g (s .agno) (dropRun a (heldOf (s .held)))) (refusal notHeld))
-    (refusal noAnswer)
+    (choose (anyRun a n (heldOf (s .held))) (replayed g (s .agno) (dropRun a (heldOf (s .held)))) (holdRefused notHeld))
+    (holdRefused noAnswer)

@@ -1,7 +1,7 @@
 // States: the first of a group, one with a run more, and those that calls leave.
 ghost use mathlib.Core.Path.{_≡_};
 ghost use Prim.Native.Nat.{_≤_};
-ghost use Rattle.plan_holds.specs.Holding.{heldOf, refusal, started, heldWith, heldNext, replayed, sameState, isState};
+ghost use Rattle.plan_holds.specs.Holding.{heldOf, holdRefused, started, heldWith, heldNext, replayed, sameState, isState};
 use crate::Held;
 use crate::HeldList;
 use crate::Holds;
@@ -16,7 +16,7 @@ use plan_same::same_free;
 
 // A number beside a state of zeros.
 pub(crate) fn refused(number: u32) -> Held
-    ensures { λ r. ⌜ r ≡ refusal number ⌝ }
+    ensures { λ r. ⌜ r ≡ holdRefused number ⌝ }
 {
     let free = plan_free::empty();
     let held = no_runs();

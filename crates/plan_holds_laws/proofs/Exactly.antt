@@ -16,7 +16,7 @@ use Rattle.seqs.proofs.Laws.{choose-elim}
 use Rattle.seqs.proofs.Weights.{additive-has}
 use Rattle.btree.specs.declared.records.AllocRec.{AllocRec}
 use Rattle.geometry.specs.declared.Geometry.{Geometry}
-use Rattle.plan_free.specs.Free.{freeOf, packFree, startOf, countOf}
+use Rattle.plan_free.specs.Free.{freeOf, packFree, allocStart, allocCount}
 use Rattle.plan_extents.specs.Takes.{holding}
 use Rattle.plan.specs.Plan.{planned}
 use Rattle.plan_same.specs.Same.{sameAlloc, sameFree}
@@ -24,7 +24,7 @@ use Rattle.plan_same.proofs.Planners.{Tells, lists, allocs, frees}
 use Rattle.plan_holds.specs.declared.HeldList.{HeldList}
 use Rattle.plan_holds.specs.declared.Holds.{Holds}
 use Rattle.plan_holds.specs.declared.Held.{Held}
-use Rattle.plan_holds.specs.Holding.{heldOf, packHeld, accepted, started, heldNext, replayed, sameHeld, sameState, isState}
+use Rattle.plan_holds.specs.Holding.{heldOf, packHeld, heldAs, started, heldNext, replayed, sameHeld, sameState, isState}
 use Rattle.plan_holds_laws.specs.Calls.{State, planFree}
 use Rattle.plan_holds_laws.proofs.Separated.{separate-same}
 use Rattle.plan_holds_laws.proofs.Kept.{Kept, kept-runs, kept-len, carried, Some, some-step, replay-on}
@@ -86,8 +86,8 @@ module _ (g : Geometry) (l : length (g .label) ≡ 12) where
       record { planned = q; runs = r .runs; kept = r .kept }
 
   -- a sorted list of at most eight runs of plan-free blocks, held from the start
-  pub replay-held : (k : ℕ) → planned g k .number ≡ 0 → (hs : List AllocRec) → valid startOf countOf 0 hs ≡ true → length hs ≤ 8 → ((b : ℕ) → holding b hs ≤ planFree g k b)
-      → (s : Holds) × ((replayed g k hs ≡ accepted s) × Kept g k hs s)
+  pub replay-held : (k : ℕ) → planned g k .number ≡ 0 → (hs : List AllocRec) → valid allocStart allocCount 0 hs ≡ true → length hs ≤ 8 → ((b : ℕ) → holding b hs ≤ planFree g k b)
+      → (s : Holds) × ((replayed g k hs ≡ heldAs s) × Kept g k hs s)
   unfolding replayed
   replay-held k q hs v n w =
       let r = replay-on g k (plan-separate g l k q) hs [] (atFirst g l k q) (first-kept g l k q) v n w in
@@ -112,9 +112,9 @@ module _ (g : Geometry) (l : length (g .label) ≡ 12) where
       let f = y .few in
       let h : (b : ℕ) → holding b (heldOf (s .held)) ≡ holding b hs = λ b. ap (holding b) e in
       record {
-        accepted = p .planned;
+        heldAs = p .planned;
         few = omega arith;
-        sorted = ap (valid startOf countOf 0) e ∙ y .sorted;
+        sorted = ap (valid allocStart allocCount 0) e ∙ y .sorted;
         inside = λ b. let u = y .weighs (has b) (additive-has b) in let i = h b in omega arith;
         free = record { separate = y .separate; covers = λ b. let u = y .weighs (has b) (additive-has b) in let i = h b in omega arith };
         held-slots = y .held ∙ ap packHeld (sym e);

@@ -19,17 +19,17 @@ use Rattle.plan_free.specs.declared.FreeList.{FreeList}
 use Rattle.plan_free.specs.Free.{freeOf, packFree}
 use Rattle.plan_free.proofs.Uses.{weighFree, free-packed}
 use Rattle.plan_site.specs.declared.Site.{Site}
-use Rattle.plan_site.specs.Sites.{siteOf, Sound}
+use Rattle.plan_site.specs.Sites.{siteOf, SoundSite}
 use Rattle.plan_site.proofs.Sites.{site-sound}
 use Rattle.plan.specs.declared.AgPlan.{AgPlan}
 use Rattle.plan.specs.declared.Planned.{Planned}
 use Rattle.plan.specs.Plan.{planned}
 use Rattle.plan_same.proofs.Planners.{planned-there}
-use Rattle.plan_closed.specs.Closed.{isFirst, listAt, closedFree, short, closedAgPlan, closedPlan}
+use Rattle.plan_closed.specs.Closed.{hasRootChunk, listAt, closedFree, listShort, closedAgPlan, closedPlan}
 use Rattle.plan_closed.proofs.Planning.{closed-plan}
 use Rattle.plan_holds.specs.declared.Holds.{Holds}
 use Rattle.plan_holds.specs.declared.Held.{Held}
-use Rattle.plan_holds.specs.Holding.{packHeld, accepted, started}
+use Rattle.plan_holds.specs.Holding.{packHeld, heldAs, started}
 use Rattle.plan_holds_laws.specs.Calls.{Separate, firstOf}
 use Rattle.plan_holds_laws.proofs.Kept.{Kept}
 
@@ -52,19 +52,19 @@ gaps-few-at a b c d h k m true false e f = let u : a < b = ltb-true _ _ e in rec
 gaps-few-at a b c d h k m false true e f = let v : c < d = ltb-true _ _ f in record { separate = (omega arith, omega arith, omega arith, tt); count = omega arith }
 gaps-few-at a b c d h k m false false e f = record { separate = tt; count = omega arith }
 
-closed-few : (s : Site) → Sound s → Few (closedFree s)
+closed-few : (s : Site) → SoundSite s → Few (closedFree s)
 unfolding closedFree
 closed-few s ok =
     let l = ok .length-most in
     let c = ok .chunk-ends in
     let d = ok .chunk-least in
-    choose-elim Few (isFirst s) _ _
+    choose-elim Few (hasRootChunk s) _ _
     (λ t. gaps-few-at (s .head + s .need) (s .«chunk_at») (s .«chunk_at» + s .«chunk_blocks») (s .length) (omega arith) (omega arith) (omega arith) _ _ refl refl)
     (λ t. gap-few-at (listAt s + s .need) (s .length) (omega arith) _ refl)
 
 closed-is : (s : Site) → closedPlan s .number ≡ 0 → closedPlan s .plan ≡ closedAgPlan s
 unfolding closedPlan
-closed-is s = choose-elim (λ (p : Planned). p .number ≡ 0 → p .plan ≡ closedAgPlan s) (short s) _ _ (λ t e. absurd (omega arith)) (λ t e. refl)
+closed-is s = choose-elim (λ (p : Planned). p .number ≡ 0 → p .plan ≡ closedAgPlan s) (listShort s) _ _ (λ t e. absurd (omega arith)) (λ t e. refl)
 
 module _ (g : Geometry) (l : length (g .label) ≡ 12) (k : ℕ) (q : planned g k .number ≡ 0) where
   pub plan-free : planned g k .plan .free ≡ packFree (closedFree (siteOf g k))
@@ -86,7 +86,7 @@ module _ (g : Geometry) (l : length (g .label) ≡ 12) (k : ℕ) (q : planned g 
   abbrev pub atFirst : Holds
   atFirst = record { agno = k; free = planned g k .plan .free; held = packHeld [] }
 
-  pub started-is : started g k ≡ accepted atFirst
+  pub started-is : started g k ≡ heldAs atFirst
   unfolding started
   started-is = rw (eq-eqb _ 0 q)
 

@@ -19,23 +19,23 @@ use Rattle.btree.specs.declared.records.AllocRec.{AllocRec}
 use Rattle.geometry.specs.declared.Geometry.{Geometry}
 use Rattle.plan_free.specs.declared.FreeList.{FreeList}
 use Rattle.plan_free.specs.declared.Taken.{Taken}
-use Rattle.plan_free.specs.Free.{freeOf, packFree, startOf, countOf, taken}
+use Rattle.plan_free.specs.Free.{freeOf, packFree, allocStart, allocCount, taken}
 use Rattle.plan_free.proofs.Laws.{taken-ends}
 use Rattle.plan_free.proofs.Uses.{weighFree, taken-weighs}
-use Rattle.plan_extents.specs.Takes.{holding, NoneHolds, Answers, long, unsorted, unheld, split, done}
+use Rattle.plan_extents.specs.Takes.{holding, NoneHolds, TakeAnswers, long, unsorted, unheld, split, done}
 use Rattle.plan_extents.proofs.Take.{take-answers}
 use Rattle.plan.specs.Plan.{planned}
 use Rattle.plan_holds.specs.declared.HeldList.{HeldList}
 use Rattle.plan_holds.specs.declared.Holds.{Holds}
 use Rattle.plan_holds.specs.declared.Held.{Held}
-use Rattle.plan_holds.specs.Holding.{heldOf, packHeld, run, putRun, refusal, accepted, heldWith, heldNext}
+use Rattle.plan_holds.specs.Holding.{heldOf, packHeld, blockRun, putRun, holdRefused, heldAs, heldWith, heldNext}
 use Rattle.plan_holds.proofs.Laws.{held-packed}
 use Rattle.plan_holds_laws.specs.Calls.{Separate, planFree}
 use Rattle.plan_holds_laws.proofs.Separated.{sep-valid, in-first, separate-same, one-holds, taken-separate, taken-length, taken-slots}
 use Rattle.plan_holds_laws.proofs.Inserted.{Ins, PutOk, ins-weighs, ins-length, put-ok, put-last}
 
 -- ---- `take` where the blocks are free
-free-taken : (l : FreeList) (a n : ℕ) (t : Taken) → l .len ≤ 64 → valid startOf countOf 0 (freeOf l) ≡ true → length (freeOf l) < 64 → (NoneHolds (freeOf l) a (a + n) → ⊥) → Answers l a n t → t .number ≡ 0
+free-taken : (l : FreeList) (a n : ℕ) (t : Taken) → l .len ≤ 64 → valid allocStart allocCount 0 (freeOf l) ≡ true → length (freeOf l) < 64 → (NoneHolds (freeOf l) a (a + n) → ⊥) → TakeAnswers l a n t → t .number ≡ 0
 free-taken l a n t few v k some (long x e) = absurd (omega arith)
 free-taken l a n t few v k some (unsorted x w e) = never (sym w ∙ v)
 free-taken l a n t few v k some (unheld x w h e) = absurd (some h)
@@ -49,13 +49,13 @@ pub record Holdable (s : Holds) (a n : ℕ) : Type 0 where
   pub few : s .held .len < 8
 
 abbrev pub withRun : Holds → ℕ → ℕ → Holds
-withRun s a n = record { agno = s .agno; free = taken (s .free) a n .list; held = packHeld (putRun (run a n) (heldOf (s .held))) }
+withRun s a n = record { agno = s .agno; free = taken (s .free) a n .list; held = packHeld (putRun (blockRun a n) (heldOf (s .held))) }
 
-pub held-with : (s : Holds) (a n : ℕ) → Holdable s a n → heldWith s a n ≡ accepted (withRun s a n)
+pub held-with : (s : Holds) (a n : ℕ) → Holdable s a n → heldWith s a n ≡ heldAs (withRun s a n)
 unfolding heldWith
 held-with s a n h = rw (lt-ltb 0 n (h .some), eq-eqb _ 0 (h .free), lt-ltb _ 8 (h .few))
 
-holdable-at : (x y : Bool) (t : Held) → t .number ≡ 0 → choose x (choose y t (refusal 34)) (refusal 42) .number ≡ 0 → (x ≡ true) × (y ≡ true)
+holdable-at : (x y : Bool) (t : Held) → t .number ≡ 0 → choose x (choose y t (holdRefused 34)) (holdRefused 42) .number ≡ 0 → (x ≡ true) × (y ≡ true)
 holdable-at true true t e f = (refl, refl)
 holdable-at true false t e f = absurd (omega arith)
 holdable-at false y t e f = absurd (omega arith)
@@ -63,7 +63,7 @@ holdable-at false y t e f = absurd (omega arith)
 pub holdable : (s : Holds) (a n : ℕ) → heldWith s a n .number ≡ 0 → Holdable s a n
 unfolding heldWith
 holdable s a n e =
-    let u = holdable-at (ltb 0 n && eqb (taken (s .free) a n .number) 0) (ltb (s .held .len) 8) (accepted (withRun s a n)) refl e in
+    let u = holdable-at (ltb 0 n && eqb (taken (s .free) a n .number) 0) (ltb (s .held .len) 8) (heldAs (withRun s a n)) refl e in
     record {
       some = ltb-true 0 n (left-true _ _ (u .0));
       free = eqb-true _ 0 (right-true (ltb 0 n) _ (u .0));
@@ -74,7 +74,7 @@ holdable s a n e =
 pub record Kept (g : Geometry) (k : ℕ) (hs : List AllocRec) (s : Holds) : Type 0 where
   pub group : s .agno ≡ k
   pub held : s .held ≡ packHeld hs
-  pub sorted : valid startOf countOf 0 hs ≡ true
+  pub sorted : valid allocStart allocCount 0 hs ≡ true
   pub few : length hs ≤ 8
   pub separate : Separate 0 (freeOf (s .free))
   pub slots : s .free ≡ packFree (freeOf (s .free))
@@ -92,7 +92,7 @@ module _ (g : Geometry) (k : ℕ) (first : Separate 0 (freeOf (planned g k .plan
   pub free-apart : (hs : List AllocRec) (s : Holds) → Kept g k hs s → (b : ℕ) → 0 < holding b (freeOf (s .free)) → holding b hs ≡ 0
   free-apart hs s p b h =
       let w = p .weighs (has b) (additive-has b) in
-      let o = valid-once startOf countOf 0 (freeOf (planned g k .plan .free)) b (sep-valid 0 (freeOf (planned g k .plan .free)) first) .once in
+      let o = valid-once allocStart allocCount 0 (freeOf (planned g k .plan .free)) b (sep-valid 0 (freeOf (planned g k .plan .free)) first) .once in
       omega arith
 
   pub taken-had : (s : Holds) (a n : ℕ) → taken (s .free) a n .number ≡ 0 → (b : ℕ) → a ≤ b → b < a + n → 0 < holding b (freeOf (s .free))
@@ -101,33 +101,33 @@ module _ (g : Geometry) (k : ℕ) (first : Separate 0 (freeOf (planned g k .plan
       let o = inside-in a (a + n) b i j in
       omega arith
 
-  step-put : (hs : List AllocRec) (s : Holds) → Kept g k hs s → (a n : ℕ) → Holdable s a n → PutOk 0 (run a n) hs (putRun (run a n) hs)
+  step-put : (hs : List AllocRec) (s : Holds) → Kept g k hs s → (a n : ℕ) → Holdable s a n → PutOk 0 (blockRun a n) hs (putRun (blockRun a n) hs)
   step-put hs s p a n h =
-      put-ok (run a n) (h .some) (taken-ends (s .free) a n (h .free)) 0 hs (p .sorted) (omega arith)
+      put-ok (blockRun a n) (h .some) (taken-ends (s .free) a n (h .free)) 0 hs (p .sorted) (omega arith)
       (λ b i j. free-apart hs s p b (taken-had s a n (h .free) b i j))
 
-  pub step-ins : (hs : List AllocRec) (s : Holds) → Kept g k hs s → (a n : ℕ) → Holdable s a n → Ins (run a n) hs (putRun (run a n) hs)
+  pub step-ins : (hs : List AllocRec) (s : Holds) → Kept g k hs s → (a n : ℕ) → Holdable s a n → Ins (blockRun a n) hs (putRun (blockRun a n) hs)
   step-ins hs s p a n h = step-put hs s p a n h .ins
 
   -- a run more is kept
-  pub step-kept : (hs : List AllocRec) (s : Holds) → Kept g k hs s → (a n : ℕ) → Holdable s a n → Kept g k (putRun (run a n) hs) (withRun s a n)
+  pub step-kept : (hs : List AllocRec) (s : Holds) → Kept g k hs s → (a n : ℕ) → Holdable s a n → Kept g k (putRun (blockRun a n) hs) (withRun s a n)
   step-kept hs s p a n h =
       let q = h .free in
       let y = step-put hs s p a n h in
-      let m = ins-length (run a n) hs (putRun (run a n) hs) (y .ins) in
+      let m = ins-length (blockRun a n) hs (putRun (blockRun a n) hs) (y .ins) in
       let e = kept-len g k hs s p in
       let f = h .few in
       let c = p .count in
       let t = taken-length (s .free) a n (h .some) q in
       record {
         group = p .group;
-        held = ap (λ (rs : List AllocRec). packHeld (putRun (run a n) rs)) (kept-runs g k hs s p);
+        held = ap (λ (rs : List AllocRec). packHeld (putRun (blockRun a n) rs)) (kept-runs g k hs s p);
         sorted = y .sorted;
         few = omega arith;
         separate = taken-separate (s .free) a n (h .some) q (p .separate);
         slots = taken-slots (s .free) a n (h .some) q;
         count = omega arith;
-        weighs = λ w add. let u = p .weighs w add in let v = taken-weighs w add (s .free) a n q in let x = ins-weighs w (run a n) hs (putRun (run a n) hs) (y .ins) in omega arith;
+        weighs = λ w add. let u = p .weighs w add in let v = taken-weighs w add (s .free) a n q in let x = ins-weighs w (blockRun a n) hs (putRun (blockRun a n) hs) (y .ins) in omega arith;
       }
 
   -- a run whose blocks are all free can be taken, and held while fewer than eight are
@@ -160,17 +160,17 @@ module _ (g : Geometry) (k : ℕ) (first : Separate 0 (freeOf (planned g k .plan
   pub some-step : (s : Holds) (a n : ℕ) → Some s → heldWith s a n .number ≡ 0 → Some (heldWith s a n .state)
   some-step s a n p e =
       let h = holdable s a n e in
-      rw (held-with s a n h) (record { runs = putRun (run a n) (p .runs); kept = step-kept (p .runs) s (p .kept) a n h })
+      rw (held-with s a n h) (record { runs = putRun (blockRun a n) (p .runs); kept = step-kept (p .runs) s (p .kept) a n h })
 
   -- the next of a sorted list of at most eight runs of plan-free blocks can be held, and stands behind those before it
-  module _ (xs : List AllocRec) (y : AllocRec) (ys : List AllocRec) (s : Holds) (p : Kept g k xs s) (v : valid startOf countOf 0 (xs ++ y ∷ ys) ≡ true) where
+  module _ (xs : List AllocRec) (y : AllocRec) (ys : List AllocRec) (s : Holds) (p : Kept g k xs s) (v : valid allocStart allocCount 0 (xs ++ y ∷ ys) ≡ true) where
     pub next-holdable : length (xs ++ y ∷ ys) ≤ 8 → ((b : ℕ) → holding b (xs ++ y ∷ ys) ≤ planFree g k b) → Holdable s (y .start) (y .count)
     next-holdable l w =
-        let f = valid-uncons startOf countOf (ended startOf countOf 0 xs) y ys (valid-unjoin startOf countOf 0 xs (y ∷ ys) v .1) .0 in
+        let f = valid-uncons allocStart allocCount (ended allocStart allocCount 0 xs) y ys (valid-unjoin allocStart allocCount 0 xs (y ∷ ys) v .1) .0 in
         let n : length (xs ++ y ∷ ys) ≡ length xs + suc (length ys) = simp length-append in
         can-hold xs s p (y .start) (y .count) (f .some) (omega arith)
         (λ b i j. let x = w b in
-        let a = weigh-append startOf countOf (has b) xs (y ∷ ys) in
+        let a = weigh-append allocStart allocCount (has b) xs (y ∷ ys) in
         let c = in-first b y ys i j in
         let q = p .weighs (has b) (additive-has b) in
         omega arith)
@@ -181,10 +181,10 @@ module _ (g : Geometry) (k : ℕ) (first : Separate 0 (freeOf (planned g k .plan
   -- so the list can be held, run by run
   pub record Replayed (s : Holds) (rs ks : List AllocRec) : Type 0 where
     pub left : Holds
-    pub same : fold heldNext (accepted s) rs ≡ accepted left
+    pub same : fold heldNext (heldAs s) rs ≡ heldAs left
     pub kept : Kept g k ks left
 
-  pub replay-on : (ys xs : List AllocRec) (s : Holds) → Kept g k xs s → valid startOf countOf 0 (xs ++ ys) ≡ true → length (xs ++ ys) ≤ 8 → ((b : ℕ) → holding b (xs ++ ys) ≤ planFree g k b)
+  pub replay-on : (ys xs : List AllocRec) (s : Holds) → Kept g k xs s → valid allocStart allocCount 0 (xs ++ ys) ≡ true → length (xs ++ ys) ≤ 8 → ((b : ℕ) → holding b (xs ++ ys) ≤ planFree g k b)
       → Replayed s ys (xs ++ ys)
   unfolding fold heldNext
   replay-on [] xs s p v l w = record { left = s; same = refl; kept = rw append-nil p }

@@ -19,7 +19,7 @@ use Rattle.plan_free.specs.Free.{taken}
 use Rattle.plan.specs.Plan.{planned}
 use Rattle.plan_holds.specs.declared.Holds.{Holds}
 use Rattle.plan_holds.specs.declared.Held.{Held}
-use Rattle.plan_holds.specs.Holding.{heldOf, isRun, anyRun, dropRun, refusal, accepted, heldWith, replayed, isState, holdDef, releaseDef}
+use Rattle.plan_holds.specs.Holding.{heldOf, isRun, anyRun, dropRun, holdRefused, heldAs, heldWith, replayed, isState, holdDef, releaseDef}
 use Rattle.plan_holds_laws.specs.Calls.{times, Reached, WhollyFree, HoldNumbers, ReleaseNumbers}
 use Rattle.plan_holds_laws.proofs.Kept.{Kept, withRun, kept-len, kept-runs, can-take, taken-had}
 use Rattle.plan_holds_laws.proofs.First.{plan-separate}
@@ -27,7 +27,7 @@ use Rattle.plan_holds_laws.proofs.Exactly.{passed-keeps}
 use Rattle.plan_holds_laws.proofs.Left.{hold-is, release-is, gives-back, passed-reached, reached-passed}
 
 -- ---- the numbers of a choice
-held-number : (x y : Bool) (t : Held) → t .number ≡ 0 → choose x (choose y t (refusal 34)) (refusal 42) .number ≡ choose x (choose y 0 34) 42
+held-number : (x y : Bool) (t : Held) → t .number ≡ 0 → choose x (choose y t (holdRefused 34)) (holdRefused 42) .number ≡ choose x (choose y 0 34) 42
 held-number true true t e = e
 held-number true false t e = refl
 held-number false y t e = refl
@@ -73,7 +73,7 @@ module _ (g : Geometry) (l : length (g .label) ≡ 12) (s : Holds) (a n : ℕ) w
       let e = kept-len g k hs s p in
       let f = p .few in
       cases-at (holdDef g s a n .number) (s .held .len) (WhollyFree s a n) (ltb 0 n && eqb (taken (s .free) a n .number) 0) (ltb (s .held .len) 8)
-      (ap (λ (t : Held). t .number) (hold-is g l k q hs s p a n) ∙ held-number (ltb 0 n && eqb (taken (s .free) a n .number) 0) (ltb (s .held .len) 8) (accepted (withRun s a n)) refl)
+      (ap (λ (t : Held). t .number) (hold-is g l k q hs s p a n) ∙ held-number (ltb 0 n && eqb (taken (s .free) a n .number) 0) (ltb (s .held .len) 8) (heldAs (withRun s a n)) refl)
       (λ t. record { some = ltb-true 0 n (left-true _ _ t); free = taken-had g k d s a n (eqb-true _ 0 (right-true (ltb 0 n) _ t)) })
       (λ w. both-true (ltb 0 n) (eqb (taken (s .free) a n .number) 0) (lt-ltb 0 n (w .some)) (eq-eqb _ 0 (can-take g k d hs s p a n (w .some) (w .free))))
       refl
@@ -136,8 +136,8 @@ module _ (g : Geometry) (l : length (g .label) ≡ 12) (s : Holds) (a n : ℕ) w
       let i = any-times a n hs in
       let z = release-is g l k q hs s p a n in
       given-at (releaseDef g s a n .number) (times a n hs) (anyRun a n hs)
-      (λ t. ap (λ (h : Held). h .number) (z ∙ ap (λ (x : Bool). choose x (replayed g k (dropRun a hs)) (refusal 43)) t ∙ gives-back g l k q hs s p a n t .1 .0))
-      (λ t. ap (λ (h : Held). h .number) (z ∙ ap (λ (x : Bool). choose x (replayed g k (dropRun a hs)) (refusal 43)) t))
+      (λ t. ap (λ (h : Held). h .number) (z ∙ ap (λ (x : Bool). choose x (replayed g k (dropRun a hs)) (holdRefused 43)) t ∙ gives-back g l k q hs s p a n t .1 .0))
+      (λ t. ap (λ (h : Held). h .number) (z ∙ ap (λ (x : Bool). choose x (replayed g k (dropRun a hs)) (holdRefused 43)) t))
       (i .0)
       (i .1)
 

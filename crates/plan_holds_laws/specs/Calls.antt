@@ -11,7 +11,7 @@ use Rattle.seqs.specs.Lists.{choose, fold, total}
 use Rattle.seqs.specs.Runs.{valid}
 use Rattle.btree.specs.declared.records.AllocRec.{AllocRec}
 use Rattle.geometry.specs.declared.Geometry.{Geometry}
-use Rattle.plan_free.specs.Free.{freeOf, packFree, startOf, countOf, endOf}
+use Rattle.plan_free.specs.Free.{freeOf, packFree, allocStart, allocCount, allocEnd}
 use Rattle.plan_extents.specs.Takes.{holding}
 use Rattle.plan.specs.Plan.{planned}
 use Rattle.plan_totals.specs.Totals.{freeblksOf, freeOfPlan}
@@ -26,17 +26,17 @@ pub data Call : Type 0 where
   hold : ℕ → ℕ → Call
   release : ℕ → ℕ → Call
 
-abbrev pub answerOf : Geometry → Holds → Call → Held
-answerOf g s (hold a n) = holdDef g s a n
-answerOf g s (release a n) = releaseDef g s a n
+abbrev pub answerTo : Geometry → Holds → Call → Held
+answerTo g s (hold a n) = holdDef g s a n
+answerTo g s (release a n) = releaseDef g s a n
 
 -- the state after a call: a refused one leaves it as it is
-unfoldable pub stepped : Geometry → Holds → Call → Holds
-stepped g s c = choose (eqb (answerOf g s c .number) 0) (answerOf g s c .state) s
+unfoldable pub stateStepped : Geometry → Holds → Call → Holds
+stateStepped g s c = choose (eqb (answerTo g s c .number) 0) (answerTo g s c .state) s
 
 -- the state after calls, one after the other
-unfoldable pub after : Geometry → Holds → List Call → Holds
-after g s cs = fold (stepped g) s cs
+unfoldable pub afterCalls : Geometry → Holds → List Call → Holds
+afterCalls g s cs = fold (stateStepped g) s cs
 
 -- the first state of group k
 abbrev pub firstOf : Geometry → ℕ → Holds
@@ -53,7 +53,7 @@ releasesIt a n (release b m) = eqb b a && eqb m n
 
 unfoldable pub timesCalled : (Call → Bool) → Geometry → Holds → List Call → ℕ
 timesCalled p g s [] = 0
-timesCalled p g s (c ∷ cs) = choose (p c && eqb (answerOf g s c .number) 0) 1 0 + timesCalled p g (stepped g s c) cs
+timesCalled p g s (c ∷ cs) = choose (p c && eqb (answerTo g s c .number) 0) 1 0 + timesCalled p g (stateStepped g s c) cs
 
 abbrev pub timesHeld : Geometry → ℕ → List Call → ℕ → ℕ → ℕ
 timesHeld g k cs a n = timesCalled (holdsIt a n) g (firstOf g k) cs
@@ -70,7 +70,7 @@ times a n rs = total (λ r. choose (isRun a n r) 1 0) rs
 -- sorted by start, none empty, no end above 2^32 − 1, and a block at least between any two, from block lo on
 abbrev pub Separate : ℕ → List AllocRec → Type 0
 Separate lo [] = Unit {0}
-Separate lo (r ∷ rs) = (lo ≤ r .start) × (0 < r .count) × (endOf r < 2 ^ 32) × Separate (endOf r + 1) rs
+Separate lo (r ∷ rs) = (lo ≤ r .start) × (0 < r .count) × (allocEnd r < 2 ^ 32) × Separate (allocEnd r + 1) rs
 
 -- the maximal runs of some blocks, sorted: block b is one of them where `has b` is 1
 pub record Maximal (has : ℕ → ℕ) (rs : List AllocRec) : Type 0 where
@@ -88,7 +88,7 @@ planFree g k b = holding b (freeOf (planned g k .plan .free))
 pub record State (g : Geometry) (s : Holds) : Type 0 where
   pub accepted : planned g (s .agno) .number ≡ 0
   pub few : s .held .len ≤ 8
-  pub sorted : valid startOf countOf 0 (heldOf (s .held)) ≡ true
+  pub sorted : valid allocStart allocCount 0 (heldOf (s .held)) ≡ true
   pub inside : (b : ℕ) → holding b (heldOf (s .held)) ≤ planFree g (s .agno) b
   pub free : Maximal (λ b. planFree g (s .agno) b - holding b (heldOf (s .held))) (freeOf (s .free))
   pub held-slots : s .held ≡ packHeld (heldOf (s .held))
@@ -98,10 +98,10 @@ pub record State (g : Geometry) (s : Holds) : Type 0 where
 pub record Reached (g : Geometry) (s : Holds) : Type 0 where
   pub accepted : planned g (s .agno) .number ≡ 0
   pub calls : List Call
-  pub left : after g (firstOf g (s .agno)) calls ≡ s
+  pub left : afterCalls g (firstOf g (s .agno)) calls ≡ s
 
 -- what calls cs from the start of group k leave
-pub record Left (g : Geometry) (k : ℕ) (cs : List Call) (s : Holds) : Type 0 where
+pub record CallsLeft (g : Geometry) (k : ℕ) (cs : List Call) (s : Holds) : Type 0 where
   pub group : s .agno ≡ k
   pub state : State g s
   -- the runs held and not given back
@@ -109,7 +109,7 @@ pub record Left (g : Geometry) (k : ℕ) (cs : List Call) (s : Holds) : Type 0 w
   -- head, log, free list and chunk are never held
   pub unused : (b : ℕ) → 0 < holding b (heldOf (s .held)) → usedOf g k b ≡ 0
   -- free, held and free-list blocks stay what free and free list are in the plan
-  pub stays : freeblksOf (s .free) + total countOf (heldOf (s .held)) + planned g k .plan .agfl .len ≡ freeOfPlan (planned g k .plan)
+  pub stays : freeblksOf (s .free) + total allocCount (heldOf (s .held)) + planned g k .plan .agfl .len ≡ freeOfPlan (planned g k .plan)
 
 -- ---- numbers
 

@@ -17,7 +17,7 @@ use Rattle.plan_totals.specs.declared.Total.{Total}
 use Rattle.plan_totals.specs.Totals.{plansNumber, freeOfPlan, freeCount, rowOf, totalOf, constCount, closedTotal}
 use Rattle.plan_totals.proofs.Whole.{all-planned, count-const, total-closed}
 use Rattle.plan_summary.proofs.Laws.{few-groups, each-fits}
-use Rattle.plan_orders.specs.Orders.{rising, falling, evenThenOdd, Order, addedBy, freeBy, totalBy, Fits, AddsUp}
+use Rattle.plan_orders.specs.Orders.{risingGroups, fallingGroups, evenThenOdd, Order, addedBy, freeBy, totalBy, SumsFit, AddsUp}
 use Rattle.plan_orders.proofs.Sums.{in-order, first-fewer}
 use Rattle.plan_orders.proofs.Orders.{rising-once, falling-once, even-odd-once}
 
@@ -62,7 +62,7 @@ module _ (g : Geometry) (l : length (g .label) ≡ 12) (e : plansNumber g ≡ 0)
   unfolding constCount
   count-fits = let c = count-const g l here (all-planned g l e .1) in let d = blocks-fit in omega arith
 
-  closed-fits : Fits (closedTotal g)
+  closed-fits : SumsFit (closedTotal g)
   unfolding closedTotal constCount siteOf
   closed-fits =
       let s = site-sound g 0 l here in
@@ -73,14 +73,14 @@ module _ (g : Geometry) (l : length (g .label) ≡ 12) (e : plansNumber g ≡ 0)
       let c = each-fits (g .agcount) (siteOf g 0 .need) (few-groups g l here) (omega arith) in
       record { length = d; log = omega arith; list = c; chunk = omega arith; free = omega arith }
 
-  total-fits : Fits (totalOf g)
+  total-fits : SumsFit (totalOf g)
   total-fits = rw (total-closed g l here (all-planned g l e .1)) closed-fits
 
   module _ (ks : List ℕ) (once : Order (g .agcount) ks) where
     fits-before : (f : ℕ → ℕ) (j : ℕ) → addedBy f ks < 2 ^ 64 → addedBy f (take j ks) < 2 ^ 64
     fits-before f j h = let w = first-fewer f j ks in omega arith
 
-    all-fit : Fits (totalBy g ks)
+    all-fit : SumsFit (totalBy g ks)
     all-fit = rw (total-in-order g ks once) total-fits
 
     -- ADDED IN ANY ORDER IN WHICH EACH GROUP IS TAKEN ONCE: the disk's free count, the table's last line, and no sum passes 64 bits
@@ -103,11 +103,11 @@ module _ (g : Geometry) (l : length (g .label) ≡ 12) (e : plansNumber g ≡ 0)
 
   -- ---- three orders
 
-  pub adds-rising : AddsUp g (rising (g .agcount))
-  adds-rising = any-order (rising (g .agcount)) (rising-once (g .agcount))
+  pub adds-rising : AddsUp g (risingGroups (g .agcount))
+  adds-rising = any-order (risingGroups (g .agcount)) (rising-once (g .agcount))
 
-  pub adds-falling : AddsUp g (falling (g .agcount))
-  adds-falling = any-order (falling (g .agcount)) (falling-once (g .agcount))
+  pub adds-falling : AddsUp g (fallingGroups (g .agcount))
+  adds-falling = any-order (fallingGroups (g .agcount)) (falling-once (g .agcount))
 
   pub adds-even-odd : AddsUp g (evenThenOdd (g .agcount))
   adds-even-odd = any-order (evenThenOdd (g .agcount)) (even-odd-once (g .agcount))

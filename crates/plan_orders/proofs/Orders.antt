@@ -7,10 +7,10 @@ use Prim.Native.Nat.{ℕ, zero, suc, _+_}
 use native.Mathlib.Omega.{arith}
 use lib.ListN.{length, take}
 use Rattle.seqs.specs.Lists.{choose, upFrom}
-use Rattle.plan_orders.specs.Orders.{rising, falling, picked, isEven, evenThenOdd, Order}
+use Rattle.plan_orders.specs.Orders.{risingGroups, fallingGroups, groupsPassing, isEven, evenThenOdd, Order}
 
-pub rising-once : (n : ℕ) → Order n (rising n)
-rising-once n = Perm·refl (rising n)
+pub rising-once : (n : ℕ) → Order n (risingGroups n)
+rising-once n = Perm·refl (risingGroups n)
 
 -- ---- falling
 
@@ -22,21 +22,21 @@ up-more a (suc n) =
     let e : a + suc n ≡ a + 1 + n = omega arith in
     ap (λ (x : ℕ). a ∷ (upFrom (a + 1) n ++ (x ∷ []))) e ∙ ap (λ (ks : List ℕ). a ∷ ks) (up-more (a + 1) n)
 
-rising-more : (n : ℕ) → rising n ++ (n ∷ []) ≡ rising (suc n)
-rising-more n = let e : n ≡ 0 + n = omega arith in ap (λ (x : ℕ). rising n ++ (x ∷ [])) e ∙ up-more 0 n
+rising-more : (n : ℕ) → risingGroups n ++ (n ∷ []) ≡ risingGroups (suc n)
+rising-more n = let e : n ≡ 0 + n = omega arith in ap (λ (x : ℕ). risingGroups n ++ (x ∷ [])) e ∙ up-more 0 n
 
 no-groups : Order 0 []
 unfolding upFrom
 no-groups = Perm·refl []
 
-pub falling-once : (n : ℕ) → Order n (falling n)
-unfolding falling
+pub falling-once : (n : ℕ) → Order n (fallingGroups n)
+unfolding fallingGroups
 falling-once zero = no-groups
-falling-once (suc n) = rw (← rising-more n) (Perm·trans (Perm·cons n (falling-once n)) (Perm·symm (perm-append-singleton n (rising n))))
+falling-once (suc n) = rw (← rising-more n) (Perm·trans (Perm·cons n (falling-once n)) (Perm·symm (perm-append-singleton n (risingGroups n))))
 
 -- all of them
-pub falling-length : (n : ℕ) → length (falling n) ≡ n
-unfolding falling
+pub falling-length : (n : ℕ) → length (fallingGroups n) ≡ n
+unfolding fallingGroups
 falling-length zero = refl
 falling-length (suc n) = ap suc (falling-length n)
 
@@ -44,8 +44,8 @@ take-all : (ks : List ℕ) → take (length ks) ks ≡ ks
 take-all [] = refl
 take-all (k ∷ ks) = ap (λ (x : List ℕ). k ∷ x) (take-all ks)
 
-pub falling-whole : (n : ℕ) → take n (falling n) ≡ falling n
-falling-whole n = ap (λ (m : ℕ). take m (falling n)) (sym (falling-length n)) ∙ take-all (falling n)
+pub falling-whole : (n : ℕ) → take n (fallingGroups n) ≡ fallingGroups n
+falling-whole n = ap (λ (m : ℕ). take m (fallingGroups n)) (sym (falling-length n)) ∙ take-all (fallingGroups n)
 
 -- ---- even and odd
 
@@ -54,20 +54,20 @@ parted-at : (t : Bool) (k : ℕ) (xs ys ks : List ℕ) → Perm (xs ++ ys) ks �
 parted-at true k xs ys ks p = Perm·cons k p
 parted-at false k xs ys ks p = Perm·trans (perm-middle {a = k} xs ys) (Perm·cons k p)
 
-parted : (p : ℕ → Bool) (ks : List ℕ) → Perm (picked p ks ++ picked (λ k. not (p k)) ks) ks
-unfolding picked
+parted : (p : ℕ → Bool) (ks : List ℕ) → Perm (groupsPassing p ks ++ groupsPassing (λ k. not (p k)) ks) ks
+unfolding groupsPassing
 parted p [] = Perm·refl []
-parted p (k ∷ ks) = parted-at (p k) k (picked p ks) (picked (λ k. not (p k)) ks) ks (parted p ks)
+parted p (k ∷ ks) = parted-at (p k) k (groupsPassing p ks) (groupsPassing (λ k. not (p k)) ks) ks (parted p ks)
 
 pub even-odd-once : (n : ℕ) → Order n (evenThenOdd n)
-even-odd-once n = parted isEven (rising n)
+even-odd-once n = parted isEven (risingGroups n)
 
 -- ---- five groups
 
-pub falling-five : falling 5 ≡ 4 ∷ 3 ∷ 2 ∷ 1 ∷ 0 ∷ []
-unfolding falling
+pub falling-five : fallingGroups 5 ≡ 4 ∷ 3 ∷ 2 ∷ 1 ∷ 0 ∷ []
+unfolding fallingGroups
 falling-five = refl
 
 pub even-odd-five : evenThenOdd 5 ≡ 0 ∷ 2 ∷ 4 ∷ 1 ∷ 3 ∷ []
-unfolding picked upFrom
+unfolding groupsPassing upFrom
 even-odd-five = refl

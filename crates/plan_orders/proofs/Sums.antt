@@ -10,7 +10,7 @@ use lib.ListN.{take, drop, take-append-drop}
 use Rattle.seqs.specs.Lists.{fold, total, upFrom}
 use Rattle.seqs.proofs.Laws.{total-append}
 use Rattle.plan_totals.specs.Totals.{sumTo}
-use Rattle.plan_orders.specs.Orders.{rising, falling, Order, addedBy}
+use Rattle.plan_orders.specs.Orders.{risingGroups, fallingGroups, Order, addedBy}
 
 module _ (f : ℕ → ℕ) where
   -- what is added from the front on, to what was there before
@@ -48,7 +48,7 @@ module _ (f : ℕ → ℕ) where
       let j = ap (λ (m : ℕ). sumTo m f) e in
       omega arith
 
-  total-rising : (n : ℕ) → total f (rising n) ≡ sumTo n f
+  total-rising : (n : ℕ) → total f (risingGroups n) ≡ sumTo n f
   unfolding sumTo
   total-rising n =
       let t = total-up 0 n in
@@ -58,7 +58,7 @@ module _ (f : ℕ → ℕ) where
 
   -- EACH GROUP TAKEN ONCE, IN ANY ORDER, ADDS UP TO THE SUM OF ALL
   pub in-order : (n : ℕ) (ks : List ℕ) → Order n ks → addedBy f ks ≡ sumTo n f
-  in-order n ks p = added-total ks ∙ same-total ks (rising n) p ∙ total-rising n
+  in-order n ks p = added-total ks ∙ same-total ks (risingGroups n) p ∙ total-rising n
 
   -- THE SUM OF THE FIRST j IS AT MOST THAT OF ALL
   pub first-fewer : (j : ℕ) (ks : List ℕ) → addedBy f (take j ks) ≤ addedBy f ks
@@ -71,8 +71,8 @@ module _ (f : ℕ → ℕ) where
 
   -- ---- falling
 
-  total-falling : (j n : ℕ) → j < n → total f (take (suc j) (falling n)) ≡ total f (take j (falling n)) + f (n - 1 - j)
-  unfolding total falling
+  total-falling : (j n : ℕ) → j < n → total f (take (suc j) (fallingGroups n)) ≡ total f (take j (fallingGroups n)) + f (n - 1 - j)
+  unfolding total fallingGroups
   total-falling j zero h = absurd (not-suc-le-zero h)
   total-falling zero (suc n) h = let e : suc n - 1 - 0 ≡ n = omega arith in let i = ap f e in omega arith
   total-falling (suc j) (suc n) h =
@@ -82,10 +82,10 @@ module _ (f : ℕ → ℕ) where
       omega arith
 
   -- the first j groups and the one behind them, counted from the last
-  pub falling-more : (j n : ℕ) → j < n → addedBy f (take (suc j) (falling n)) ≡ addedBy f (take j (falling n)) + f (n - 1 - j)
+  pub falling-more : (j n : ℕ) → j < n → addedBy f (take (suc j) (fallingGroups n)) ≡ addedBy f (take j (fallingGroups n)) + f (n - 1 - j)
   falling-more j n h =
-      let a = added-total (take (suc j) (falling n)) in
-      let b = added-total (take j (falling n)) in
+      let a = added-total (take (suc j) (fallingGroups n)) in
+      let b = added-total (take j (fallingGroups n)) in
       let c = total-falling j n h in
       omega arith
 

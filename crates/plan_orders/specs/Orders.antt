@@ -15,29 +15,29 @@ use Rattle.plan_totals.specs.Totals.{freeOfPlan, freeCount, rowOf, totalOf}
 -- ---- orders
 
 -- groups 0 to n − 1, rising
-abbrev pub rising : ℕ → List ℕ
-rising n = upFrom 0 n
+abbrev pub risingGroups : ℕ → List ℕ
+risingGroups n = upFrom 0 n
 
 -- groups n − 1 to 0, falling
-unfoldable pub falling : ℕ → List ℕ
-falling zero = []
-falling (suc n) = n ∷ falling n
+unfoldable pub fallingGroups : ℕ → List ℕ
+fallingGroups zero = []
+fallingGroups (suc n) = n ∷ fallingGroups n
 
 -- the groups that pass a test, in the order that they had
-unfoldable pub picked : (ℕ → Bool) → List ℕ → List ℕ
-picked p [] = []
-picked p (k ∷ ks) = choose (p k) (k ∷ picked p ks) (picked p ks)
+unfoldable pub groupsPassing : (ℕ → Bool) → List ℕ → List ℕ
+groupsPassing p [] = []
+groupsPassing p (k ∷ ks) = choose (p k) (k ∷ groupsPassing p ks) (groupsPassing p ks)
 
 abbrev pub isEven : ℕ → Bool
 isEven k = eqb (k % 2) 0
 
 -- first all even groups, then all odd ones
 abbrev pub evenThenOdd : ℕ → List ℕ
-evenThenOdd n = picked isEven (rising n) ++ picked (λ k. not (isEven k)) (rising n)
+evenThenOdd n = groupsPassing isEven (risingGroups n) ++ groupsPassing (λ k. not (isEven k)) (risingGroups n)
 
 -- an order in which each of n groups is taken once: the groups 0 to n − 1, permuted
 abbrev pub Order : ℕ → List ℕ → Type 0
-Order n ks = Perm ks (rising n)
+Order n ks = Perm ks (risingGroups n)
 
 -- ---- sums in an order
 
@@ -61,7 +61,7 @@ totalBy g ks =
     }
 
 -- each of the five sums is below 2^64
-pub record Fits (t : Total) : Type 0 where
+pub record SumsFit (t : Total) : Type 0 where
   pub length : t .length < 2 ^ 64
   pub log : t .log < 2 ^ 64
   pub list : t .list < 2 ^ 64
@@ -76,4 +76,4 @@ pub record AddsUp (g : Geometry) (ks : List ℕ) : Type 0 where
   pub free-count : freeBy g ks ≡ freeCount g
   pub last-line : totalBy g ks ≡ totalOf g
   pub count-fits : (j : ℕ) → freeBy g (take j ks) < 2 ^ 64
-  pub sums-fit : (j : ℕ) → Fits (totalBy g (take j ks))
+  pub sums-fit : (j : ℕ) → SumsFit (totalBy g (take j ks))

@@ -2,7 +2,7 @@
 ghost use mathlib.Core.Path.{_≡_};
 ghost use mathlib.Core.Bool.{true};
 ghost use lib.ListN.{length};
-ghost use Rattle.plan_table.specs.Filling.{nextOf, filled, Printing};
+ghost use Rattle.plan_table.specs.Filling.{tableBehind, tableFilled, Printing};
 use plan_table::Table;
 use plan_table::fill;
 
@@ -22,8 +22,8 @@ fn flush(fd: i32, buf: &[u8], end: usize) -> bool {
 
 // Fills the next part and writes it.
 fn turn(fd: i32, t: Table, buf: &mut [u8]) -> Printed
-    ensures { λ r. ⌜ r .table ≡ nextOf t (length (now (buf .entry))) ⌝ }
-    ensures { λ r. ⌜ (r .written ≡ true → filled t (length (now (buf .entry))) .number ≡ 0) ⌝ }
+    ensures { λ r. ⌜ r .table ≡ tableBehind t (length (now (buf .entry))) ⌝ }
+    ensures { λ r. ⌜ (r .written ≡ true → tableFilled t (length (now (buf .entry))) .number ≡ 0) ⌝ }
 {
     let f = fill(t, buf);
     let table = f.table;

@@ -13,8 +13,8 @@ use Rattle.plan_rmap.specs.declared.RmapList.{RmapList}
 use Rattle.plan_rmap.specs.declared.Inserted.{Inserted}
 
 -- what stands in a slot past the count
-abbrev pub zeroRec : RmapRec
-zeroRec = record { start = 0; count = 0; owner = 0 }
+abbrev pub zeroRmapRec : RmapRec
+zeroRmapRec = record { start = 0; count = 0; owner = 0 }
 
 -- a struct of the code as an array with a count, and back
 abbrev pub ofRmap : RmapList → Store RmapRec
@@ -29,30 +29,30 @@ rmapOf l = live (ofRmap l)
 
 -- a list as a struct: the slots past the count are zero records
 abbrev pub packRmap : List RmapRec → RmapList
-packRmap xs = toRmap (packed zeroRec xs)
+packRmap xs = toRmap (packed zeroRmapRec xs)
 
 -- the first block of a record, and how many there are
-abbrev pub startOf : RmapRec → ℕ
-startOf r = r .start
+abbrev pub rmapStart : RmapRec → ℕ
+rmapStart r = r .start
 
-abbrev pub countOf : RmapRec → ℕ
-countOf r = r .count
+abbrev pub rmapCount : RmapRec → ℕ
+rmapCount r = r .count
 
 -- the first block past a record
-abbrev pub endOf : RmapRec → ℕ
-endOf r = r .start + r .count
+abbrev pub rmapEnd : RmapRec → ℕ
+rmapEnd r = r .start + r .count
 
 -- the record starts at s or later
 abbrev pub notBefore : ℕ → RmapRec → Bool
 notBefore s r = leb s (r .start)
 
 -- where a record that starts at s goes
-abbrev pub placeOf : ℕ → List RmapRec → ℕ
-placeOf s xs = firstIndex (notBefore s) xs
+abbrev pub insertPlace : ℕ → List RmapRec → ℕ
+insertPlace s xs = firstIndex (notBefore s) xs
 
 -- b starts where a ends, and has the same owner
 abbrev pub joins : RmapRec → RmapRec → Bool
-joins a b = both (eqb (a .owner) (b .owner)) (eqb (endOf a) (b .start))
+joins a b = both (eqb (a .owner) (b .owner)) (eqb (rmapEnd a) (b .start))
 
 -- two records that join as one
 abbrev pub glued : RmapRec → RmapRec → RmapRec
@@ -60,38 +60,38 @@ glued a b = record { start = a .start; count = a .count + b .count; owner = a .o
 
 -- the record joins the one before index p; the one at index p
 unfoldable pub joinsLeft : List RmapRec → ℕ → RmapRec → Bool
-joinsLeft xs p r = both (ltb 0 p) (joins (getD xs (p - 1) zeroRec) r)
+joinsLeft xs p r = both (ltb 0 p) (joins (getD xs (p - 1) zeroRmapRec) r)
 
 unfoldable pub joinsRight : List RmapRec → ℕ → RmapRec → Bool
-joinsRight xs p r = both (ltb p (length xs)) (joins r (getD xs p zeroRec))
+joinsRight xs p r = both (ltb p (length xs)) (joins r (getD xs p zeroRmapRec))
 
 -- an answer of `rmap_insert`: a number and no record, or 0 and the records left, if they are at most 64
-abbrev pub refusal : ℕ → Inserted
-refusal n = record { number = n; list = packRmap [] }
+abbrev pub insertRefused : ℕ → Inserted
+insertRefused n = record { number = n; list = packRmap [] }
 
-abbrev pub kept : List RmapRec → Inserted
-kept xs = choose (leb (length xs) 64) (record { number = 0; list = packRmap xs }) (refusal tooManyRecords)
+abbrev pub insertedList : List RmapRec → Inserted
+insertedList xs = choose (leb (length xs) 64) (record { number = 0; list = packRmap xs }) (insertRefused tooManyRecords)
 
 -- the record put at index p, joined with the neighbours that it joins: left and right say with which
 abbrev pub joinedAt : Bool → Bool → List RmapRec → ℕ → RmapRec → List RmapRec
-joinedAt true true xs p r = spliced xs (p - 1) (p + 1) (glued (glued (getD xs (p - 1) zeroRec) r) (getD xs p zeroRec) ∷ [])
-joinedAt true false xs p r = spliced xs (p - 1) p (glued (getD xs (p - 1) zeroRec) r ∷ [])
-joinedAt false true xs p r = spliced xs p (p + 1) (glued r (getD xs p zeroRec) ∷ [])
+joinedAt true true xs p r = spliced xs (p - 1) (p + 1) (glued (glued (getD xs (p - 1) zeroRmapRec) r) (getD xs p zeroRmapRec) ∷ [])
+joinedAt true false xs p r = spliced xs (p - 1) p (glued (getD xs (p - 1) zeroRmapRec) r ∷ [])
+joinedAt false true xs p r = spliced xs p (p + 1) (glued r (getD xs p zeroRmapRec) ∷ [])
 joinedAt false false xs p r = spliced xs p p (r ∷ [])
 
 -- the record put at index p
 unfoldable pub insertedAt : List RmapRec → ℕ → RmapRec → Inserted
-insertedAt xs p r = kept (joinedAt (joinsLeft xs p r) (joinsRight xs p r) xs p r)
+insertedAt xs p r = insertedList (joinedAt (joinsLeft xs p r) (joinsRight xs p r) xs p r)
 
 -- the list is valid, and with the record put at index p it still is
 unfoldable pub takes : List RmapRec → ℕ → RmapRec → Bool
-takes xs p r = both (valid startOf countOf 0 xs) (valid startOf countOf 0 (spliced xs p p (r ∷ [])))
+takes xs p r = both (valid rmapStart rmapCount 0 xs) (valid rmapStart rmapCount 0 (spliced xs p p (r ∷ [])))
 
 -- `rmap_insert`: the record put before the first that starts where it does or later. 34 above 64 records, 32 unless they are valid and
 -- stay so
 unfoldable pub inserted : RmapList → RmapRec → Inserted
 inserted l r =
-    choose (ltb 64 (l .len)) (refusal tooManyRecords)
-    (choose (takes (rmapOf l) (placeOf (r .start) (rmapOf l)) r)
-    (insertedAt (rmapOf l) (placeOf (r .start) (rmapOf l)) r)
-    (refusal notValid))
+    choose (ltb 64 (l .len)) (insertRefused tooManyRecords)
+    (choose (takes (rmapOf l) (insertPlace (r .start) (rmapOf l)) r)
+    (insertedAt (rmapOf l) (insertPlace (r .start) (rmapOf l)) r)
+    (insertRefused notValid))

@@ -6,7 +6,7 @@ ghost use Prim.Native.Nat.{_+_, _-_, _≤_, _<_, _^_};
 ghost use lib.ListN.{drop};
 ghost use Rattle.seqs.specs.Lists.{spliced};
 ghost use Rattle.seqs.specs.Runs.{valid, endAt, nextOk};
-ghost use Rattle.plan_rmap.specs.Rmap.{zeroRec, rmapOf, startOf, countOf, endOf, placeOf, joins, glued, joinsLeft, joinsRight, refusal, kept, insertedAt, takes, inserted};
+ghost use Rattle.plan_rmap.specs.Rmap.{zeroRmapRec, rmapOf, rmapStart, rmapCount, rmapEnd, insertPlace, joins, glued, joinsLeft, joinsRight, insertRefused, insertedList, insertedAt, takes, inserted};
 use crate::Inserted;
 use crate::RmapList;
 use crate::list::append;
@@ -17,7 +17,7 @@ use btree::RmapRec;
 
 // The answer of a refusal.
 fn refused(number: u32) -> Inserted
-    ensures { λ r. ⌜ r ≡ refusal number ⌝ }
+    ensures { λ r. ⌜ r ≡ insertRefused number ⌝ }
 {
     let list = empty();
     Inserted { number, list }
@@ -26,7 +26,7 @@ fn refused(number: u32) -> Inserted
 // The index of the first record that starts at `s` or later, or the count.
 fn place(l: RmapList, s: u32) -> usize
     requires { ⌜ l .len ≤ 64 ⌝ }
-    ensures { λ i. ⌜ i ≡ placeOf s (rmapOf l) ⌝ }
+    ensures { λ i. ⌜ i ≡ insertPlace s (rmapOf l) ⌝ }
 {
     let n = l.len;
     let mut i: usize = 0;
@@ -94,7 +94,7 @@ fn glue(a: RmapRec, b: RmapRec) -> RmapRec
 // Where the record before index p ends, or 0.
 fn end_before(l: RmapList, p: usize) -> u64
     requires { ⌜ (p ≤ l .len) × (l .len ≤ 64) ⌝ }
-    ensures { λ x. ⌜ x ≡ endAt startOf countOf zeroRec 0 (rmapOf l) p ⌝ }
+    ensures { λ x. ⌜ x ≡ endAt rmapStart rmapCount zeroRmapRec 0 (rmapOf l) p ⌝ }
 {
     if 0 < p {
         let q = p - 1;
@@ -107,7 +107,7 @@ fn end_before(l: RmapList, p: usize) -> u64
 // The record at index p, if there is one, starts at e or later.
 fn next_ok(l: RmapList, p: usize, e: u64) -> bool
     requires { ⌜ (p ≤ l .len) × (l .len ≤ 64) ⌝ }
-    ensures { λ x. ⌜ x ≡ nextOk startOf countOf e (drop p (rmapOf l)) ⌝ }
+    ensures { λ x. ⌜ x ≡ nextOk rmapStart rmapCount e (drop p (rmapOf l)) ⌝ }
 {
     let n = l.len;
     if p < n {
@@ -135,7 +135,7 @@ fn can_take(l: RmapList, p: usize, r: RmapRec) -> bool
 // The records from index i up to, not including, index j replaced by `x`.
 fn splice(l: RmapList, i: usize, j: usize, x: RmapRec) -> Inserted
     requires { ⌜ (i ≤ j) × (j ≤ l .len) × (l .len ≤ 64) ⌝ }
-    ensures { λ r. ⌜ r ≡ kept (spliced (rmapOf l) i j (x ∷ [])) ⌝ }
+    ensures { λ r. ⌜ r ≡ insertedList (spliced (rmapOf l) i j (x ∷ [])) ⌝ }
 {
     let n = l.len;
     if i + 1 + (n - j) > 64 {
@@ -150,7 +150,7 @@ fn splice(l: RmapList, i: usize, j: usize, x: RmapRec) -> Inserted
 
 // The record put at index p, joined with the neighbours that it joins.
 fn insert_at(l: RmapList, p: usize, r: RmapRec) -> Inserted
-    requires { ⌜ (p ≤ l .len) × (l .len ≤ 64) × (valid startOf countOf 0 (rmapOf l) ≡ true) × (endOf r < 2 ^ 32) ⌝ }
+    requires { ⌜ (p ≤ l .len) × (l .len ≤ 64) × (valid rmapStart rmapCount 0 (rmapOf l) ≡ true) × (rmapEnd r < 2 ^ 32) ⌝ }
     ensures { λ x. ⌜ x ≡ insertedAt (rmapOf l) p r ⌝ }
 {
     if joined_left(l, p, r) {

@@ -5,7 +5,7 @@ ghost use Prim.Native.Nat.{_≤_};
 ghost use lib.Seq.{slice};
 ghost use Rattle.seqs.specs.Lists.{pushed, appended};
 ghost use Rattle.seqs.specs.Runs.{valid};
-ghost use Rattle.plan_rmap.specs.Rmap.{ofRmap, toRmap, rmapOf, packRmap, startOf, countOf};
+ghost use Rattle.plan_rmap.specs.Rmap.{ofRmap, toRmap, rmapOf, packRmap, rmapStart, rmapCount};
 use crate::RmapList;
 use btree::RmapRec;
 
@@ -54,7 +54,7 @@ pub(crate) fn append(l: RmapList, src: RmapList, from: usize, to: usize) -> Rmap
 // Sorted by start, apart, no record empty, no end above 2^32 − 1.
 pub(crate) fn is_valid(l: RmapList) -> bool
     requires { ⌜ l .len ≤ 64 ⌝ }
-    ensures { λ b. ⌜ b ≡ valid startOf countOf 0 (rmapOf l) ⌝ }
+    ensures { λ b. ⌜ b ≡ valid rmapStart rmapCount 0 (rmapOf l) ⌝ }
 {
     let n = l.len;
     let mut lo: u64 = 0;

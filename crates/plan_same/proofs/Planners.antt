@@ -18,7 +18,7 @@ use Rattle.plan.specs.declared.Agfl.{Agfl}
 use Rattle.plan.specs.declared.AgPlan.{AgPlan}
 use Rattle.plan.specs.declared.Planned.{Planned}
 use Rattle.plan.specs.declared.Work.{Work}
-use Rattle.plan.specs.Plan.{noPlan, answer, planOf, listed, chunked, planned}
+use Rattle.plan.specs.Plan.{noPlan, planAnswer, planOf, listFilled, chunked, planned}
 use Rattle.geometry_places.specs.Answers.{groupRefusal}
 use Rattle.plan_site.specs.declared.Site.{Site}
 use Rattle.plan_site.specs.Sites.{siteOf}
@@ -139,8 +139,8 @@ is-plan-same g p e =
 refused-group : (n k : ℕ) → eqb n 0 ≡ false → n ≡ 0 → noPlan .agno ≡ k
 refused-group n k t e = absurd (subst T (sym (sym t ∙ eq-eqb n 0 e)) tt)
 
-answer-group : (s : Site) (chunk : OptU64) (w : Work) → answer s chunk w .number ≡ 0 → answer s chunk w .plan .agno ≡ s .agno
-unfolding answer
+answer-group : (s : Site) (chunk : OptU64) (w : Work) → planAnswer s chunk w .number ≡ 0 → planAnswer s chunk w .plan .agno ≡ s .agno
+unfolding planAnswer
 answer-group s chunk w =
     choose-elim (λ (x : Planned). x .number ≡ 0 → x .plan .agno ≡ s .agno) (eqb (w .number) 0) _ _
     (λ t e. refl)
@@ -150,8 +150,8 @@ site-group : (s : Site) → planOf s .number ≡ 0 → planOf s .plan .agno ≡ 
 unfolding planOf
 site-group s =
     choose-elim (λ (x : Planned). x .number ≡ 0 → x .plan .agno ≡ s .agno) (eqb (s .agno) 0) _ _
-    (λ t e. answer-group s (Given (s .«chunk_at»)) (chunked s (listed s)) e)
-    (λ t e. answer-group s Absent (listed s) e)
+    (λ t e. answer-group s (Given (s .«chunk_at»)) (chunked s (listFilled s)) e)
+    (λ t e. answer-group s Absent (listFilled s) e)
 
 pub planned-group : (g : Geometry) (k : ℕ) → planned g k .number ≡ 0 → planned g k .plan .agno ≡ k
 unfolding planned siteOf

@@ -25,7 +25,7 @@ use Rattle.geometry_counts.specs.declared.Value64.the-variants.{Refused, Of}
 use Rattle.geometry_places.specs.Answers.{unless64, groupRefusal, agBlocks}
 use Rattle.geometry_places.proofs.Refused.{a-group}
 use Rattle.plan_site.specs.declared.Sited.{Sited}
-use Rattle.plan_site.specs.Sites.{value64, siteOf, noSite, sited, Narrow, Sound}
+use Rattle.plan_site.specs.Sites.{value64, siteOf, noSite, sited, Narrow, SoundSite}
 
 -- 16 MiB are at least 1024 blocks, 64 MiB at least one
 blocks-least : (a b : ℕ) → b ≤ 2 ^ 14 → 2 ^ 24 ≤ a * b → 1024 ≤ a
@@ -90,7 +90,7 @@ head-is : (f : Features) (s b : ℕ) → bit (f .rmapbt) ≡ 1 → preallocOf f 
 unfolding preallocOf
 head-is f s b e = omega arith
 
-pub bounds-sound : (g : Geometry) (k : ℕ) → Bounds g → Sound (siteOf g k)
+pub bounds-sound : (g : Geometry) (k : ℕ) → Bounds g → SoundSite (siteOf g k)
 unfolding siteOf ibtBlock rmapBlock refcBlock
 bounds-sound g k b =
     record {
@@ -114,7 +114,7 @@ bounds-sound g k b =
     }
 
 -- THE SITE OF A GROUP OF AN ANSWER
-pub site-sound : (g : Geometry) (k : ℕ) → length (g .label) ≡ 12 → isAnswer g ≡ true → Sound (siteOf g k)
+pub site-sound : (g : Geometry) (k : ℕ) → length (g .label) ≡ 12 → isAnswer g ≡ true → SoundSite (siteOf g k)
 site-sound g k l h = bounds-sound g k (answer-bounds g l h)
 
 -- no number of an answer's site passes 32 bits
@@ -164,7 +164,7 @@ unfolding sited
 site-is g k e = rw (eq-eqb (groupRefusal g k) 0 e)
 
 -- a site that was answered is sound
-pub answered-sound : (g : Geometry) (k : ℕ) → length (g .label) ≡ 12 → sited g k .number ≡ 0 → Sound (sited g k .site)
+pub answered-sound : (g : Geometry) (k : ℕ) → length (g .label) ≡ 12 → sited g k .number ≡ 0 → SoundSite (sited g k .site)
 answered-sound g k l e =
     let r = sym (site-number g k) ∙ e in
     rw (site-is g k r) (site-sound g k l (a-group g k r .0))

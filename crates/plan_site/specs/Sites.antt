@@ -79,7 +79,7 @@ pub record Narrow (g : Geometry) (k : ℕ) : Type 0 where
   pub rmapbt : bit (g .features .rmapbt) ≤ 1
 
 -- what holds of the site of every group of an answer
-pub record Sound (s : Site) : Type 0 where
+pub record SoundSite (s : Site) : Type 0 where
   pub length-least : 1024 ≤ s .length
   pub length-most : s .length < 2 ^ 30
   pub head-most : s .head ≤ 10

@@ -19,41 +19,41 @@ use Rattle.geometry_layout.specs.Places.{freelistOf, chunkOf, clusterOf, alignO
 use Rattle.seqs.specs.Lists.{choose}
 use Rattle.plan_site.specs.declared.Site.{Site}
 use Rattle.plan_site.specs.Sites.{siteOf}
-use Rattle.plan_closed.specs.Closed.{isFirst, listAt, short}
+use Rattle.plan_closed.specs.Closed.{hasRootChunk, listAt, listShort}
 use Rattle.plan_closed.proofs.Planning.{planned-plan}
-use Rattle.plan_totals.specs.Totals.{larger, constNumber, beforeChunk, afterChunk, afterList}
+use Rattle.plan_totals.specs.Totals.{largerCount, constNumber, beforeChunk, afterChunk, afterList}
 use Rattle.plan_totals.proofs.Rows.{free-is, longest-is}
 use Rattle.plan_totals.proofs.Whole.{plans-number}
-use Rattle.plan_summary.specs.Summaries.{summaryOf, lengthIn, logIn, chunkIn, freeIn, longestIn}
-use Rattle.plan_summary.specs.Narrow.{largest, Near}
+use Rattle.plan_summary.specs.Summaries.{summaryOf, lengthIn, logBlocksIn, chunkBlocksIn, freeBlocksIn, longestIn}
+use Rattle.plan_summary.specs.Narrow.{largestGroups, Near}
 
 abbrev last : Site
-last = siteOf largest 2
+last = siteOf largestGroups 2
 
 -- what is computed of it
 record Computed : Type 0 where
-  label : length (largest .label) ≡ 12
-  groups : largest .agcount ≡ 3
-  answer : isAnswer largest ≡ true
-  number : constNumber largest ≡ 0
-  full : short last ≡ false
-  free : choose (isFirst last) (beforeChunk last + afterChunk last) (afterList last) ≡ 2 ^ 30 - 10
-  longest : choose (isFirst last) (larger (beforeChunk last) (afterChunk last)) (afterList last) ≡ 2 ^ 30 - 10
-  row-free : freeIn (summaryOf largest) 2 ≡ 2 ^ 30 - 10
-  row-longest : longestIn (summaryOf largest) 2 ≡ 2 ^ 30 - 10
+  label : length (largestGroups .label) ≡ 12
+  groups : largestGroups .agcount ≡ 3
+  answer : isAnswer largestGroups ≡ true
+  number : constNumber largestGroups ≡ 0
+  full : listShort last ≡ false
+  free : choose (hasRootChunk last) (beforeChunk last + afterChunk last) (afterList last) ≡ 2 ^ 30 - 10
+  longest : choose (hasRootChunk last) (largerCount (beforeChunk last) (afterChunk last)) (afterList last) ≡ 2 ^ 30 - 10
+  row-free : freeBlocksIn (summaryOf largestGroups) 2 ≡ 2 ^ 30 - 10
+  row-longest : longestIn (summaryOf largestGroups) 2 ≡ 2 ^ 30 - 10
 
 computed : Computed
-unfolding largest when bit ceilDiv powerIn powerLog leastFrom log2Up defaultSector sizesOf sizesRefusals askedBlocks defaultSize initialGroups isShort trim optionsRefusals groupsRefusals headerOf preallocOf logLimit logBlocks defaultImaxpct lastRefusals withGroups withSizes chosenOf refusals refusalOf labelOf geometryOf computeDef compute.answer sameFeatures numbersOf sameFrom sameGeometry namedOptions namedOn namedFits namedAnswer namesOf isAnswer freelistOf chunkOf clusterOf alignOf roundUp aligned rootChunkOf groupBlocks siteOf listAt short constNumber summaryOf lengthIn logIn chunkIn freeIn longestIn
+unfolding largestGroups when bit ceilDiv powerIn powerLog leastFrom log2Up defaultSector sizesOf sizesRefusals askedBlocks defaultSize initialGroups isShort trim optionsRefusals groupsRefusals headerOf preallocOf logLimit logBlocks defaultImaxpct lastRefusals withGroups withSizes chosenOf refusals refusalOf labelOf geometryOf computeDef compute.answer sameFeatures numbersOf sameFrom sameGeometry namedOptions namedOn namedFits namedAnswer namesOf isAnswer freelistOf chunkOf clusterOf alignOf roundUp aligned rootChunkOf groupBlocks siteOf listAt listShort constNumber summaryOf lengthIn logBlocksIn chunkBlocksIn freeBlocksIn longestIn
 computed = record { label = refl; groups = refl; answer = refl; number = refl; full = refl; free = refl; longest = refl; row-free = refl; row-longest = refl }
 
 -- THE BOUND IS NEAR
 pub near : Near
 near =
     let c = computed in
-    let p = planned-plan largest (c .label) (c .answer) 2 (omega (arith, c .groups)) (c .full) in
+    let p = planned-plan largestGroups (c .label) (c .answer) 2 (omega (arith, c .groups)) (c .full) in
     record {
       answer = c .answer;
-      plans = plans-number largest (c .label) ∙ c .number;
+      plans = plans-number largestGroups (c .label) ∙ c .number;
       free = rw p (free-is last ∙ c .free);
       longest = rw p (longest-is last ∙ c .longest);
       row-free = c .row-free;

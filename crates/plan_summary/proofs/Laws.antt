@@ -21,15 +21,15 @@ use Rattle.geometry_places.proofs.Refused.{group-no-answer, group-there, a-grou
 use Rattle.plan_site.specs.declared.Site.{Site}
 use Rattle.plan_site.specs.Sites.{siteOf}
 use Rattle.plan_site.proofs.Sites.{site-sound}
-use Rattle.plan_closed.specs.Closed.{listAt, short}
+use Rattle.plan_closed.specs.Closed.{listAt, listShort}
 use Rattle.plan_totals.specs.Totals.{plansNumber, freeCountAnswer, constNumber}
 use Rattle.plan_totals.proofs.Whole.{plans-number, free-count}
 use Rattle.plan_summary.specs.declared.Summarised.{Summarised}
 use Rattle.plan_summary.specs.Summaries.{summaryOf, noSummary, summarised}
 
 -- the log group is short where what lies behind the log is less than its free list
-pub short-after : (s : Site) → s .«has_log» ≡ true → short s ≡ ltb (s .length - (s .«log_at» + s .«log_blocks»)) (s .need)
-unfolding short listAt
+pub short-after : (s : Site) → s .«has_log» ≡ true → listShort s ≡ ltb (s .length - (s .«log_at» + s .«log_blocks»)) (s .need)
+unfolding listShort listAt
 short-after s e = rw e
 
 module _ (g : Geometry) where
@@ -37,11 +37,11 @@ module _ (g : Geometry) where
   unfolding constNumber
   no-answer e = rw e
 
-  pub log-short : isAnswer g ≡ true → short (siteOf g (g .logagno)) ≡ true → constNumber g ≡ 25
+  pub log-short : isAnswer g ≡ true → listShort (siteOf g (g .logagno)) ≡ true → constNumber g ≡ 25
   unfolding constNumber
   log-short e h = rw (e, h)
 
-  pub all-planned : isAnswer g ≡ true → short (siteOf g (g .logagno)) ≡ false → constNumber g ≡ 0
+  pub all-planned : isAnswer g ≡ true → listShort (siteOf g (g .logagno)) ≡ false → constNumber g ≡ 0
   unfolding constNumber
   all-planned e h = rw (e, h)
 

@@ -18,22 +18,22 @@ use Rattle.geometry_layout.proofs.Small.{freelist-most}
 use Rattle.geometry_places.proofs.Refused.{a-group}
 use Rattle.btree.specs.declared.records.AllocRec.{AllocRec}
 use Rattle.plan_site.specs.declared.Site.{Site}
-use Rattle.plan_site.specs.Sites.{siteOf, Sound}
+use Rattle.plan_site.specs.Sites.{siteOf, SoundSite}
 use Rattle.plan_site.proofs.Sites.{site-sound}
 use Rattle.plan_free.specs.Free.{packFree}
 use Rattle.plan.specs.declared.AgPlan.{AgPlan}
 use Rattle.plan.specs.declared.Planned.{Planned}
 use Rattle.plan.specs.Plan.{gap, refusedPlan}
-use Rattle.plan_closed.specs.Closed.{isFirst, listAt, short, closedFree, closedAgPlan, closedPlan}
+use Rattle.plan_closed.specs.Closed.{hasRootChunk, listAt, listShort, closedFree, closedAgPlan, closedPlan}
 use Rattle.plan_closed.proofs.Planning.{closed-plan, planned-plan}
 use Rattle.plan_same.specs.Same.{isPlan}
 use Rattle.plan_same.proofs.Planners.{planned-there, is-plan-number, is-plan-same}
-use Rattle.plan_totals.specs.Totals.{plansNumber, larger, freeblksOf, longestOf, beforeChunk, afterChunk, NarrowRecords}
+use Rattle.plan_totals.specs.Totals.{plansNumber, largerCount, freeblksOf, longestOf, beforeChunk, afterChunk, NarrowRecords}
 use Rattle.plan_totals.proofs.Rows.{free-is, longest-is}
 use Rattle.plan_totals.proofs.Running.{records-narrow}
 use Rattle.plan_totals.proofs.Whole.{all-planned}
 use Rattle.plan_summary.specs.declared.Summary.{Summary}
-use Rattle.plan_summary.specs.Summaries.{summaryOf, lengthIn, logIn, chunkIn, freeIn, longestIn}
+use Rattle.plan_summary.specs.Summaries.{summaryOf, lengthIn, logBlocksIn, chunkBlocksIn, freeBlocksIn, longestIn}
 use Rattle.plan_summary.specs.Narrow.{NarrowSummary, NarrowRow, NarrowLog, NarrowGroup}
 use Rattle.plan_summary.proofs.Laws.{last-fits}
 use Rattle.plan_summary.proofs.Rows.{length-is, head-is, list-is, chunk-at-is, chunk-blocks-is, not-short-at}
@@ -46,32 +46,32 @@ gap-few a b = choose-elim (λ (l : List AllocRec). length l ≤ 1) (ltb a b) _ _
 pub free-few : (s : Site) → length (closedFree s) ≤ 2
 unfolding closedFree
 free-few s =
-    choose-elim (λ (l : List AllocRec). length l ≤ 2) (isFirst s) _ _
+    choose-elim (λ (l : List AllocRec). length l ≤ 2) (hasRootChunk s) _ _
     (λ t. let n = length-append (gap (s .head + s .need) (s .«chunk_at»)) (gap (s .«chunk_at» + s .«chunk_blocks») (s .length)) in
     let a = gap-few (s .head + s .need) (s .«chunk_at») in
     let b = gap-few (s .«chunk_at» + s .«chunk_blocks») (s .length) in
     omega arith)
     (λ t. let a = gap-few (listAt s + s .need) (s .length) in omega arith)
 
-larger-most : (a b n : ℕ) → a < n → b < n → larger a b < n
+larger-most : (a b n : ℕ) → a < n → b < n → largerCount a b < n
 larger-most a b n h k = choose-elim (λ (x : ℕ). x < n) (ltb a b) b a (λ t. k) (λ t. h)
 
-pub free-least : (s : Site) → Sound s → freeblksOf (packFree (closedFree s)) < 2 ^ 30
+pub free-least : (s : Site) → SoundSite s → freeblksOf (packFree (closedFree s)) < 2 ^ 30
 free-least s ok =
     let l = ok .length-most in
     let m = ok .length-least in
     let c = ok .chunk-ends in
     let d = ok .chunk-least in
-    rw (free-is s) (choose-elim (λ (x : ℕ). x < 2 ^ 30) (isFirst s) _ _ (λ t. omega arith) (λ t. omega arith))
+    rw (free-is s) (choose-elim (λ (x : ℕ). x < 2 ^ 30) (hasRootChunk s) _ _ (λ t. omega arith) (λ t. omega arith))
 
-pub longest-least : (s : Site) → Sound s → longestOf (packFree (closedFree s)) < 2 ^ 30
+pub longest-least : (s : Site) → SoundSite s → longestOf (packFree (closedFree s)) < 2 ^ 30
 longest-least s ok =
     let l = ok .length-most in
     let c = ok .chunk-ends in
-    rw (longest-is s) (choose-elim (λ (x : ℕ). x < 2 ^ 30) (isFirst s) _ _
+    rw (longest-is s) (choose-elim (λ (x : ℕ). x < 2 ^ 30) (hasRootChunk s) _ _
     (λ t. larger-most (beforeChunk s) (afterChunk s) (2 ^ 30) (omega arith) (omega arith)) (λ t. omega arith))
 
-site-records : (s : Site) → Sound s → NarrowRecords (packFree (closedFree s))
+site-records : (s : Site) → SoundSite s → NarrowRecords (packFree (closedFree s))
 site-records s ok = records-narrow (packFree (closedFree s)) (free-least s ok) (longest-least s ok)
 
 -- ---- a plan of the planner in closed form
@@ -93,7 +93,7 @@ module _ (g : Geometry) (p : AgPlan) (l : length (g .label) ≡ 12) (h : isPlan 
   plan-closed =
       let e = closed-plan g l (plan-answer .0) (p .agno) (plan-answer .1) in
       is-plan-same g p h ∙ ap (λ (x : Planned). x .plan) e
-      ∙ plan-at (short its) (closedAgPlan its) (sym (ap (λ (x : Planned). x .number) e) ∙ is-plan-number g p h)
+      ∙ plan-at (listShort its) (closedAgPlan its) (sym (ap (λ (x : Planned). x .number) e) ∙ is-plan-number g p h)
 
   -- NO RUNNING NUMBER OVER THE RECORDS OF A PLAN THAT IS HANDED IN REACHES 2^30
   pub plan-records : (p .free .len ≤ 2) × NarrowRecords (p .free)
@@ -110,7 +110,7 @@ log-blocks-is : (g : Geometry) (k : ℕ) → summaryOf g .logblocks ≡ siteOf g
 unfolding summaryOf siteOf
 log-blocks-is g k = refl
 
-module _ (g : Geometry) (k : ℕ) (ok : Sound (siteOf g k)) where
+module _ (g : Geometry) (k : ℕ) (ok : SoundSite (siteOf g k)) where
   abbrev m : Summary
   m = summaryOf g
 
@@ -124,7 +124,7 @@ module _ (g : Geometry) (k : ℕ) (ok : Sound (siteOf g k)) where
   log-least = rw (log-blocks-is g k) (ok .log-most)
 
   row-narrow : NarrowRow m k
-  unfolding logIn chunkIn freeIn longestIn
+  unfolding logBlocksIn chunkBlocksIn freeBlocksIn longestIn
   row-narrow =
       let n = length-least in
       let c = chunk-inside in
@@ -140,7 +140,7 @@ module _ (g : Geometry) (k : ℕ) (ok : Sound (siteOf g k)) where
         list-to-chunk = omega arith;
         from-chunk = omega arith;
         after-chunk = omega arith;
-        longest = when-least (eqb k 0) (max (m .«chunk_at» - m .head - m .list) (lengthIn m k - m .«chunk_at» - m .chunk)) (lengthIn m k - m .head - logIn m k - m .list - chunkIn m k) (2 ^ 30) (omega arith) (omega arith);
+        longest = when-least (eqb k 0) (max (m .«chunk_at» - m .head - m .list) (lengthIn m k - m .«chunk_at» - m .chunk)) (lengthIn m k - m .head - logBlocksIn m k - m .list - chunkBlocksIn m k) (2 ^ 30) (omega arith) (omega arith);
       }
 
 -- ---- the numbers of every answer

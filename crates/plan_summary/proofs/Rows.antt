@@ -16,16 +16,16 @@ use Rattle.geometry_layout.specs.Places.{groupBlocks, freelistOf, chunkOf, root
 use Rattle.geometry_places.specs.Answers.{groupRefusal}
 use Rattle.geometry_places.proofs.Refused.{group-missing}
 use Rattle.plan_site.specs.declared.Site.{Site}
-use Rattle.plan_site.specs.Sites.{siteOf, Sound}
+use Rattle.plan_site.specs.Sites.{siteOf, SoundSite}
 use Rattle.plan_site.proofs.Sites.{site-sound}
 use Rattle.plan.specs.Plan.{planned}
-use Rattle.plan_closed.specs.Closed.{isFirst, listAt, short}
+use Rattle.plan_closed.specs.Closed.{hasRootChunk, listAt, listShort}
 use Rattle.plan_totals.specs.declared.Row.{Row}
-use Rattle.plan_totals.specs.Totals.{plansNumber, noRow, larger, beforeChunk, afterChunk, afterList, rowOf, closedRow, totalOf}
+use Rattle.plan_totals.specs.Totals.{plansNumber, noRow, largerCount, beforeChunk, afterChunk, afterList, rowOf, closedRow, totalOf}
 use Rattle.plan_totals.proofs.Rows.{row-closed}
 use Rattle.plan_totals.proofs.Whole.{all-planned, total-closed}
 use Rattle.plan_summary.specs.declared.Summary.{Summary}
-use Rattle.plan_summary.specs.Summaries.{summaryOf, lengthIn, logIn, chunkIn, freeIn, longestIn, rowIn}
+use Rattle.plan_summary.specs.Summaries.{summaryOf, lengthIn, logBlocksIn, chunkBlocksIn, freeBlocksIn, longestIn, rowBySummary}
 
 when-choose : (t : Bool) (a b : ℕ) → when t a b ≡ choose t a b
 unfolding when
@@ -36,7 +36,7 @@ larger-max-at : (a b : ℕ) (t : Bool) → ltb a b ≡ t → max a b ≡ choose 
 larger-max-at a b true e = let h = ltb-true a b e in omega arith
 larger-max-at a b false e = let h = ltb-false a b e in omega arith
 
-larger-max : (a b : ℕ) → max a b ≡ larger a b
+larger-max : (a b : ℕ) → max a b ≡ largerCount a b
 larger-max a b = larger-max-at a b (ltb a b) refl
 
 length-at : (d s n k : ℕ) (t : Bool) → eqb k (n - 1) ≡ t → when t (d - (n - 1) * s) s ≡ when t (d - k * s) s
@@ -60,18 +60,18 @@ module _ (g : Geometry) (k : ℕ) where
   unfolding summaryOf siteOf lengthIn groupBlocks
   length-is = length-at (g .dblocks) (g .agsize) (g .agcount) k (eqb k (g .agcount - 1)) refl
 
-  log-is : logIn m k ≡ choose (s .«has_log») (s .«log_blocks») 0
-  unfolding summaryOf siteOf logIn
+  log-is : logBlocksIn m k ≡ choose (s .«has_log») (s .«log_blocks») 0
+  unfolding summaryOf siteOf logBlocksIn
   log-is = when-choose (eqb k (g .logagno)) (g .logblocks) 0
 
-  chunk-is : chunkIn m k ≡ choose (isFirst s) (s .«chunk_blocks») 0
-  unfolding summaryOf siteOf chunkIn
+  chunk-is : chunkBlocksIn m k ≡ choose (hasRootChunk s) (s .«chunk_blocks») 0
+  unfolding summaryOf siteOf chunkBlocksIn
   chunk-is = when-choose (eqb k 0) (chunkOf (g .inodesize) (g .blocksize)) 0
 
   abbrev freed : Bool → Bool → ℕ
   freed first log = s .length - s .head - choose log (s .«log_blocks») 0 - s .need - choose first (s .«chunk_blocks») 0
 
-  free-at : (t u : Bool) → isFirst s ≡ t → s .«has_log» ≡ u → Sound s
+  free-at : (t u : Bool) → hasRootChunk s ≡ t → s .«has_log» ≡ u → SoundSite s
       → freed t u ≡ choose t (beforeChunk s + afterChunk s) (s .length - (choose u (s .«log_at» + s .«log_blocks») (s .head) + s .need))
   free-at true true e i ok = clash (sym (ok .log-not-first (eqb-true (s .agno) 0 e)) ∙ i)
   free-at true false e i ok =
@@ -99,7 +99,7 @@ module _ (g : Geometry) (k : ℕ) where
   unfolding summaryOf siteOf
   chunk-blocks-is = refl
 
-  first-is : isFirst s ≡ eqb k 0
+  first-is : hasRootChunk s ≡ eqb k 0
   unfolding siteOf
   first-is = refl
 
@@ -111,13 +111,13 @@ module _ (g : Geometry) (k : ℕ) where
   unfolding siteOf
   group-is = refl
 
-  free-is : Sound s → freeIn m k ≡ choose (isFirst s) (beforeChunk s + afterChunk s) (afterList s)
-  unfolding freeIn listAt
-  free-is ok = rw (length-is, log-is, chunk-is, head-is, list-is) (free-at (isFirst s) (s .«has_log») refl refl ok)
+  free-is : SoundSite s → freeBlocksIn m k ≡ choose (hasRootChunk s) (beforeChunk s + afterChunk s) (afterList s)
+  unfolding freeBlocksIn listAt
+  free-is ok = rw (length-is, log-is, chunk-is, head-is, list-is) (free-at (hasRootChunk s) (s .«has_log») refl refl ok)
 
-  longest-at : (t : Bool) → isFirst s ≡ t → Sound s
+  longest-at : (t : Bool) → hasRootChunk s ≡ t → SoundSite s
       → when t (max (s .«chunk_at» - s .head - s .need) (s .length - s .«chunk_at» - s .«chunk_blocks»)) (choose t (beforeChunk s + afterChunk s) (afterList s))
-      ≡ choose t (larger (beforeChunk s) (afterChunk s)) (afterList s)
+      ≡ choose t (largerCount (beforeChunk s) (afterChunk s)) (afterList s)
   unfolding when
   longest-at true e ok =
       let a : s .«chunk_at» - s .head - s .need ≡ beforeChunk s = omega arith in
@@ -125,25 +125,25 @@ module _ (g : Geometry) (k : ℕ) where
       ap (λ (x : ℕ). max x (s .length - s .«chunk_at» - s .«chunk_blocks»)) a ∙ ap (max (beforeChunk s)) b ∙ larger-max (beforeChunk s) (afterChunk s)
   longest-at false e ok = refl
 
-  longest-is : Sound s → longestIn m k ≡ choose (isFirst s) (larger (beforeChunk s) (afterChunk s)) (afterList s)
+  longest-is : SoundSite s → longestIn m k ≡ choose (hasRootChunk s) (largerCount (beforeChunk s) (afterChunk s)) (afterList s)
   unfolding longestIn
-  longest-is ok = rw (free-is ok, length-is, head-is, list-is, chunk-at-is, chunk-blocks-is, ← first-is) (longest-at (isFirst s) refl ok)
+  longest-is ok = rw (free-is ok, length-is, head-is, list-is, chunk-at-is, chunk-blocks-is, ← first-is) (longest-at (hasRootChunk s) refl ok)
 
-  no-log : eqb k (g .logagno) ≡ false → short s ≡ false
-  unfolding short siteOf
+  no-log : eqb k (g .logagno) ≡ false → listShort s ≡ false
+  unfolding listShort siteOf
   no-log e = rw e
 
   -- no group but the log's is short of blocks
-  pub not-short-at : (t : Bool) → eqb k (g .logagno) ≡ t → short (siteOf g (g .logagno)) ≡ false → short s ≡ false
-  not-short-at true e h = ap (λ (x : ℕ). short (siteOf g x)) (eqb-true k (g .logagno) e) ∙ h
+  pub not-short-at : (t : Bool) → eqb k (g .logagno) ≡ t → listShort (siteOf g (g .logagno)) ≡ false → listShort s ≡ false
+  not-short-at true e h = ap (λ (x : ℕ). listShort (siteOf g x)) (eqb-true k (g .logagno) e) ∙ h
   not-short-at false e h = no-log e
 
-  missing : g .agcount ≤ k → rowIn m k ≡ noRow 29
-  unfolding rowIn
+  missing : g .agcount ≤ k → rowBySummary m k ≡ noRow 29
+  unfolding rowBySummary
   missing h = rw (count-is, le-ltb k (g .agcount) h)
 
-  row-there : Sound s → short s ≡ false → k < g .agcount → rowIn m k ≡ closedRow s
-  unfolding rowIn closedRow lengthIn logIn summaryOf chunkIn freeIn longestIn siteOf
+  row-there : SoundSite s → listShort s ≡ false → k < g .agcount → rowBySummary m k ≡ closedRow s
+  unfolding rowBySummary closedRow lengthIn logBlocksIn summaryOf chunkBlocksIn freeBlocksIn longestIn siteOf
   row-there ok full h =
       rw (count-is, lt-ltb k (g .agcount) h, full, longest-is ok, free-is ok, chunk-is, log-is, length-is, list-is, group-is)
 
@@ -158,7 +158,7 @@ module _ (g : Geometry) (l : length (g .label) ≡ 12) (e : plansNumber g ≡ 0)
   unfolding rowOf planned
   no-row k h = rw (group-missing g k here h)
 
-  row-at : (k : ℕ) (t : Bool) → ltb k (g .agcount) ≡ t → rowIn (summaryOf g) k ≡ rowOf g k
+  row-at : (k : ℕ) (t : Bool) → ltb k (g .agcount) ≡ t → rowBySummary (summaryOf g) k ≡ rowOf g k
   row-at k true i =
       let h = ltb-true k (g .agcount) i in
       row-there g k (site-sound g k l here) (not-short-at g k (eqb k (g .logagno)) refl (all-planned g l e .1)) h
@@ -166,7 +166,7 @@ module _ (g : Geometry) (l : length (g .label) ≡ 12) (e : plansNumber g ≡ 0)
   row-at k false i = missing g k (ltb-false k (g .agcount) i) ∙ sym (no-row k (ltb-false k (g .agcount) i))
 
   -- THE ROWS OF A SUMMARY ARE THE ROWS OF THE PLANS
-  pub rows-agree : (k : ℕ) → rowIn (summaryOf g) k ≡ rowOf g k
+  pub rows-agree : (k : ℕ) → rowBySummary (summaryOf g) k ≡ rowOf g k
   rows-agree k = row-at k (ltb k (g .agcount)) refl
 
   -- ITS TOTAL IS THE SUM OF THE ROWS

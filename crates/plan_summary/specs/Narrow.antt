@@ -11,7 +11,7 @@ use Rattle.plan_site.specs.Sites.{siteOf}
 use Rattle.plan.specs.Plan.{planned}
 use Rattle.plan_totals.specs.Totals.{freeblksOf, longestOf, plansNumber, NarrowRecords}
 use Rattle.plan_summary.specs.declared.Summary.{Summary}
-use Rattle.plan_summary.specs.Summaries.{summaryOf, lengthIn, logIn, chunkIn, freeIn, longestIn}
+use Rattle.plan_summary.specs.Summaries.{summaryOf, lengthIn, logBlocksIn, chunkBlocksIn, freeBlocksIn, longestIn}
 
 -- a summary's numbers of one group
 pub record NarrowSummary (s : Summary) : Type 0 where
@@ -26,13 +26,13 @@ pub record NarrowSummary (s : Summary) : Type 0 where
 -- every number from which the row of group k is worked out, in the order of the differences
 pub record NarrowRow (s : Summary) (k : ℕ) : Type 0 where
   pub length : lengthIn s k < 2 ^ 30
-  pub log : logIn s k < 2 ^ 30
-  pub chunk : chunkIn s k < 2 ^ 30
+  pub log : logBlocksIn s k < 2 ^ 30
+  pub chunk : chunkBlocksIn s k < 2 ^ 30
   -- free: less head, less log, less free list, less chunk
   pub after-head : lengthIn s k - s .head < 2 ^ 30
-  pub after-log : lengthIn s k - s .head - logIn s k < 2 ^ 30
-  pub after-list : lengthIn s k - s .head - logIn s k - s .list < 2 ^ 30
-  pub free : freeIn s k < 2 ^ 30
+  pub after-log : lengthIn s k - s .head - logBlocksIn s k < 2 ^ 30
+  pub after-list : lengthIn s k - s .head - logBlocksIn s k - s .list < 2 ^ 30
+  pub free : freeBlocksIn s k < 2 ^ 30
   -- longest: before the chunk, and after it
   pub head-to-chunk : s .«chunk_at» - s .head < 2 ^ 30
   pub list-to-chunk : s .«chunk_at» - s .head - s .list < 2 ^ 30
@@ -55,8 +55,8 @@ pub record NarrowGroup (g : Geometry) (k : ℕ) : Type 0 where
 -- ---- the bound is near
 
 -- three of the largest groups, of 2^30 − 1 blocks of 1024 bytes, without features
-unfoldable pub largest : Geometry
-largest =
+unfoldable pub largestGroups : Geometry
+largestGroups =
     namedAnswer false
     (record {
       dblocks = 3 * (2 ^ 30 - 1);
@@ -71,9 +71,9 @@ largest =
 
 -- they are an answer of the geometry step, all their plans are accepted, and the last has 2^30 − 10 free blocks in one record
 pub record Near : Type 0 where
-  pub answer : isAnswer largest ≡ true
-  pub plans : plansNumber largest ≡ 0
-  pub free : freeblksOf (planned largest 2 .plan .free) ≡ 2 ^ 30 - 10
-  pub longest : longestOf (planned largest 2 .plan .free) ≡ 2 ^ 30 - 10
-  pub row-free : freeIn (summaryOf largest) 2 ≡ 2 ^ 30 - 10
-  pub row-longest : longestIn (summaryOf largest) 2 ≡ 2 ^ 30 - 10
+  pub answer : isAnswer largestGroups ≡ true
+  pub plans : plansNumber largestGroups ≡ 0
+  pub free : freeblksOf (planned largestGroups 2 .plan .free) ≡ 2 ^ 30 - 10
+  pub longest : longestOf (planned largestGroups 2 .plan .free) ≡ 2 ^ 30 - 10
+  pub row-free : freeBlocksIn (summaryOf largestGroups) 2 ≡ 2 ^ 30 - 10
+  pub row-longest : longestIn (summaryOf largestGroups) 2 ≡ 2 ^ 30 - 10

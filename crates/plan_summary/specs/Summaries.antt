@@ -69,32 +69,32 @@ freeTotals g p =
 unfoldable pub lengthIn : Summary → ℕ → ℕ
 lengthIn s k = when (eqb k (s .agcount - 1)) (s .last) (s .agsize)
 
-unfoldable pub logIn : Summary → ℕ → ℕ
-logIn s k = when (eqb k (s .logagno)) (s .logblocks) 0
+unfoldable pub logBlocksIn : Summary → ℕ → ℕ
+logBlocksIn s k = when (eqb k (s .logagno)) (s .logblocks) 0
 
-unfoldable pub chunkIn : Summary → ℕ → ℕ
-chunkIn s k = when (eqb k 0) (s .chunk) 0
+unfoldable pub chunkBlocksIn : Summary → ℕ → ℕ
+chunkBlocksIn s k = when (eqb k 0) (s .chunk) 0
 
 -- all but head, log, free list and chunk is free
-unfoldable pub freeIn : Summary → ℕ → ℕ
-freeIn s k = lengthIn s k - s .head - logIn s k - s .list - chunkIn s k
+unfoldable pub freeBlocksIn : Summary → ℕ → ℕ
+freeBlocksIn s k = lengthIn s k - s .head - logBlocksIn s k - s .list - chunkBlocksIn s k
 
 -- in one record, but in group 0 before and after the chunk
 unfoldable pub longestIn : Summary → ℕ → ℕ
-longestIn s k = when (eqb k 0) (max (s .«chunk_at» - s .head - s .list) (lengthIn s k - s .«chunk_at» - s .chunk)) (freeIn s k)
+longestIn s k = when (eqb k 0) (max (s .«chunk_at» - s .head - s .list) (lengthIn s k - s .«chunk_at» - s .chunk)) (freeBlocksIn s k)
 
 -- the row of group k, or 29
-unfoldable pub rowIn : Summary → ℕ → Row
-rowIn s k =
+unfoldable pub rowBySummary : Summary → ℕ → Row
+rowBySummary s k =
     choose (ltb k (s .agcount))
     (record {
       number = 0;
       group = k;
       length = lengthIn s k;
-      log = logIn s k;
+      log = logBlocksIn s k;
       list = s .list;
-      chunk = chunkIn s k;
-      free = freeIn s k;
+      chunk = chunkBlocksIn s k;
+      free = freeBlocksIn s k;
       longest = longestIn s k;
     })
     (noRow noPlace)

@@ -3,8 +3,8 @@ ghost use mathlib.Core.Path.{_≡_};
 ghost use mathlib.Core.Bool.{true};
 ghost use Prim.Native.Nat.{_*_, _≤_, _<_, _^_};
 ghost use Rattle.geometry_answers.specs.Named.{isAnswer};
-ghost use Rattle.plan_site.specs.Sites.{siteOf, Sound};
-ghost use Rattle.plan_closed.specs.Closed.{short};
+ghost use Rattle.plan_site.specs.Sites.{siteOf, SoundSite};
+ghost use Rattle.plan_closed.specs.Closed.{listShort};
 ghost use Rattle.plan_totals.specs.Totals.{plansNumber, freeCountAnswer, constCount, closedTotal};
 ghost use Rattle.plan_summary.specs.Summaries.{summaryOf, noSummary, summarised};
 
@@ -74,8 +74,8 @@ fn refused(n: u32) -> Summarised
 
 // The log group at this site is short of blocks for its free list.
 fn is_short(s: Site) -> bool
-    requires { ⌜ (Sound s) × (s .«has_log» ≡ true) ⌝ }
-    ensures { λ r. ⌜ r ≡ short s ⌝ }
+    requires { ⌜ (SoundSite s) × (s .«has_log» ≡ true) ⌝ }
+    ensures { λ r. ⌜ r ≡ listShort s ⌝ }
 {
     let after = s.log_at + s.log_blocks;
     minus_u32(s.length, after) < s.need

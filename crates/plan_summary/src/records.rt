@@ -6,7 +6,7 @@ ghost use Rattle.seqs.specs.Lists.{choose};
 ghost use Rattle.geometry_counts.specs.declared.Value32.the-variants.{Refused, Of};
 ghost use Rattle.geometry_counts.specs.Known.{known32};
 ghost use Rattle.plan_same.specs.Same.{isPlan};
-ghost use Rattle.plan_totals.specs.Totals.{larger, freeblksOf, longestOf, NarrowRecords};
+ghost use Rattle.plan_totals.specs.Totals.{largerCount, freeblksOf, longestOf, NarrowRecords};
 ghost use Rattle.plan_summary.specs.Summaries.{freeTotals};
 use geometry::Geometry;
 use geometry_counts::Value32;
@@ -22,7 +22,7 @@ pub struct FreeTotals {
 }
 
 fn larger_of(a: u32, b: u32) -> u32
-    ensures { λ n. ⌜ n ≡ larger a b ⌝ }
+    ensures { λ n. ⌜ n ≡ largerCount a b ⌝ }
 {
     if a < b { b } else { a }
 }

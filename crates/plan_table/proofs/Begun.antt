@@ -12,9 +12,9 @@ use Rattle.geometry.specs.declared.Geometry.{Geometry}
 use Rattle.plan_totals.specs.declared.Row.{Row}
 use Rattle.plan_totals.specs.declared.Total.{Total}
 use Rattle.plan_totals.specs.Totals.{plansNumber, noRow, rowOf, totalOf}
-use Rattle.plan_summary.specs.Summaries.{summaryOf, rowIn}
+use Rattle.plan_summary.specs.Summaries.{summaryOf, rowBySummary}
 use Rattle.plan_summary.proofs.Rows.{rows-agree}
-use Rattle.plan_orders.specs.Orders.{falling, addedBy, totalBy}
+use Rattle.plan_orders.specs.Orders.{fallingGroups, addedBy, totalBy}
 use Rattle.plan_orders.proofs.Sums.{falling-more, none-added}
 use Rattle.plan_orders.proofs.Orders.{falling-whole}
 use Rattle.plan_orders.proofs.Groups.{same-totals, adds-falling}
@@ -22,17 +22,17 @@ use Rattle.run.specs.Runs.{accepted}
 use Rattle.run.proofs.Accepted.{plans-zero}
 use Rattle.plan_table.specs.declared.Table.{Table}
 use Rattle.plan_table.specs.Printed.{rowLine, totalLine, rowLines, tableBytes, tableOr, tableAnswer, noDiskBytes, planBytes, rowAnswer}
-use Rattle.plan_table.specs.Filling.{noSums, refusal, whole, begunTable, noDisk, begun, lineOf, withRow, sumsAfter, afterLine, afterLines, linesOf, joined, restOf}
+use Rattle.plan_table.specs.Filling.{noSums, tableRefused, wholeTable, begunTable, noDisk, tableBegun, lineOf, withRow, sumsAfter, afterLine, afterLines, linesOf, linesJoined, restOf}
 use Rattle.plan_table.proofs.Parts.{line-more}
 
 -- ---- a refusal
 
-refusal-line : (n : ℕ) → (n ≡ 0 → ⊥) → lineOf (refusal n) ≡ refusedBytes n
+refusal-line : (n : ℕ) → (n ≡ 0 → ⊥) → lineOf (tableRefused n) ≡ refusedBytes n
 unfolding lineOf
 refusal-line n h = rw (ne-eqb n 0 h)
 
-pub refusal-rest : (n : ℕ) → (n ≡ 0 → ⊥) → restOf (refusal n) ≡ refusedBytes n
-unfolding linesOf joined
+pub refusal-rest : (n : ℕ) → (n ≡ 0 → ⊥) → restOf (tableRefused n) ≡ refusedBytes n
+unfolding linesOf linesJoined
 refusal-rest n h = rw (refusal-line n h) (append-nil (refusedBytes n))
 
 -- ---- a table
@@ -50,23 +50,23 @@ module _ (g : Geometry) where
   unfolding summaryOf
   count-is = refl
 
-  header-line : lineOf (whole g) ≡ headerBytes
+  header-line : lineOf (wholeTable g) ≡ headerBytes
   unfolding lineOf
   header-line = rw (count-is, lt-leb (g .agcount + 2) 1 (omega arith), lt-leb (g .agcount + 2 - 1) (g .agcount) (omega arith))
 
-  header-after : afterLine (whole g) ≡ rowsLeft (g .agcount) noSums
+  header-after : afterLine (wholeTable g) ≡ rowsLeft (g .agcount) noSums
   unfolding sumsAfter
   header-after =
       let e : g .agcount + 2 - 1 ≡ suc (g .agcount) = omega arith in
       rw (count-is, lt-leb (g .agcount + 2) 1 (omega arith), lt-leb (g .agcount + 2 - 1) (g .agcount) (omega arith), e)
 
-  row-line : (n : ℕ) (s : Total) → suc n ≤ g .agcount → lineOf (rowsLeft (suc n) s) ≡ rowLine (rowIn (summaryOf g) (g .agcount - suc n))
+  row-line : (n : ℕ) (s : Total) → suc n ≤ g .agcount → lineOf (rowsLeft (suc n) s) ≡ rowLine (rowBySummary (summaryOf g) (g .agcount - suc n))
   unfolding lineOf
   row-line n s h =
       let e : suc (suc n) - 1 ≡ suc n = omega arith in
       rw (count-is, lt-leb (suc (suc n)) 1 (omega arith), e, le-leb (suc n) (g .agcount) h)
 
-  row-after : (n : ℕ) (s : Total) → suc n ≤ g .agcount → afterLine (rowsLeft (suc n) s) ≡ rowsLeft n (withRow s (rowIn (summaryOf g) n))
+  row-after : (n : ℕ) (s : Total) → suc n ≤ g .agcount → afterLine (rowsLeft (suc n) s) ≡ rowsLeft n (withRow s (rowBySummary (summaryOf g) n))
   unfolding sumsAfter
   row-after n s h =
       let e : suc (suc n) - 1 ≡ suc n = omega arith in
@@ -77,18 +77,18 @@ module _ (g : Geometry) where
   unfolding lineOf
   last-line s = refl
 
-  last-rest : (s : Total) → joined (linesOf 1 (rowsLeft 0 s)) ≡ totalLine s
-  unfolding linesOf joined
+  last-rest : (s : Total) → linesJoined (linesOf 1 (rowsLeft 0 s)) ≡ totalLine s
+  unfolding linesOf linesJoined
   last-rest s = ap (λ (x : List ℕ). x ++ []) (last-line s) ∙ append-nil (totalLine s)
 
   module _ (l : length (g .label) ≡ 12) (e : plansNumber g ≡ 0) where
     -- the sums over the first j groups, counted from the last
     abbrev pub fallen : ℕ → Total
-    fallen j = totalBy g (take j (falling (g .agcount)))
+    fallen j = totalBy g (take j (fallingGroups (g .agcount)))
 
     -- one row more of a column, in 64 bits
-    column-more : (f : ℕ → ℕ) (j : ℕ) → j < g .agcount → addedBy f (take (suc j) (falling (g .agcount))) < 2 ^ 64
-        → (addedBy f (take j (falling (g .agcount))) + f (g .agcount - 1 - j)) % 2 ^ 64 ≡ addedBy f (take (suc j) (falling (g .agcount)))
+    column-more : (f : ℕ → ℕ) (j : ℕ) → j < g .agcount → addedBy f (take (suc j) (fallingGroups (g .agcount))) < 2 ^ 64
+        → (addedBy f (take j (fallingGroups (g .agcount))) + f (g .agcount - 1 - j)) % 2 ^ 64 ≡ addedBy f (take (suc j) (fallingGroups (g .agcount)))
     column-more f j h m = let w = falling-more f j (g .agcount) h in omega arith
 
     row-added : (j : ℕ) → j < g .agcount → withRow (fallen j) (rowOf g (g .agcount - 1 - j)) ≡ fallen (suc j)
@@ -114,7 +114,7 @@ module _ (g : Geometry) where
 
     none-fallen : fallen 0 ≡ noSums
     none-fallen =
-        let ks = falling (g .agcount) in
+        let ks = fallingGroups (g .agcount) in
         same-totals
         (none-added (λ k. rowOf g k .length) ks)
         (none-added (λ k. rowOf g k .log) ks)
@@ -123,19 +123,19 @@ module _ (g : Geometry) where
         (none-added (λ k. rowOf g k .free) ks)
 
     -- ROWS ARE ADDED FALLING: behind the header and j rows the sums are those over the last j groups, the last one first
-    pub added-falling : (j : ℕ) → j ≤ g .agcount → afterLines (suc j) (whole g) ≡ rowsLeft (g .agcount - j) (fallen j)
+    pub added-falling : (j : ℕ) → j ≤ g .agcount → afterLines (suc j) (wholeTable g) ≡ rowsLeft (g .agcount - j) (fallen j)
     added-falling zero h =
         let z : g .agcount ≡ g .agcount - 0 = omega arith in
-        line-more 0 (whole g) ∙ none-yet ∙ header-after ∙ ap (rowsLeft (g .agcount)) (sym none-fallen) ∙ ap (λ (n : ℕ). rowsLeft n (fallen 0)) z
+        line-more 0 (wholeTable g) ∙ none-yet ∙ header-after ∙ ap (rowsLeft (g .agcount)) (sym none-fallen) ∙ ap (λ (n : ℕ). rowsLeft n (fallen 0)) z
       where
-        none-yet : afterLine (afterLines 0 (whole g)) ≡ afterLine (whole g)
-        none-yet = ap (λ (t : Table). afterLine t) (no-lines (whole g))
+        none-yet : afterLine (afterLines 0 (wholeTable g)) ≡ afterLine (wholeTable g)
+        none-yet = ap (λ (t : Table). afterLine t) (no-lines (wholeTable g))
     added-falling (suc j) h =
         let n = g .agcount - suc j in
         let a : g .agcount - j ≡ suc n = omega arith in
         let b : j ≡ g .agcount - suc n = omega arith in
         let c : g .agcount - n ≡ suc j = omega arith in
-        line-more (suc j) (whole g)
+        line-more (suc j) (wholeTable g)
         ∙ ap (λ (t : Table). afterLine t) (added-falling j (omega arith) ∙ ap (λ (x : ℕ). rowsLeft x (fallen j)) a ∙ ap (λ (x : ℕ). rowsLeft (suc n) (fallen x)) b)
         ∙ next-state n (omega arith)
         ∙ ap (λ (x : ℕ). rowsLeft n (fallen x)) c
@@ -147,25 +147,25 @@ module _ (g : Geometry) where
     unfolding rowLines
     rows-more k = refl
 
-    lines-more : (n : ℕ) (t : Table) → joined (linesOf (suc n) t) ≡ lineOf t ++ joined (linesOf n (afterLine t))
-    unfolding linesOf joined
+    lines-more : (n : ℕ) (t : Table) → linesJoined (linesOf (suc n) t) ≡ lineOf t ++ linesJoined (linesOf n (afterLine t))
+    unfolding linesOf linesJoined
     lines-more n t = refl
 
     -- the rows before the last n, and the last n and the sums
     rows-and-rest : (n : ℕ) → n ≤ g .agcount
-        → rowLines g (g .agcount - n) ++ joined (linesOf (suc n) (rowsLeft n (fallen (g .agcount - n)))) ≡ rowLines g (g .agcount) ++ totalLine (totalOf g)
+        → rowLines g (g .agcount - n) ++ linesJoined (linesOf (suc n) (rowsLeft n (fallen (g .agcount - n)))) ≡ rowLines g (g .agcount) ++ totalLine (totalOf g)
     rows-and-rest zero h =
         let z : g .agcount - 0 ≡ g .agcount = omega arith in
-        ap (λ (x : ℕ). rowLines g x ++ joined (linesOf 1 (rowsLeft 0 (fallen x)))) z
+        ap (λ (x : ℕ). rowLines g x ++ linesJoined (linesOf 1 (rowsLeft 0 (fallen x)))) z
         ∙ ap (λ (x : List ℕ). rowLines g (g .agcount) ++ x) (last-rest (fallen (g .agcount)) ∙ ap totalLine all-fallen)
     rows-and-rest (suc n) h =
         let k = g .agcount - suc n in
         let t = rowsLeft (suc n) (fallen k) in
         let z : suc k ≡ g .agcount - n = omega arith in
         let r : lineOf t ≡ rowLine (rowOf g k) = row-line n (fallen k) h ∙ ap rowLine (rows-agree g l e k) in
-        let rest = joined (linesOf (suc n) (rowsLeft n (fallen (g .agcount - n)))) in
+        let rest = linesJoined (linesOf (suc n) (rowsLeft n (fallen (g .agcount - n)))) in
         ap (λ (x : List ℕ). rowLines g k ++ x)
-        (lines-more (suc n) t ∙ ap (λ (x : Table). lineOf t ++ joined (linesOf (suc n) x)) (next-state n h) ∙ ap (λ (x : List ℕ). x ++ rest) r)
+        (lines-more (suc n) t ∙ ap (λ (x : Table). lineOf t ++ linesJoined (linesOf (suc n) x)) (next-state n h) ∙ ap (λ (x : List ℕ). x ++ rest) r)
         ∙ sym (append-assoc (rowLines g k) (rowLine (rowOf g k)) rest)
         ∙ ap (λ (x : List ℕ). x ++ rest) (rows-more k ∙ ap (rowLines g) z)
         ∙ rows-and-rest n (omega arith)
@@ -179,15 +179,15 @@ module _ (g : Geometry) where
     table-is = refl
 
     -- ALL LINES OF A TABLE ARE THE TABLE
-    pub table-rest : restOf (whole g) ≡ tableBytes g
+    pub table-rest : restOf (wholeTable g) ≡ tableBytes g
     table-rest =
         let z : g .agcount + 2 ≡ suc (suc (g .agcount)) = omega arith in
         let d : g .agcount - g .agcount ≡ 0 = omega arith in
-        let first : afterLine (whole g) ≡ rowsLeft (g .agcount) (fallen (g .agcount - g .agcount)) = header-after ∙ ap (rowsLeft (g .agcount)) (sym none-fallen ∙ ap fallen (sym d)) in
-        let rest = joined (linesOf (suc (g .agcount)) (rowsLeft (g .agcount) (fallen (g .agcount - g .agcount)))) in
-        ap (λ (n : ℕ). joined (linesOf n (whole g))) z
-        ∙ lines-more (suc (g .agcount)) (whole g)
-        ∙ ap (λ (x : Table). lineOf (whole g) ++ joined (linesOf (suc (g .agcount)) x)) first
+        let first : afterLine (wholeTable g) ≡ rowsLeft (g .agcount) (fallen (g .agcount - g .agcount)) = header-after ∙ ap (rowsLeft (g .agcount)) (sym none-fallen ∙ ap fallen (sym d)) in
+        let rest = linesJoined (linesOf (suc (g .agcount)) (rowsLeft (g .agcount) (fallen (g .agcount - g .agcount)))) in
+        ap (λ (n : ℕ). linesJoined (linesOf n (wholeTable g))) z
+        ∙ lines-more (suc (g .agcount)) (wholeTable g)
+        ∙ ap (λ (x : Table). lineOf (wholeTable g) ++ linesJoined (linesOf (suc (g .agcount)) x)) first
         ∙ ap (λ (x : List ℕ). x ++ rest) header-line
         ∙ ap (λ (x : List ℕ). headerBytes ++ x) (ap (λ (x : List ℕ). x ++ rest) (no-rows d) ∙ rows-and-rest (g .agcount) (omega arith))
         ∙ table-is
@@ -195,11 +195,11 @@ module _ (g : Geometry) where
 -- ---- what a beginning answers
 
 module _ (g : Geometry) where
-  pub begun-refused : (plansNumber g ≡ 0 → ⊥) → (refusal (plansNumber g) ≡ begunTable g) × (restOf (refusal (plansNumber g)) ≡ tableAnswer g)
+  pub begun-refused : (plansNumber g ≡ 0 → ⊥) → (tableRefused (plansNumber g) ≡ begunTable g) × (restOf (tableRefused (plansNumber g)) ≡ tableAnswer g)
   unfolding begunTable tableAnswer
   begun-refused h = (rw (ne-eqb (plansNumber g) 0 h), refusal-rest (plansNumber g) h ∙ rw (ne-eqb (plansNumber g) 0 h))
 
-  pub begun-whole : length (g .label) ≡ 12 → plansNumber g ≡ 0 → (whole g ≡ begunTable g) × (restOf (whole g) ≡ tableAnswer g)
+  pub begun-whole : length (g .label) ≡ 12 → plansNumber g ≡ 0 → (wholeTable g ≡ begunTable g) × (restOf (wholeTable g) ≡ tableAnswer g)
   unfolding begunTable tableAnswer
   begun-whole l e = (rw (eq-eqb (plansNumber g) 0 e), table-rest g l e ∙ rw (eq-eqb (plansNumber g) 0 e))
 
@@ -211,25 +211,25 @@ row-refused g k {m} e h = rw (← e, ne-eqb m 0 h) refl
 -- ---- what an input answers
 
 pub no-disk-rest : restOf noDisk ≡ noDiskBytes
-unfolding lineOf sumsAfter linesOf joined noDiskBytes
+unfolding lineOf sumsAfter linesOf linesJoined noDiskBytes
 no-disk-rest = ap (λ (x : List ℕ). headerBytes ++ x) (append-nil (totalLine noSums))
 
-pub input-empty : (xs : List ℕ) → length xs ≡ 0 → (noDisk ≡ begun xs) × (noDiskBytes ≡ planBytes xs)
-unfolding begun planBytes
+pub input-empty : (xs : List ℕ) → length xs ≡ 0 → (noDisk ≡ tableBegun xs) × (noDiskBytes ≡ planBytes xs)
+unfolding tableBegun planBytes
 input-empty [] e = (refl, refl)
 input-empty (x ∷ xs) e = absurd (omega arith)
 
 pub input-refused : (xs : List ℕ) → (length xs ≡ 0 → ⊥) → (accepted xs .number ≡ 0 → ⊥)
-    → (refusal (accepted xs .number) ≡ begun xs) × (restOf (refusal (accepted xs .number)) ≡ planBytes xs)
-unfolding begun planBytes
+    → (tableRefused (accepted xs .number) ≡ tableBegun xs) × (restOf (tableRefused (accepted xs .number)) ≡ planBytes xs)
+unfolding tableBegun planBytes
 input-refused [] some h = absurd (some refl)
 input-refused (x ∷ xs) some h =
     let n = accepted (x ∷ xs) .number in
     (rw (ne-eqb n 0 h), refusal-rest n h ∙ rw (ne-eqb n 0 h))
 
 pub input-accepted : (xs : List ℕ) → (length xs ≡ 0 → ⊥) → accepted xs .number ≡ 0
-    → (begunTable (accepted xs .geometry) ≡ begun xs) × (tableAnswer (accepted xs .geometry) ≡ planBytes xs)
-unfolding begun planBytes tableAnswer
+    → (begunTable (accepted xs .geometry) ≡ tableBegun xs) × (tableAnswer (accepted xs .geometry) ≡ planBytes xs)
+unfolding tableBegun planBytes tableAnswer
 input-accepted [] some e = absurd (some refl)
 input-accepted (x ∷ xs) some e =
     let n = accepted (x ∷ xs) .number in

@@ -18,21 +18,21 @@ use Rattle.table_lines.proofs.Longest.{row-most}
 use Rattle.geometry.specs.declared.Geometry.{Geometry}
 use Rattle.geometry_answers.specs.Named.{isAnswer}
 use Rattle.plan_site.specs.declared.Site.{Site}
-use Rattle.plan_site.specs.Sites.{siteOf, Sound}
+use Rattle.plan_site.specs.Sites.{siteOf, SoundSite}
 use Rattle.plan_site.proofs.Sites.{site-sound}
-use Rattle.plan_closed.specs.Closed.{short, isFirst}
+use Rattle.plan_closed.specs.Closed.{listShort, hasRootChunk}
 use Rattle.plan_totals.specs.declared.Row.{Row}
 use Rattle.plan_totals.specs.declared.Total.{Total}
-use Rattle.plan_totals.specs.Totals.{plansNumber, larger, beforeChunk, afterChunk, afterList, closedRow}
+use Rattle.plan_totals.specs.Totals.{plansNumber, largerCount, beforeChunk, afterChunk, afterList, closedRow}
 use Rattle.plan_totals.proofs.Rows.{row-closed}
 use Rattle.plan_totals.proofs.Whole.{all-planned}
-use Rattle.plan_summary.specs.Summaries.{summaryOf, noSummary, rowIn}
+use Rattle.plan_summary.specs.Summaries.{summaryOf, noSummary, rowBySummary}
 use Rattle.plan_summary.proofs.Laws.{few-groups}
 use Rattle.plan_summary.proofs.Rows.{rows-agree}
-use Rattle.plan_orders.specs.Orders.{Fits}
+use Rattle.plan_orders.specs.Orders.{SumsFit}
 use Rattle.plan_table.specs.declared.Table.{Table}
 use Rattle.plan_table.specs.Printed.{rowLine, totalLine, tableBytes}
-use Rattle.plan_table.specs.Filling.{noSums, refusal, whole, withRow, sumsAfter, afterLines, Short, LongEnough, lineOf, partsOf}
+use Rattle.plan_table.specs.Filling.{noSums, tableRefused, wholeTable, withRow, sumsAfter, afterLines, Short, LongEnough, lineOf, partsOf}
 use Rattle.plan_table.proofs.Begun.{refusal-rest, table-rest}
 use Rattle.plan_table.proofs.Short.{parts-whole}
 
@@ -50,7 +50,7 @@ no-numbers : length (line []) ≡ 0
 unfolding line
 no-numbers = refl
 
-total-short : (t : Total) → Fits t → length (totalLine t) ≤ 147
+total-short : (t : Total) → SumsFit t → length (totalLine t) ≤ 147
 unfolding totalBytes
 total-short t h =
     let ns = t .length ∷ t .log ∷ t .list ∷ t .chunk ∷ t .free ∷ [] in
@@ -74,19 +74,19 @@ refusals-short n h b zero left t = rw (ne-eqb n 0 h) (refused-short n b)
 refusals-short n h b (suc k) left t =
     refusals-short n h b k (left - 1) (sumsAfter (record { number = n; left = left; summary = noSummary; sums = t }))
 
-refusal-short : (n : ℕ) → (n ≡ 0 → ⊥) → n < 2 ^ 64 → Short (refusal n)
+refusal-short : (n : ℕ) → (n ≡ 0 → ⊥) → n < 2 ^ 64 → Short (tableRefused n)
 refusal-short n h b k = refusals-short n h b k 1 noSums
 
 -- A REFUSAL IS ONE PART: its line, in a buffer of 147 bytes or more
-pub refused-whole : (n : ℕ) → (n ≡ 0 → ⊥) → n < 2 ^ 64 → (m : ℕ) → 147 ≤ m → partsOf (refusal n) (m ∷ []) ≡ refusedBytes n
-refused-whole n h b m e = parts-whole (refusal n) (m ∷ []) (refusal-short n h b) (e, tt) (omega arith) ∙ refusal-rest n h
+pub refused-whole : (n : ℕ) → (n ≡ 0 → ⊥) → n < 2 ^ 64 → (m : ℕ) → 147 ≤ m → partsOf (tableRefused n) (m ∷ []) ≡ refusedBytes n
+refused-whole n h b m e = parts-whole (tableRefused n) (m ∷ []) (refusal-short n h b) (e, tt) (omega arith) ∙ refusal-rest n h
 
 -- ---- a row
 
 abbrev numbers : Row → List ℕ
 numbers r = r .group ∷ r .length ∷ r .log ∷ r .list ∷ r .chunk ∷ r .free ∷ r .longest ∷ []
 
-module _ (s : Site) (ok : Sound s) (few : s .agno < 2 ^ 64) where
+module _ (s : Site) (ok : SoundSite s) (few : s .agno < 2 ^ 64) where
   abbrev m : ℕ
   m = 2 ^ 64
 
@@ -102,7 +102,7 @@ module _ (s : Site) (ok : Sound s) (few : s .agno < 2 ^ 64) where
   list-fits : afterList s < m
   list-fits = let w = ok .length-most in omega arith
 
-  closed-at : (t : Bool) → short s ≡ t → below m (numbers (closedRow s))
+  closed-at : (t : Bool) → listShort s ≡ t → below m (numbers (closedRow s))
   unfolding closedRow
   closed-at true e = rw e (lit< tt, (lit< tt, (lit< tt, (lit< tt, (lit< tt, (lit< tt, (lit< tt, tt)))))))
   closed-at false e =
@@ -119,11 +119,11 @@ module _ (s : Site) (ok : Sound s) (few : s .agno < 2 ^ 64) where
             (
               omega arith,
               (
-                choose-lt (isFirst s) (s .«chunk_blocks») 0 m (omega arith) (lit< tt),
+                choose-lt (hasRootChunk s) (s .«chunk_blocks») 0 m (omega arith) (lit< tt),
                 (
-                  choose-lt (isFirst s) (beforeChunk s + afterChunk s) (afterList s) m (omega arith) list-fits,
+                  choose-lt (hasRootChunk s) (beforeChunk s + afterChunk s) (afterList s) m (omega arith) list-fits,
                   (
-                    choose-lt (isFirst s) (larger (beforeChunk s) (afterChunk s)) (afterList s) m (choose-lt (ltb (beforeChunk s) (afterChunk s)) (afterChunk s) (beforeChunk s) m after-fits before-fits) list-fits,
+                    choose-lt (hasRootChunk s) (largerCount (beforeChunk s) (afterChunk s)) (afterList s) m (choose-lt (ltb (beforeChunk s) (afterChunk s)) (afterChunk s) (beforeChunk s) m after-fits before-fits) list-fits,
                     tt,
                   ),
                 ),
@@ -135,19 +135,19 @@ module _ (s : Site) (ok : Sound s) (few : s .agno < 2 ^ 64) where
 
 -- ---- sums in 64 bits
 
-row-fits : (t : Total) (r : Row) → Fits (withRow t r)
+row-fits : (t : Total) (r : Row) → SumsFit (withRow t r)
 unfolding withRow
 row-fits t r = record { length = omega arith; log = omega arith; list = omega arith; chunk = omega arith; free = omega arith }
 
-still-fits : (s : Table) → Fits (s .sums) → Fits (sumsAfter s)
+still-fits : (s : Table) → SumsFit (s .sums) → SumsFit (sumsAfter s)
 unfolding sumsAfter
 still-fits s h =
-    choose-elim Fits (eqb (s .number) 0) _ _
-    (λ a. choose-elim Fits (leb (s .left) 1) _ _ (λ b. h)
-    (λ b. choose-elim Fits (leb (s .left - 1) (s .summary .agcount)) _ _ (λ c. row-fits (s .sums) _) (λ c. h)))
+    choose-elim SumsFit (eqb (s .number) 0) _ _
+    (λ a. choose-elim SumsFit (leb (s .left) 1) _ _ (λ b. h)
+    (λ b. choose-elim SumsFit (leb (s .left - 1) (s .summary .agcount)) _ _ (λ c. row-fits (s .sums) _) (λ c. h)))
     (λ a. h)
 
-none-fits : Fits noSums
+none-fits : SumsFit noSums
 none-fits = record { length = lit< tt; log = lit< tt; list = lit< tt; chunk = lit< tt; free = lit< tt }
 
 -- ---- a table
@@ -160,36 +160,36 @@ module _ (g : Geometry) (l : length (g .label) ≡ 12) (e : plansNumber g ≡ 0)
   unfolding siteOf
   group-is k = refl
 
-  row-short : (k : ℕ) → k < g .agcount → length (rowLine (rowIn (summaryOf g) k)) ≤ 147
+  row-short : (k : ℕ) → k < g .agcount → length (rowLine (rowBySummary (summaryOf g) k)) ≤ 147
   row-short k h =
       let f = few-groups g l here in
       let z = group-is k in
-      let r : rowIn (summaryOf g) k ≡ closedRow (siteOf g k) = rows-agree g l e k ∙ row-closed g l here k h in
+      let r : rowBySummary (summaryOf g) k ≡ closedRow (siteOf g k) = rows-agree g l e k ∙ row-closed g l here k h in
       rw r
       (row-most
       (record { group = closedRow (siteOf g k) .group; length = closedRow (siteOf g k) .length; log = closedRow (siteOf g k) .log; list = closedRow (siteOf g k) .list; chunk = closedRow (siteOf g k) .chunk; free = closedRow (siteOf g k) .free; longest = closedRow (siteOf g k) .longest })
-      (closed-at (siteOf g k) (site-sound g k l here) (omega arith) (short (siteOf g k)) refl))
+      (closed-at (siteOf g k) (site-sound g k l here) (omega arith) (listShort (siteOf g k)) refl))
 
   abbrev state : ℕ → Total → Table
   state left t = record { number = 0; left = left; summary = summaryOf g; sums = t }
 
-  line-short : (n : ℕ) (t : Total) → Fits t → length (lineOf (state n t)) ≤ 147
+  line-short : (n : ℕ) (t : Total) → SumsFit t → length (lineOf (state n t)) ≤ 147
   unfolding lineOf summaryOf
   line-short n t h =
       choose-elim (λ (x : List ℕ). length x ≤ 147) (leb n 1) (totalLine t) _ (λ a. total-short t h)
       (λ a.
-      choose-elim (λ (x : List ℕ). length x ≤ 147) (leb (n - 1) (g .agcount)) (rowLine (rowIn (summaryOf g) (g .agcount - (n - 1)))) headerBytes
+      choose-elim (λ (x : List ℕ). length x ≤ 147) (leb (n - 1) (g .agcount)) (rowLine (rowBySummary (summaryOf g) (g .agcount - (n - 1)))) headerBytes
       (λ b. row-short (g .agcount - (n - 1)) (let u = leb-false n 1 a in let v = leb-true (n - 1) (g .agcount) b in omega arith))
       (λ b. header-short))
 
-  lines-short : (k n : ℕ) (t : Total) → Fits t → length (lineOf (afterLines k (state n t))) ≤ 147
+  lines-short : (k n : ℕ) (t : Total) → SumsFit t → length (lineOf (afterLines k (state n t))) ≤ 147
   unfolding turns
   lines-short zero n t h = line-short n t h
   lines-short (suc k) n t h = lines-short k (n - 1) (sumsAfter (state n t)) (still-fits (state n t) h)
 
-  short-whole : Short (whole g)
+  short-whole : Short (wholeTable g)
   short-whole k = lines-short k (g .agcount + 2) noSums none-fits
 
   -- THE PARTS OF A TABLE ARE THE TABLE: in buffers of 147 bytes and more, as many as it has lines or more
-  pub table-whole : (ns : List ℕ) → LongEnough ns → g .agcount + 2 ≤ length ns → partsOf (whole g) ns ≡ tableBytes g
-  table-whole ns h k = parts-whole (whole g) ns short-whole h k ∙ table-rest g l e
+  pub table-whole : (ns : List ℕ) → LongEnough ns → g .agcount + 2 ≤ length ns → partsOf (wholeTable g) ns ≡ tableBytes g
+  table-whole ns h k = parts-whole (wholeTable g) ns short-whole h k ∙ table-rest g l e

@@ -10,23 +10,23 @@ use lib.Dec.{ltb, leb, eqb}
 use lib.ListN.{length, drop, replicate}
 use Rattle.seqs.specs.Lists.{both, choose, turns}
 use Rattle.plan_table.specs.declared.Table.{Table}
-use Rattle.plan_table.specs.Filling.{afterLine, afterLines, linesOf, joined, restOf, fitting, partLines, partOf, nextOf, filled, partsOf, afterParts, Reached, Printing}
+use Rattle.plan_table.specs.Filling.{afterLine, afterLines, linesOf, linesJoined, restOf, linesFitting, partLines, tablePart, tableBehind, tableFilled, partsOf, afterParts, ReachedByParts, Printing}
 
 -- ---- one part
 
 -- the lines that fit are the first ones
 abbrev First : List (List ℕ) → List (List ℕ) → Type 0
-First ls fs = joined fs ++ joined (drop (length fs) ls) ≡ joined ls
+First ls fs = linesJoined fs ++ linesJoined (drop (length fs) ls) ≡ linesJoined ls
 
 first-at : (l : List ℕ) (ls fs : List (List ℕ)) (t : Bool) → First ls fs → First (l ∷ ls) (choose t (l ∷ fs) [])
-unfolding joined
-first-at l ls fs true e = append-assoc l (joined fs) (joined (drop (length fs) ls)) ∙ ap (λ (x : List ℕ). l ++ x) e
+unfolding linesJoined
+first-at l ls fs true e = append-assoc l (linesJoined fs) (linesJoined (drop (length fs) ls)) ∙ ap (λ (x : List ℕ). l ++ x) e
 first-at l ls fs false e = refl
 
-fitting-first : (n at : ℕ) (ls : List (List ℕ)) → First ls (fitting n at ls)
-unfolding fitting joined
+fitting-first : (n at : ℕ) (ls : List (List ℕ)) → First ls (linesFitting n at ls)
+unfolding linesFitting linesJoined
 fitting-first n at [] = refl
-fitting-first n at (l ∷ ls) = first-at l ls (fitting n (at + length l) ls) (leb (at + length l) n) (fitting-first n (at + length l) ls)
+fitting-first n at (l ∷ ls) = first-at l ls (linesFitting n (at + length l) ls) (leb (at + length l) n) (fitting-first n (at + length l) ls)
 
 -- what is left behind k lines
 pub left-after : (k : ℕ) (t : Table) → afterLines k t .left ≡ t .left - k
@@ -48,13 +48,13 @@ drop-lines (suc k) zero t = let e : 0 - suc k ≡ 0 = omega arith in rw e
 drop-lines (suc k) (suc n) t = let e : suc n - suc k ≡ n - k = omega arith in rw e (drop-lines k n (afterLine t))
 
 -- A PART AND WHAT IS LEFT BEHIND IT ARE WHAT WAS LEFT, whatever the buffer's length
-pub part-rest : (t : Table) (n : ℕ) → partOf t n ++ restOf (nextOf t n) ≡ restOf t
+pub part-rest : (t : Table) (n : ℕ) → tablePart t n ++ restOf (tableBehind t n) ≡ restOf t
 unfolding partLines
 part-rest t n =
     let ls = linesOf (t .left) t in
-    let k = length (fitting n 0 ls) in
-    ap (λ (m : ℕ). joined (fitting n 0 ls) ++ joined (linesOf m (afterLines k t))) (left-after k t)
-    ∙ ap (λ (x : List (List ℕ)). joined (fitting n 0 ls) ++ joined x) (sym (drop-lines k (t .left) t))
+    let k = length (linesFitting n 0 ls) in
+    ap (λ (m : ℕ). linesJoined (linesFitting n 0 ls) ++ linesJoined (linesOf m (afterLines k t))) (left-after k t)
+    ∙ ap (λ (x : List (List ℕ)). linesJoined (linesFitting n 0 ls) ++ linesJoined x) (sym (drop-lines k (t .left) t))
     ∙ fitting-first n 0 ls
 
 -- ---- all parts
@@ -64,12 +64,12 @@ pub parts-rest : (t : Table) (ns : List ℕ) → partsOf t ns ++ restOf (afterPa
 unfolding partsOf afterParts
 parts-rest t [] = refl
 parts-rest t (n ∷ ns) =
-    append-assoc (partOf t n) (partsOf (nextOf t n) ns) (restOf (afterParts (nextOf t n) ns))
-    ∙ ap (λ (x : List ℕ). partOf t n ++ x) (parts-rest (nextOf t n) ns)
+    append-assoc (tablePart t n) (partsOf (tableBehind t n) ns) (restOf (afterParts (tableBehind t n) ns))
+    ∙ ap (λ (x : List ℕ). tablePart t n ++ x) (parts-rest (tableBehind t n) ns)
     ∙ part-rest t n
 
 none-left : (t : Table) → t .left ≡ 0 → restOf t ≡ []
-unfolding linesOf joined
+unfolding linesOf linesJoined
 none-left t e = rw e
 
 -- where no line is left behind them, the parts are the whole
@@ -80,13 +80,13 @@ parts-done t ns e =
 -- ---- parts of one length
 
 -- one part more
-pub one-more : (t : Table) (n k : ℕ) → afterParts t (replicate (suc k) n) ≡ nextOf (afterParts t (replicate k n)) n
+pub one-more : (t : Table) (n k : ℕ) → afterParts t (replicate (suc k) n) ≡ tableBehind (afterParts t (replicate k n)) n
 unfolding afterParts
 one-more t n zero = refl
-one-more t n (suc k) = one-more (nextOf t n) n k
+one-more t n (suc k) = one-more (tableBehind t n) n k
 
-pub reached-more : (n : ℕ) (t s : Table) {u : Table} → Reached n t s → u ≡ nextOf s n → Reached n t u
-reached-more n t s r e = record { parts = suc (r .parts); state-is = e ∙ ap (λ (x : Table). nextOf x n) (r .state-is) ∙ sym (one-more t n (r .parts)) }
+pub reached-more : (n : ℕ) (t s : Table) {u : Table} → ReachedByParts n t s → u ≡ tableBehind s n → ReachedByParts n t u
+reached-more n t s r e = record { parts = suc (r .parts); state-is = e ∙ ap (λ (x : Table). tableBehind x n) (r .state-is) ∙ sym (one-more t n (r .parts)) }
 
 -- A LOOP THAT WRITES EACH PART WRITES THE WHOLE
 pub printing-whole : (n : ℕ) (t s : Table) (p : Printing n t s true) → partsOf t (replicate (p .reached .parts) n) ≡ restOf t
@@ -103,9 +103,9 @@ some-put left k h = rw (lt-ltb 0 left h) (by (eqb k 0) refl)
     by false e z = let w = eqb-false k 0 e in omega arith
 
 -- a turn that is refused or whose write fails is the last, and every other puts a line
-pub part-falls : (t : Table) (n : ℕ) (written : Bool) → 0 < t .left → (written ≡ true → filled t n .number ≡ 0)
-    → nextOf t n .left + choose written 1 0 < t .left + 1
-unfolding filled
+pub part-falls : (t : Table) (n : ℕ) (written : Bool) → 0 < t .left → (written ≡ true → tableFilled t n .number ≡ 0)
+    → tableBehind t n .left + choose written 1 0 < t .left + 1
+unfolding tableFilled
 part-falls t n true h e =
     let k = some-put (t .left) (length (partLines t n)) h (e refl) in
     let l = left-after (length (partLines t n)) t in

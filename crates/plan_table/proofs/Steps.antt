@@ -15,7 +15,7 @@ use Rattle.endian.proofs.Laws.{patch-append, length-patch}
 use Rattle.table_lines.specs.Lines.{PutLine}
 use Rattle.structs.proofs.Reading.{patch-apart}
 use Rattle.plan_table.specs.declared.Table.{Table}
-use Rattle.plan_table.specs.Filling.{lineOf, afterLine, afterLines, linesOf, joined, fitting, partLines, partOf, nextOf, filled, Stepped}
+use Rattle.plan_table.specs.Filling.{lineOf, afterLine, afterLines, linesOf, linesJoined, linesFitting, partLines, tablePart, tableBehind, tableFilled, Stepped}
 use Rattle.plan_table.proofs.Parts.{left-after}
 
 -- the first of the next n lines
@@ -49,36 +49,36 @@ module _ (t : Table) (at : ℕ) (old : List ℕ) {number end : ℕ} {new : List 
 
 -- the lines that are still to be put in state s, where the next begins at `at`
 abbrev pub todo : ℕ → Table → ℕ → Bool → List (List ℕ)
-todo n s at full = choose full [] (fitting n at (linesOf (s .left) s))
+todo n s at full = choose full [] (linesFitting n at (linesOf (s .left) s))
 
 -- a turn of the loop from state t on, over what was in the buffer
 pub record Going (t : Table) (old : List ℕ) (s : Table) (at : ℕ) (full : Bool) (new : List ℕ) : Type 0 where
   pub same-length : length new ≡ length old
-  pub end-is : at + length (joined (todo (length old) s at full)) ≡ length (partOf t (length old))
-  pub bytes-are : patch at (joined (todo (length old) s at full)) new ≡ patch 0 (partOf t (length old)) old
-  pub state-is : afterLines (length (todo (length old) s at full)) s ≡ nextOf t (length old)
+  pub end-is : at + length (linesJoined (todo (length old) s at full)) ≡ length (tablePart t (length old))
+  pub bytes-are : patch at (linesJoined (todo (length old) s at full)) new ≡ patch 0 (tablePart t (length old)) old
+  pub state-is : afterLines (length (todo (length old) s at full)) s ≡ tableBehind t (length old)
 
 pub begins : (t : Table) (old : List ℕ) → Going t old t 0 false old
 unfolding partLines
 begins t old = record { same-length = refl; end-is = omega arith; bytes-are = refl; state-is = refl }
 
 module _ (n at : ℕ) (l : List ℕ) (ls : List (List ℕ)) where
-  fits : leb (at + length l) n ≡ true → fitting n at (l ∷ ls) ≡ l ∷ fitting n (at + length l) ls
-  unfolding fitting
+  fits : leb (at + length l) n ≡ true → linesFitting n at (l ∷ ls) ≡ l ∷ linesFitting n (at + length l) ls
+  unfolding linesFitting
   fits e = rw e
 
-  stops : leb (at + length l) n ≡ false → fitting n at (l ∷ ls) ≡ []
-  unfolding fitting
+  stops : leb (at + length l) n ≡ false → linesFitting n at (l ∷ ls) ≡ []
+  unfolding linesFitting
   stops e = rw e
 
-joined-cons : (l : List ℕ) (ls : List (List ℕ)) → joined (l ∷ ls) ≡ l ++ joined ls
-unfolding joined
+joined-cons : (l : List ℕ) (ls : List (List ℕ)) → linesJoined (l ∷ ls) ≡ l ++ linesJoined ls
+unfolding linesJoined
 joined-cons l ls = refl
 
 -- a line and those behind it
-put-both : (at : ℕ) (l : List ℕ) (ls : List (List ℕ)) (xs : List ℕ) → patch (at + length l) (joined ls) (patch at l xs) ≡ patch at (joined (l ∷ ls)) xs
-unfolding joined
-put-both at l ls xs = sym (patch-apart at (at + length l) l (joined ls) xs (omega arith)) ∙ sym (patch-append at l (joined ls) xs)
+put-both : (at : ℕ) (l : List ℕ) (ls : List (List ℕ)) (xs : List ℕ) → patch (at + length l) (linesJoined ls) (patch at l xs) ≡ patch at (linesJoined (l ∷ ls)) xs
+unfolding linesJoined
+put-both at l ls xs = sym (patch-apart at (at + length l) l (linesJoined ls) xs (omega arith)) ∙ sym (patch-append at l (linesJoined ls) xs)
 
 one-more : (s : Table) (l : List ℕ) (ls : List (List ℕ)) → afterLines (length (l ∷ ls)) s ≡ afterLines (length ls) (afterLine s)
 unfolding turns
@@ -97,19 +97,19 @@ module _ (t : Table) (old : List ℕ) (s : Table) (at : ℕ) (full : Bool) (new 
   goes-at : (b : Bool) → leb (at + length l) n ≡ b
       → Going t old (choose b (afterLine s) s) (choose b (at + length l) at) (not b) (choose b (patch at l new) new)
   goes-at true e =
-      let k = ap (fitting n at) (first-line s (s .left) some) ∙ fits n at l (linesOf (s .left - 1) (afterLine s)) e in
-      let f = fitting n (at + length l) (linesOf (s .left - 1) (afterLine s)) in
+      let k = ap (linesFitting n at) (first-line s (s .left) some) ∙ fits n at l (linesOf (s .left - 1) (afterLine s)) e in
+      let f = linesFitting n (at + length l) (linesOf (s .left - 1) (afterLine s)) in
       let z = g .end-is in
-      let a : at + length (joined (l ∷ f)) ≡ length (partOf t n) = rw k at z in
-      let c : length (joined (l ∷ f)) ≡ length l + length (joined f) = ap length (joined-cons l f) ∙ length-append l (joined f) in
+      let a : at + length (linesJoined (l ∷ f)) ≡ length (tablePart t n) = rw k at z in
+      let c : length (linesJoined (l ∷ f)) ≡ length l + length (linesJoined f) = ap length (joined-cons l f) ∙ length-append l (linesJoined f) in
       record {
         same-length = length-patch at l new ∙ g .same-length;
         end-is = omega arith;
-        bytes-are = put-both at l f new ∙ ap (λ (x : List (List ℕ)). patch at (joined x) new) (sym k) ∙ g .bytes-are;
+        bytes-are = put-both at l f new ∙ ap (λ (x : List (List ℕ)). patch at (linesJoined x) new) (sym k) ∙ g .bytes-are;
         state-is = sym (one-more s l f) ∙ ap (λ (x : List (List ℕ)). afterLines (length x) s) (sym k) ∙ g .state-is;
       }
   goes-at false e =
-      let k = ap (fitting n at) (first-line s (s .left) some) ∙ stops n at l (linesOf (s .left - 1) (afterLine s)) e in
+      let k = ap (linesFitting n at) (first-line s (s .left) some) ∙ stops n at l (linesOf (s .left - 1) (afterLine s)) e in
       record {
         same-length = g .same-length;
         end-is = rw k at (g .end-is);
@@ -131,13 +131,13 @@ module _ (t : Table) (old : List ℕ) (s : Table) (at : ℕ) (full : Bool) (new 
 
 -- ---- where it ends
 
-none-left : (s : Table) (n at : ℕ) → fitting n at (linesOf 0 s) ≡ []
-unfolding linesOf fitting
+none-left : (s : Table) (n at : ℕ) → linesFitting n at (linesOf 0 s) ≡ []
+unfolding linesOf linesFitting
 none-left s n at = refl
 
 nothing-todo : (n : ℕ) (s : Table) (at : ℕ) (full : Bool) → (full ≡ false → s .left ≡ 0) → todo n s at full ≡ []
 nothing-todo n s at true h = refl
-nothing-todo n s at false h = ap (λ (m : ℕ). fitting n at (linesOf m s)) (h refl) ∙ none-left s n at
+nothing-todo n s at false h = ap (λ (m : ℕ). linesFitting n at (linesOf m s)) (h refl) ∙ none-left s n at
 
 -- as many are left as before where none is put
 same-left : (a k : ℕ) → both (ltb 0 a) (eqb (a - k) a) ≡ both (ltb 0 a) (eqb k 0)
@@ -152,15 +152,15 @@ module _ (t : Table) (old : List ℕ) (s : Table) (at : ℕ) (full : Bool) (new 
   todo-none : todo (length old) s at full ≡ []
   todo-none = nothing-todo (length old) s at full h
 
-  pub ends-bytes : new ≡ patch 0 (partOf t (length old)) old
-  unfolding joined patch
+  pub ends-bytes : new ≡ patch 0 (tablePart t (length old)) old
+  unfolding linesJoined patch
   ends-bytes = rw todo-none at (g .bytes-are)
 
-  end-at : at ≡ length (partOf t (length old))
-  unfolding joined
+  end-at : at ≡ length (tablePart t (length old))
+  unfolding linesJoined
   end-at = let z = rw todo-none at (g .end-is) in omega arith
 
-  state-at : s ≡ nextOf t (length old)
+  state-at : s ≡ tableBehind t (length old)
   unfolding turns
   state-at = rw todo-none at (g .state-is)
 
@@ -174,6 +174,6 @@ module _ (t : Table) (old : List ℕ) (s : Table) (at : ℕ) (full : Bool) (new 
       ∙ ap (λ (x : Bool). choose {A = ℕ} x 27 0) (same-left (t .left) (length (partLines t (length old))))
 
   pub ends-filled : {r : ℕ} → r ≡ choose (both (ltb 0 (t .left)) (eqb (s .left) (t .left))) 27 0
-      → record { number = r; end = at; table = s } ≡ filled t (length old)
-  unfolding filled
+      → record { number = r; end = at; table = s } ≡ tableFilled t (length old)
+  unfolding tableFilled
   ends-filled e = rw (number-at e, end-at, state-at) refl

@@ -15,7 +15,7 @@ use Rattle.geometry.specs.declared.Geometry.{Geometry}
 use Rattle.plan_totals.specs.declared.Row.{Row}
 use Rattle.plan_totals.specs.declared.Total.{Total}
 use Rattle.plan_totals.specs.Totals.{plansNumber}
-use Rattle.plan_summary.specs.Summaries.{summaryOf, noSummary, rowIn}
+use Rattle.plan_summary.specs.Summaries.{summaryOf, noSummary, rowBySummary}
 use Rattle.run.specs.Runs.{accepted}
 use Rattle.plan_table.specs.declared.Table.{Table}
 use Rattle.plan_table.specs.declared.Filled.{Filled}
@@ -28,26 +28,26 @@ abbrev pub noSums : Total
 noSums = record { length = 0; log = 0; list = 0; chunk = 0; free = 0 }
 
 -- one line is left: the refusal's
-abbrev pub refusal : ℕ → Table
-refusal n = record { number = n; left = 1; summary = noSummary; sums = noSums }
+abbrev pub tableRefused : ℕ → Table
+tableRefused n = record { number = n; left = 1; summary = noSummary; sums = noSums }
 
 -- all lines of a geometry's table are left
-abbrev pub whole : Geometry → Table
-whole g = record { number = 0; left = g .agcount + 2; summary = summaryOf g; sums = noSums }
+abbrev pub wholeTable : Geometry → Table
+wholeTable g = record { number = 0; left = g .agcount + 2; summary = summaryOf g; sums = noSums }
 
 -- `begin_table`: all lines of a geometry's table, or the line of 31 or 25
 unfoldable pub begunTable : Geometry → Table
-begunTable g = choose (eqb (plansNumber g) 0) (whole g) (refusal (plansNumber g))
+begunTable g = choose (eqb (plansNumber g) 0) (wholeTable g) (tableRefused (plansNumber g))
 
 -- no disk: the header and the sums
 abbrev pub noDisk : Table
 noDisk = record { number = 0; left = 2; summary = noSummary; sums = noSums }
 
 -- `begin`: no disk for an empty input; else all lines of the table of the run that the records ask for, or the line of its refusal
-unfoldable pub begun : List ℕ → Table
-begun [] = noDisk
-begun (x ∷ xs) =
-    choose (eqb (accepted (x ∷ xs) .number) 0) (begunTable (accepted (x ∷ xs) .geometry)) (refusal (accepted (x ∷ xs) .number))
+unfoldable pub tableBegun : List ℕ → Table
+tableBegun [] = noDisk
+tableBegun (x ∷ xs) =
+    choose (eqb (accepted (x ∷ xs) .number) 0) (begunTable (accepted (x ∷ xs) .geometry)) (tableRefused (accepted (x ∷ xs) .number))
 
 -- ---- the lines of a state
 
@@ -66,7 +66,7 @@ groupAdded t = t .summary .agcount - 1 - groupPut t
 
 -- the next line
 unfoldable pub lineOf : Table → List ℕ
-lineOf t = byLine t (refusedBytes (t .number)) (totalLine (t .sums)) (rowLine (rowIn (t .summary) (groupPut t))) headerBytes
+lineOf t = byLine t (refusedBytes (t .number)) (totalLine (t .sums)) (rowLine (rowBySummary (t .summary) (groupPut t))) headerBytes
 
 -- sums and a row, in 64 bits
 unfoldable pub withRow : Total → Row → Total
@@ -81,7 +81,7 @@ withRow t r =
 
 -- the sums behind the next line: another row is added where that is a row
 unfoldable pub sumsAfter : Table → Total
-sumsAfter t = byLine t (t .sums) (t .sums) (withRow (t .sums) (rowIn (t .summary) (groupAdded t))) (t .sums)
+sumsAfter t = byLine t (t .sums) (t .sums) (withRow (t .sums) (rowBySummary (t .summary) (groupAdded t))) (t .sums)
 
 -- the state behind the next line, and behind n lines
 abbrev pub afterLine : Table → Table
@@ -96,40 +96,40 @@ linesOf zero t = []
 linesOf (suc n) t = lineOf t ∷ linesOf n (afterLine t)
 
 -- lines, one after the other
-unfoldable pub joined : List (List ℕ) → List ℕ
-joined [] = []
-joined (l ∷ ls) = l ++ joined ls
+unfoldable pub linesJoined : List (List ℕ) → List ℕ
+linesJoined [] = []
+linesJoined (l ∷ ls) = l ++ linesJoined ls
 
 -- the bytes that are left
 abbrev pub restOf : Table → List ℕ
-restOf t = joined (linesOf (t .left) t)
+restOf t = linesJoined (linesOf (t .left) t)
 
 -- ---- the next part
 
 -- of these lines those, from the first, that fit whole into n bytes, of which the first `at` are taken
-unfoldable pub fitting : ℕ → ℕ → List (List ℕ) → List (List ℕ)
-fitting n at [] = []
-fitting n at (l ∷ ls) = choose (leb (at + length l) n) (l ∷ fitting n (at + length l) ls) []
+unfoldable pub linesFitting : ℕ → ℕ → List (List ℕ) → List (List ℕ)
+linesFitting n at [] = []
+linesFitting n at (l ∷ ls) = choose (leb (at + length l) n) (l ∷ linesFitting n (at + length l) ls) []
 
 -- the lines of the next part in a buffer of n bytes
 unfoldable pub partLines : Table → ℕ → List (List ℕ)
-partLines t n = fitting n 0 (linesOf (t .left) t)
+partLines t n = linesFitting n 0 (linesOf (t .left) t)
 
 -- the bytes of the next part in a buffer of n bytes
-abbrev pub partOf : Table → ℕ → List ℕ
-partOf t n = joined (partLines t n)
+abbrev pub tablePart : Table → ℕ → List ℕ
+tablePart t n = linesJoined (partLines t n)
 
 -- the state behind it
-abbrev pub nextOf : Table → ℕ → Table
-nextOf t n = afterLines (length (partLines t n)) t
+abbrev pub tableBehind : Table → ℕ → Table
+tableBehind t n = afterLines (length (partLines t n)) t
 
 -- `fill`: where the next part ends, and the state behind it; 27 where a line is left and not even one fits
-unfoldable pub filled : Table → ℕ → Filled
-filled t n =
+unfoldable pub tableFilled : Table → ℕ → Filled
+tableFilled t n =
     record {
       number = choose (both (ltb 0 (t .left)) (eqb (length (partLines t n)) 0)) wrongLength 0;
-      end = length (partOf t n);
-      table = nextOf t n;
+      end = length (tablePart t n);
+      table = tableBehind t n;
     }
 
 -- ---- the code's step
@@ -146,12 +146,12 @@ pub record Stepped (t : Table) (at : ℕ) (old : List ℕ) (t' : Table) (at' : �
 -- the parts that buffers of these lengths take, one after the other
 unfoldable pub partsOf : Table → List ℕ → List ℕ
 partsOf t [] = []
-partsOf t (n ∷ ns) = partOf t n ++ partsOf (nextOf t n) ns
+partsOf t (n ∷ ns) = tablePart t n ++ partsOf (tableBehind t n) ns
 
 -- the state behind them
 unfoldable pub afterParts : Table → List ℕ → Table
 afterParts t [] = t
-afterParts t (n ∷ ns) = afterParts (nextOf t n) ns
+afterParts t (n ∷ ns) = afterParts (tableBehind t n) ns
 
 -- no line is longer than 147 bytes: seven numbers of 64 bits, each with a byte behind it
 abbrev pub Short : Table → Type 0
@@ -165,11 +165,11 @@ LongEnough (n ∷ ns) = (147 ≤ n) × LongEnough ns
 -- ---- a program's loop
 
 -- s is the state behind some parts of t, each in a buffer of n bytes
-pub record Reached (n : ℕ) (t s : Table) : Type 0 where
+pub record ReachedByParts (n : ℕ) (t s : Table) : Type 0 where
   pub parts : ℕ
   pub state-is : s ≡ afterParts t (replicate parts n)
 
 -- and no line is left where each of them was written
 pub record Printing (n : ℕ) (t s : Table) (written : Bool) : Type 0 where
-  pub reached : Reached n t s
+  pub reached : ReachedByParts n t s
   pub whole : written ≡ true → s .left ≡ 0

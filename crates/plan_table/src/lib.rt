@@ -8,7 +8,7 @@ ghost use Rattle.refusals.specs.Numbers.{wrongLength};
 ghost use Rattle.seqs.specs.Lists.{both, choose};
 ghost use Rattle.endian.specs.Bytes.{patch};
 ghost use Rattle.plan_table.specs.Printed.{rowAnswer, tableAnswer, noDiskBytes, planBytes};
-ghost use Rattle.plan_table.specs.Filling.{refusal, begunTable, noDisk, begun, afterLine, restOf, partOf, filled, Stepped};
+ghost use Rattle.plan_table.specs.Filling.{tableRefused, begunTable, noDisk, tableBegun, afterLine, restOf, tablePart, tableFilled, Stepped};
 
 pub mod rows; // rows.rt: a group's row from the summary of all groups
 pub mod adding; // adding.rt: the sums of the rows, added from the last group to the first
@@ -44,7 +44,7 @@ pub struct Filled {
 }
 
 fn refused(n: u32) -> Table
-    ensures { λ r. ⌜ r ≡ refusal n ⌝ }
+    ensures { λ r. ⌜ r ≡ tableRefused n ⌝ }
 {
     let summary = no_summary();
     let sums = no_sums();
@@ -91,7 +91,7 @@ fn no_disk() -> Table
 
 // What planlist prints of its input, where no bytes mean no disk.
 pub fn begin(input: &[u8]) -> Table
-    ensures { λ r. ⌜ (r ≡ begun (now (input .entry))) × (restOf r ≡ planBytes (now (input .entry))) ⌝ }
+    ensures { λ r. ⌜ (r ≡ tableBegun (now (input .entry))) × (restOf r ≡ planBytes (now (input .entry))) ⌝ }
 {
     if input.len() == 0 {
         return no_disk();
@@ -162,8 +162,8 @@ fn number_of(n: u64, left: u64) -> u32
 
 // The next lines of a table, as many as fit whole, from the buffer's start on.
 pub fn fill(t: Table, buf: &mut [u8]) -> Filled
-    ensures { λ r. ⌜ r ≡ filled t (length (now (buf .entry))) ⌝ }
-    ensures { λ r. ⌜ now (buf .exit) ≡ patch 0 (partOf t (length (now (buf .entry)))) (now (buf .entry)) ⌝ }
+    ensures { λ r. ⌜ r ≡ tableFilled t (length (now (buf .entry))) ⌝ }
+    ensures { λ r. ⌜ now (buf .exit) ≡ patch 0 (tablePart t (length (now (buf .entry)))) (now (buf .entry)) ⌝ }
 {
     let mut at = Place {
         table: t,

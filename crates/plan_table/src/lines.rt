@@ -1,7 +1,7 @@
 // Each line of a table, written where it fits.
 ghost use mathlib.Core.Path.{_≡_};
 ghost use Rattle.table_lines.specs.Lines.{PutLine};
-ghost use Rattle.plan_summary.specs.Summaries.{rowIn};
+ghost use Rattle.plan_summary.specs.Summaries.{rowBySummary};
 ghost use Rattle.plan_table.specs.Printed.{rowLine, totalLine};
 ghost use Rattle.plan_table.specs.Filling.{lineOf};
 use crate::Table;
@@ -18,7 +18,7 @@ use table_lines::put_total;
 
 // The line of group k.
 fn put_group(s: Summary, k: u64, buf: &mut [u8], at: usize) -> Written
-    ensures { λ r. ⌜ PutLine at (rowLine (rowIn s k)) (now (buf .entry)) (r .number) (r .end) (now (buf .exit)) ⌝ }
+    ensures { λ r. ⌜ PutLine at (rowLine (rowBySummary s k)) (now (buf .entry)) (r .number) (r .end) (now (buf .exit)) ⌝ }
 {
     let row = row_in(s, k);
     let line = Row {

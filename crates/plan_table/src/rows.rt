@@ -1,7 +1,7 @@
 // A group's row from the summary of all groups, in constant time; blocks of a group in 32 bits.
 ghost use mathlib.Core.Path.{_≡_};
 ghost use Rattle.plan_totals.specs.Totals.{noRow};
-ghost use Rattle.plan_summary.specs.Summaries.{lengthIn, logIn, chunkIn, freeIn, longestIn, rowIn};
+ghost use Rattle.plan_summary.specs.Summaries.{lengthIn, logBlocksIn, chunkBlocksIn, freeBlocksIn, longestIn, rowBySummary};
 use arith::choice::pick_u32;
 use arith::numbers::max_u32;
 use arith::numbers::minus;
@@ -16,19 +16,19 @@ fn length_in(s: Summary, k: u64) -> u32
 }
 
 fn log_in(s: Summary, k: u64) -> u32
-    ensures { λ r. ⌜ r ≡ logIn s k ⌝ }
+    ensures { λ r. ⌜ r ≡ logBlocksIn s k ⌝ }
 {
     pick_u32(k == s.logagno, s.logblocks, 0)
 }
 
 fn chunk_in(s: Summary, k: u64) -> u32
-    ensures { λ r. ⌜ r ≡ chunkIn s k ⌝ }
+    ensures { λ r. ⌜ r ≡ chunkBlocksIn s k ⌝ }
 {
     pick_u32(k == 0, s.chunk, 0)
 }
 
 fn free_in(s: Summary, k: u64) -> u32
-    ensures { λ r. ⌜ r ≡ freeIn s k ⌝ }
+    ensures { λ r. ⌜ r ≡ freeBlocksIn s k ⌝ }
 {
     let after = minus_u32(minus_u32(length_in(s, k), s.head), log_in(s, k));
     minus_u32(minus_u32(after, s.list), chunk_in(s, k))
@@ -60,7 +60,7 @@ pub(crate) fn no_row(n: u32) -> Row
 
 // The row of group k, or 29.
 pub(crate) fn row_in(s: Summary, k: u64) -> Row
-    ensures { λ r. ⌜ r ≡ rowIn s k ⌝ }
+    ensures { λ r. ⌜ r ≡ rowBySummary s k ⌝ }
 {
     if k < s.agcount {
         return Row {

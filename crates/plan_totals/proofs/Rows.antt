@@ -20,21 +20,21 @@ use Rattle.plan_site.specs.Sites.{siteOf}
 use Rattle.plan_free.specs.Free.{packFree}
 use Rattle.plan_free.proofs.Uses.{free-packed}
 use Rattle.plan.specs.Plan.{gap, refusedPlan}
-use Rattle.plan_closed.specs.Closed.{isFirst, listAt, closedFree, closedList, short, closedAgPlan, closedPlan}
+use Rattle.plan_closed.specs.Closed.{hasRootChunk, listAt, closedFree, closedList, listShort, closedAgPlan, closedPlan}
 use Rattle.plan_closed.proofs.Filling.{length-up}
 use Rattle.plan_closed.proofs.Planning.{closed-plan}
-use Rattle.plan_totals.specs.Totals.{addCount, larger, maxCount, freeblksOf, longestOf, noRow, chunkIn, rowFrom, rowOf, beforeChunk, afterChunk, afterList, closedRow}
+use Rattle.plan_totals.specs.Totals.{addCount, largerCount, maxCount, freeblksOf, longestOf, noRow, chunkBlocksOf, rowFrom, rowOf, beforeChunk, afterChunk, afterList, closedRow}
 
 -- ---- the blocks of gaps
 
-larger-none : (n : ℕ) → larger n 0 ≡ n
+larger-none : (n : ℕ) → largerCount n 0 ≡ n
 larger-none n = rw (le-ltb n 0 (omega arith))
 
 larger-some-at : (n : ℕ) (t : Bool) → ltb 0 n ≡ t → choose t n 0 ≡ n
 larger-some-at n true e = refl
 larger-some-at n false e = let h = ltb-false 0 n e in omega arith
 
-larger-some : (n : ℕ) → larger 0 n ≡ n
+larger-some : (n : ℕ) → largerCount 0 n ≡ n
 larger-some n = larger-some-at n (ltb 0 n) refl
 
 module _ (n a b : ℕ) where
@@ -42,7 +42,7 @@ module _ (n a b : ℕ) where
   unfolding fold
   sum-gap = ⊎-elim (λ l. rw (lt-ltb a b l)) (λ l. rw (le-ltb a b l) (omega arith)) (lt-or-le a b)
 
-  longest-gap : fold maxCount n (gap a b) ≡ larger n (b - a)
+  longest-gap : fold maxCount n (gap a b) ≡ largerCount n (b - a)
   unfolding fold
   longest-gap = ⊎-elim (λ l. rw (lt-ltb a b l)) (λ l. let e : b - a ≡ 0 = omega arith in rw (le-ltb a b l, e) (sym (larger-none n))) (lt-or-le a b)
 
@@ -55,7 +55,7 @@ module _ (a b c d : ℕ) where
   sum-gaps : fold addCount 0 (gap a b ++ gap c d) ≡ (b - a) + (d - c)
   sum-gaps = fold-append addCount 0 (gap a b) (gap c d) ∙ ap (λ (n : ℕ). fold addCount n (gap c d)) (sum-gap 0 a b) ∙ sum-gap (0 + (b - a)) c d ∙ omega arith
 
-  longest-gaps : fold maxCount 0 (gap a b ++ gap c d) ≡ larger (b - a) (d - c)
+  longest-gaps : fold maxCount 0 (gap a b ++ gap c d) ≡ largerCount (b - a) (d - c)
   longest-gaps = fold-append maxCount 0 (gap a b) (gap c d) ∙ ap (λ (n : ℕ). fold maxCount n (gap c d)) (longest-gap 0 a b ∙ larger-some (b - a)) ∙ longest-gap (b - a) c d
 
 -- ---- the parts of a row
@@ -67,31 +67,31 @@ module _ (s : Site) where
   free-at true = sum-gaps (s .head + s .need) (s .«chunk_at») (s .«chunk_at» + s .«chunk_blocks») (s .length)
   free-at false = sum-gap 0 (listAt s + s .need) (s .length) ∙ omega arith
 
-  pub free-is : freeblksOf (packFree (closedFree s)) ≡ choose (isFirst s) (beforeChunk s + afterChunk s) (afterList s)
+  pub free-is : freeblksOf (packFree (closedFree s)) ≡ choose (hasRootChunk s) (beforeChunk s + afterChunk s) (afterList s)
   unfolding freeblksOf closedFree
-  free-is = rw (free-packed (closedFree s)) (free-at (isFirst s))
+  free-is = rw (free-packed (closedFree s)) (free-at (hasRootChunk s))
 
   longest-at : (t : Bool)
       → fold maxCount 0 (choose t (gap (s .head + s .need) (s .«chunk_at») ++ gap (s .«chunk_at» + s .«chunk_blocks») (s .length)) (gap (listAt s + s .need) (s .length)))
-      ≡ choose t (larger (beforeChunk s) (afterChunk s)) (afterList s)
+      ≡ choose t (largerCount (beforeChunk s) (afterChunk s)) (afterList s)
   longest-at true = longest-gaps (s .head + s .need) (s .«chunk_at») (s .«chunk_at» + s .«chunk_blocks») (s .length)
   longest-at false = longest-gap 0 (listAt s + s .need) (s .length) ∙ larger-some (afterList s)
 
-  pub longest-is : longestOf (packFree (closedFree s)) ≡ choose (isFirst s) (larger (beforeChunk s) (afterChunk s)) (afterList s)
+  pub longest-is : longestOf (packFree (closedFree s)) ≡ choose (hasRootChunk s) (largerCount (beforeChunk s) (afterChunk s)) (afterList s)
   unfolding longestOf closedFree
-  longest-is = rw (free-packed (closedFree s)) (longest-at (isFirst s))
+  longest-is = rw (free-packed (closedFree s)) (longest-at (hasRootChunk s))
 
   pub list-is : length (closedList s) ≡ s .need
   unfolding closedList
   list-is = length-up (listAt s) (s .need)
 
-chunk-at : (t : Bool) (a n : ℕ) → chunkIn (choose t (Given a) Absent) n ≡ choose t n 0
+chunk-at : (t : Bool) (a n : ℕ) → chunkBlocksOf (choose t (Given a) Absent) n ≡ choose t n 0
 chunk-at true a n = refl
 chunk-at false a n = refl
 
 -- the row of a plan in closed form
 module _ (g : Geometry) (k : ℕ) where
-  row-at : (t : Bool) → short (siteOf g k) ≡ t
+  row-at : (t : Bool) → listShort (siteOf g k) ≡ t
       → choose (eqb (choose t (refusedPlan 25) (record { number = 0; plan = closedAgPlan (siteOf g k) }) .number) 0)
       (rowFrom g k (choose t (refusedPlan 25) (record { number = 0; plan = closedAgPlan (siteOf g k) }) .plan))
       (noRow (choose t (refusedPlan 25) (record { number = 0; plan = closedAgPlan (siteOf g k) }) .number))
@@ -103,4 +103,4 @@ module _ (g : Geometry) (k : ℕ) where
 -- THE ROW OF EVERY GROUP OF AN ANSWER
 pub row-closed : (g : Geometry) → length (g .label) ≡ 12 → isAnswer g ≡ true → (k : ℕ) → k < g .agcount → rowOf g k ≡ closedRow (siteOf g k)
 unfolding rowOf closedPlan
-row-closed g l h k i = rw (closed-plan g l h k i) (row-at g k (short (siteOf g k)) refl)
+row-closed g l h k i = rw (closed-plan g l h k i) (row-at g k (listShort (siteOf g k)) refl)

@@ -14,7 +14,7 @@ use Rattle.seqs.specs.Lists.{choose, fold}
 use Rattle.btree.specs.declared.records.AllocRec.{AllocRec}
 use Rattle.plan_free.specs.declared.FreeList.{FreeList}
 use Rattle.plan_free.specs.Free.{freeOf}
-use Rattle.plan_totals.specs.Totals.{addCount, larger, maxCount, freeblksOf, longestOf, NarrowRecords}
+use Rattle.plan_totals.specs.Totals.{addCount, largerCount, maxCount, freeblksOf, longestOf, NarrowRecords}
 
 -- ---- a state that only grows
 
@@ -34,7 +34,7 @@ larger-up-at : (a b : ℕ) (t : Bool) → ltb a b ≡ t → a ≤ choose t b a
 larger-up-at a b true e = let h = ltb-true a b e in omega arith
 larger-up-at a b false e = omega arith
 
-larger-up : (a b : ℕ) → a ≤ larger a b
+larger-up : (a b : ℕ) → a ≤ largerCount a b
 larger-up a b = larger-up-at a b (ltb a b) refl
 
 -- where blocks and longest are below 2^30, so is every running number

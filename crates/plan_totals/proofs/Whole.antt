@@ -16,10 +16,10 @@ use Rattle.geometry_layout.proofs.Bounding.{answer-bounds}
 use Rattle.geometry_counts.specs.declared.Value64.the-variants.{Refused, Of}
 use Rattle.geometry_places.specs.Answers.{unless64, initialFdblocks}
 use Rattle.plan_site.specs.declared.Site.{Site}
-use Rattle.plan_site.specs.Sites.{siteOf, Sound}
+use Rattle.plan_site.specs.Sites.{siteOf, SoundSite}
 use Rattle.plan_site.proofs.Sites.{site-sound}
 use Rattle.plan.specs.Plan.{planned}
-use Rattle.plan_closed.specs.Closed.{isFirst, listAt, short}
+use Rattle.plan_closed.specs.Closed.{hasRootChunk, listAt, listShort}
 use Rattle.plan_closed.proofs.Planning.{planned-number, planned-plan, elsewhere-long, others-planned}
 use Rattle.plan_totals.specs.Totals.{sumTo, firstTo, plansNumber, freeOfPlan, freeCount, freeCountAnswer, constNumber, constCount, rowOf, beforeChunk, afterChunk, afterList, closedRow, totalOf, closedTotal}
 use Rattle.plan_totals.proofs.Sums.{sum-same, sum-plus, sum-alike, only, sum-only, first-only, sum-lengths}
@@ -32,13 +32,13 @@ abbrev logIn : Site → ℕ
 logIn s = choose (s .«has_log») (s .«log_blocks») 0
 
 abbrev chunkHere : Site → ℕ
-chunkHere s = choose (isFirst s) (s .«chunk_blocks») 0
+chunkHere s = choose (hasRootChunk s) (s .«chunk_blocks») 0
 
 abbrev freeIn : Site → ℕ
-freeIn s = choose (isFirst s) (beforeChunk s + afterChunk s) (afterList s)
+freeIn s = choose (hasRootChunk s) (beforeChunk s + afterChunk s) (afterList s)
 
-module _ (s : Site) (ok : Sound s) where
-  adds-at : (t u : Bool) → isFirst s ≡ t → s .«has_log» ≡ u → both u (ltb (s .length - choose u (s .«log_at» + s .«log_blocks») (s .head)) (s .need)) ≡ false
+module _ (s : Site) (ok : SoundSite s) where
+  adds-at : (t u : Bool) → hasRootChunk s ≡ t → s .«has_log» ≡ u → both u (ltb (s .length - choose u (s .«log_at» + s .«log_blocks») (s .head)) (s .need)) ≡ false
       → choose t (beforeChunk s + afterChunk s) (s .length - (choose u (s .«log_at» + s .«log_blocks») (s .head) + s .need)) + s .need + choose t (s .«chunk_blocks») 0 + choose u (s .«log_blocks») 0 + s .head ≡ s .length
   adds-at true true z e q = let f = ok .log-not-first (eqb-true (s .agno) 0 z) in let o : _≡_ {A = ℕ} 0 1 = cc in absurd (omega arith)
   adds-at true false z e q = let a = ok .chunk-after in let c = ok .chunk-ends in let l = ok .length-least in omega arith
@@ -50,9 +50,9 @@ module _ (s : Site) (ok : Sound s) where
   adds-at false false z e q = let h = ok .head-most in let n = ok .need-most in let l = ok .length-least in omega arith
 
   -- free, free list, chunk, log and head are the group
-  pub adds-up : short s ≡ false → freeIn s + s .need + chunkHere s + logIn s + s .head ≡ s .length
-  unfolding short listAt
-  adds-up q = adds-at (isFirst s) (s .«has_log») refl refl q
+  pub adds-up : listShort s ≡ false → freeIn s + s .need + chunkHere s + logIn s + s .head ≡ s .length
+  unfolding listShort listAt
+  adds-up q = adds-at (hasRootChunk s) (s .«has_log») refl refl q
 
 -- ---- all groups
 
@@ -60,14 +60,14 @@ module _ (g : Geometry) (l : length (g .label) ≡ 12) (h : isAnswer g ≡ true)
   abbrev logSite : Site
   logSite = siteOf g (g .logagno)
 
-  one-number-at : (k : ℕ) → k < g .agcount → (t : Bool) → eqb k (g .logagno) ≡ t → planned g k .number ≡ choose t (choose (short logSite) 25 0) 0
-  one-number-at k i true e = planned-number g l h k i ∙ ap (λ (n : ℕ). choose (short (siteOf g n)) 25 0) (eqb-true k (g .logagno) e)
+  one-number-at : (k : ℕ) → k < g .agcount → (t : Bool) → eqb k (g .logagno) ≡ t → planned g k .number ≡ choose t (choose (listShort logSite) 25 0) 0
+  one-number-at k i true e = planned-number g l h k i ∙ ap (λ (n : ℕ). choose (listShort (siteOf g n)) 25 0) (eqb-true k (g .logagno) e)
   one-number-at k i false e = others-planned g l h k i (eqb-false k (g .logagno) e)
 
   -- some group is refused exactly where the log group is
-  pub all-numbers : firstTo (g .agcount) (λ k. planned g k .number) ≡ choose (short logSite) 25 0
+  pub all-numbers : firstTo (g .agcount) (λ k. planned g k .number) ≡ choose (listShort logSite) 25 0
   all-numbers =
-      first-only (g .logagno) (choose (short logSite) 25 0) (λ k. planned g k .number) (g .agcount) (answer-bounds g l h .places .log-inside)
+      first-only (g .logagno) (choose (listShort logSite) 25 0) (λ k. planned g k .number) (g .agcount) (answer-bounds g l h .places .log-inside)
       (λ k i. one-number-at k i (eqb k (g .logagno)) refl)
 
   some-groups : 1 < g .agcount
@@ -77,12 +77,12 @@ module _ (g : Geometry) (l : length (g .label) ≡ 12) (h : isAnswer g ≡ true)
   pub lengths : sumTo (g .agcount) (groupBlocks (g .dblocks) (g .agsize) (g .agcount)) ≡ g .dblocks
   lengths = let n = some-groups in sum-lengths (g .dblocks) (g .agsize) (g .agcount) (omega arith) (answer-bounds g l h .groups .before-last)
 
-  module _ (full : short logSite ≡ false) where
-    none-short-at : (k : ℕ) (t : Bool) → eqb k (g .logagno) ≡ t → short (siteOf g k) ≡ false
-    none-short-at k true e = ap (λ (n : ℕ). short (siteOf g n)) (eqb-true k (g .logagno) e) ∙ full
+  module _ (full : listShort logSite ≡ false) where
+    none-short-at : (k : ℕ) (t : Bool) → eqb k (g .logagno) ≡ t → listShort (siteOf g k) ≡ false
+    none-short-at k true e = ap (λ (n : ℕ). listShort (siteOf g n)) (eqb-true k (g .logagno) e) ∙ full
     none-short-at k false e = elsewhere-long g l h k e
 
-    none-short : (k : ℕ) → short (siteOf g k) ≡ false
+    none-short : (k : ℕ) → listShort (siteOf g k) ≡ false
     none-short k = none-short-at k (eqb k (g .logagno)) refl
 
     free-of : (k : ℕ) → k < g .agcount → freeOfPlan (planned g k .plan) ≡ freeIn (siteOf g k) + siteOf g k .need
@@ -179,7 +179,7 @@ module _ (g : Geometry) (l : length (g .label) ≡ 12) (h : isAnswer g ≡ true)
 -- ---- every geometry, an answer or not
 
 module _ (g : Geometry) (l : length (g .label) ≡ 12) where
-  number-at : (t : Bool) → isAnswer g ≡ t → choose t (firstTo (g .agcount) (λ k. planned g k .number)) 31 ≡ choose t (choose (short (siteOf g (g .logagno))) 25 0) 31
+  number-at : (t : Bool) → isAnswer g ≡ t → choose t (firstTo (g .agcount) (λ k. planned g k .number)) 31 ≡ choose t (choose (listShort (siteOf g (g .logagno))) 25 0) 31
   number-at true h = all-numbers g l h
   number-at false h = refl
 
@@ -194,9 +194,9 @@ module _ (g : Geometry) (l : length (g .label) ≡ 12) where
   planned-at false u e = absurd (omega arith)
 
   -- number 0: an answer whose log group has blocks enough
-  pub all-planned : plansNumber g ≡ 0 → (isAnswer g ≡ true) × (short (siteOf g (g .logagno)) ≡ false)
+  pub all-planned : plansNumber g ≡ 0 → (isAnswer g ≡ true) × (listShort (siteOf g (g .logagno)) ≡ false)
   unfolding constNumber
-  all-planned e = planned-at (isAnswer g) (short (siteOf g (g .logagno))) (sym plans-number ∙ e)
+  all-planned e = planned-at (isAnswer g) (listShort (siteOf g (g .logagno))) (sym plans-number ∙ e)
 
   count-at : (t : Bool) → eqb (plansNumber g) 0 ≡ t → cond t (Of (freeCount g)) (Refused (plansNumber g)) ≡ cond t (Of (constCount g)) (Refused (plansNumber g))
   count-at true e = let p = all-planned (eqb-true (plansNumber g) 0 e) in ap Of (count-const g l (p .0) (p .1))

@@ -20,7 +20,7 @@ use Rattle.plan_free.specs.declared.FreeList.{FreeList}
 use Rattle.plan_free.specs.Free.{freeOf}
 use Rattle.plan.specs.declared.AgPlan.{AgPlan}
 use Rattle.plan.specs.Plan.{planned}
-use Rattle.plan_closed.specs.Closed.{isFirst, listAt, short}
+use Rattle.plan_closed.specs.Closed.{hasRootChunk, listAt, listShort}
 use Rattle.plan_totals.specs.declared.Row.{Row}
 use Rattle.plan_totals.specs.declared.Total.{Total}
 
@@ -29,11 +29,11 @@ use Rattle.plan_totals.specs.declared.Total.{Total}
 abbrev pub addCount : ℕ → AllocRec → ℕ
 addCount n r = n + r .count
 
-abbrev pub larger : ℕ → ℕ → ℕ
-larger a b = choose (ltb a b) b a
+abbrev pub largerCount : ℕ → ℕ → ℕ
+largerCount a b = choose (ltb a b) b a
 
 abbrev pub maxCount : ℕ → AllocRec → ℕ
-maxCount n r = larger n (r .count)
+maxCount n r = largerCount n (r .count)
 
 -- the blocks of all records, and of the longest; 0 where there is none
 unfoldable pub freeblksOf : FreeList → ℕ
@@ -86,7 +86,7 @@ freeCountAnswer g = unless64 (plansNumber g) (freeCount g)
 
 -- 25 where the log group is short of blocks
 unfoldable pub constNumber : Geometry → ℕ
-constNumber g = choose (isAnswer g) (choose (short (siteOf g (g .logagno))) freeListShort 0) noAnswer
+constNumber g = choose (isAnswer g) (choose (listShort (siteOf g (g .logagno))) freeListShort 0) noAnswer
 
 -- all blocks but heads, log and root chunk
 unfoldable pub constCount : Geometry → ℕ
@@ -99,9 +99,9 @@ abbrev pub noRow : ℕ → Row
 noRow n = record { number = n; group = 0; length = 0; log = 0; list = 0; chunk = 0; free = 0; longest = 0 }
 
 -- blocks of the root chunk, where the plan has one
-abbrev pub chunkIn : OptU64 → ℕ → ℕ
-chunkIn Absent n = 0
-chunkIn (Given at) n = n
+abbrev pub chunkBlocksOf : OptU64 → ℕ → ℕ
+chunkBlocksOf Absent n = 0
+chunkBlocksOf (Given at) n = n
 
 -- the row of a plan
 abbrev pub rowFrom : Geometry → ℕ → AgPlan → Row
@@ -112,7 +112,7 @@ rowFrom g k p =
       length = p .length;
       log = choose (eqb k (g .logagno)) (g .logblocks) 0;
       list = p .agfl .len;
-      chunk = chunkIn (p .chunk) (chunkOf (g .inodesize) (g .blocksize));
+      chunk = chunkBlocksOf (p .chunk) (chunkOf (g .inodesize) (g .blocksize));
       free = freeblksOf (p .free);
       longest = longestOf (p .free);
     }
@@ -146,16 +146,16 @@ afterList s = s .length - (listAt s + s .need)
 
 unfoldable pub closedRow : Site → Row
 closedRow s =
-    choose (short s) (noRow freeListShort)
+    choose (listShort s) (noRow freeListShort)
     (record {
       number = 0;
       group = s .agno;
       length = s .length;
       log = choose (s .«has_log») (s .«log_blocks») 0;
       list = s .need;
-      chunk = choose (isFirst s) (s .«chunk_blocks») 0;
-      free = choose (isFirst s) (beforeChunk s + afterChunk s) (afterList s);
-      longest = choose (isFirst s) (larger (beforeChunk s) (afterChunk s)) (afterList s);
+      chunk = choose (hasRootChunk s) (s .«chunk_blocks») 0;
+      free = choose (hasRootChunk s) (beforeChunk s + afterChunk s) (afterList s);
+      longest = choose (hasRootChunk s) (largerCount (beforeChunk s) (afterChunk s)) (afterList s);
     })
 
 unfoldable pub closedTotal : Geometry → Total

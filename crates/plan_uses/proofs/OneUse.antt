@@ -8,26 +8,26 @@ use native.Mathlib.Omega.{arith}
 use lib.ListN.{length, replicate}
 use lib.Seq.{take-append-seam}
 use Rattle.seqs.specs.Lists.{choose}
-use Rattle.seqs.specs.Runs.{valid, blocks, has}
+use Rattle.seqs.specs.Runs.{valid, runLength, has}
 use Rattle.seqs.proofs.Weights.{additive-has, additive-blocks, inside-in, inside-above}
 use Rattle.geometry.specs.declared.Geometry.{Geometry}
 use Rattle.geometry_answers.specs.Named.{isAnswer}
 use Rattle.geometry_layout.specs.Places.{groupBlocks}
 use Rattle.btree.specs.declared.records.RmapRec.{RmapRec}
-use Rattle.plan_site.specs.Sites.{siteOf, Sound}
+use Rattle.plan_site.specs.Sites.{siteOf, SoundSite}
 use Rattle.plan_site.proofs.Sites.{site-sound}
-use Rattle.plan_rmap.specs.Rmap.{zeroRec, rmapOf, packRmap, startOf, countOf}
+use Rattle.plan_rmap.specs.Rmap.{zeroRmapRec, rmapOf, packRmap, rmapStart, rmapCount}
 use Rattle.plan.specs.declared.AgPlan.{AgPlan}
 use Rattle.plan.specs.Plan.{planned}
-use Rattle.plan_closed.specs.Closed.{isJoined, listAt, closedRmap, short, closedAgPlan}
+use Rattle.plan_closed.specs.Closed.{isJoined, listAt, closedRmap, listShort, closedAgPlan}
 use Rattle.plan_closed.proofs.Planning.{planned-number, planned-plan}
-use Rattle.plan_uses.specs.Uses.{freeUse, allParts, usesOf, usedOf, blocksOf, mappedOf, ownedOf, Owners, noneJoins, startsAt}
+use Rattle.plan_uses.specs.Uses.{freeUse, allParts, usesOf, usedOf, usedBlocks, mappedOf, ownedOf, Owners, noneJoins, startsAt}
 use Rattle.plan_uses.proofs.Parts.{parts-weigh}
 use Rattle.plan_uses.proofs.Owned.{used-weighs, owners-weigh}
 use Rattle.plan_uses.proofs.Sorted.{none-joins, map-valid, list-starts}
 
 rmap-packed : (rs : List RmapRec) → rmapOf (packRmap rs) ≡ rs
-rmap-packed rs = take-append-seam rs (replicate (64 - length rs) zeroRec)
+rmap-packed rs = take-append-seam rs (replicate (64 - length rs) zeroRmapRec)
 
 not-short : (t : Bool) → choose {A = ℕ} t 25 0 ≡ 0 → t ≡ false
 not-short true e = absurd (omega arith)
@@ -35,11 +35,11 @@ not-short false e = refl
 
 -- a planned group of an answer
 module _ (g : Geometry) (l : length (g .label) ≡ 12) (h : isAnswer g ≡ true) (k : ℕ) (i : k < g .agcount) (q : planned g k .number ≡ 0) where
-  ok : Sound (siteOf g k)
+  ok : SoundSite (siteOf g k)
   ok = site-sound g k l h
 
-  full : short (siteOf g k) ≡ false
-  full = not-short (short (siteOf g k)) (sym (planned-number g l h k i) ∙ q)
+  full : listShort (siteOf g k) ≡ false
+  full = not-short (listShort (siteOf g k)) (sym (planned-number g l h k i) ∙ q)
 
   plan-is : planned g k .plan ≡ closedAgPlan (siteOf g k)
   plan-is = planned-plan g l h k i full
@@ -57,9 +57,9 @@ module _ (g : Geometry) (l : length (g .label) ≡ 12) (h : isAnswer g ≡ true)
   no-use b j = all-weigh b ∙ inside-above 0 (groupBlocks (g .dblocks) (g .agsize) (g .agcount) k) b j
 
   -- THE BLOCKS OF ITS USES ARE AS MANY AS THE GROUP HAS
-  pub totals : blocksOf g k ≡ groupBlocks (g .dblocks) (g .agsize) (g .agcount) k
-  unfolding blocksOf blocks siteOf
-  totals = ap (allParts blocks (siteOf g k)) plan-is ∙ parts-weigh blocks additive-blocks (siteOf g k) ok full ∙ omega arith
+  pub totals : usedBlocks g k ≡ groupBlocks (g .dblocks) (g .agsize) (g .agcount) k
+  unfolding usedBlocks runLength siteOf
+  totals = ap (allParts runLength (siteOf g k)) plan-is ∙ parts-weigh runLength additive-blocks (siteOf g k) ok full ∙ omega arith
 
   -- ---- with rmapbt
 
@@ -92,7 +92,7 @@ module _ (g : Geometry) (l : length (g .label) ≡ 12) (h : isAnswer g ≡ true)
     owners-agree b = rw (its-map, plan-is) (owners-weigh (has b) (additive-has b) (siteOf g k) ok site-on)
 
     -- SORTED, APART, AND JOINED WHERE RECORDS CAN BE
-    pub rmap-valid : valid startOf countOf 0 (rmapOf (planned g k .plan .rmap)) ≡ true
+    pub rmap-valid : valid rmapStart rmapCount 0 (rmapOf (planned g k .plan .rmap)) ≡ true
     rmap-valid = rw its-map (map-valid (siteOf g k) ok site-on)
 
     pub rmap-joined : noneJoins (rmapOf (planned g k .plan .rmap)) ≡ true

@@ -12,9 +12,9 @@ use Rattle.seqs.proofs.Weights.{Additive}
 use Rattle.btree.specs.Owners.{negative}
 use Rattle.btree.specs.declared.records.RmapRec.{RmapRec}
 use Rattle.plan_site.specs.declared.Site.{Site}
-use Rattle.plan_site.specs.Sites.{Sound}
+use Rattle.plan_site.specs.Sites.{SoundSite}
 use Rattle.plan.specs.Plan.{ownFs, ownLog, ownAg, ownInobt, ownInodes, ownRefc, mapRec}
-use Rattle.plan_closed.specs.Closed.{isFirst, listAt, headParts, closedRmap, closedAgPlan}
+use Rattle.plan_closed.specs.Closed.{hasRootChunk, listAt, headMappings, closedRmap, closedAgPlan}
 use Rattle.plan_closed.proofs.Mappings.{refcIf, logIf, listIf, refc-is, head-is}
 use Rattle.plan_uses.specs.Uses.{weighOwned, anyOwner, onlyOwner, Owners, usedParts}
 use Rattle.plan_uses.proofs.Parts.{list-weighs, chunk-weighs}
@@ -30,16 +30,16 @@ restIf s z t u =
     ++ chunkIf s z
 
 abbrev pub mapIf : Site → Bool → Bool → Bool → List RmapRec
-mapIf s z t u = headParts s ++ restIf s z t u
+mapIf s z t u = headMappings s ++ restIf s z t u
 
 -- a fact of the closed list from that of its cases
-pub by-cases : (P : List RmapRec → Type 0) (s : Site) → s .rmapbt ≡ true → P (mapIf s (isFirst s) (s .reflink) (s .«has_log»)) → P (closedRmap s)
+pub by-cases : (P : List RmapRec → Type 0) (s : Site) → s .rmapbt ≡ true → P (mapIf s (hasRootChunk s) (s .reflink) (s .«has_log»)) → P (closedRmap s)
 unfolding closedRmap listAt
 by-cases P s on p = rw on p
 
 -- ---- weights by owner
 
-module _ (h : ℕ → ℕ → ℕ → ℕ) (add : (o : ℕ) → Additive (h o)) (s : Site) (ok : Sound s) (on : s .rmapbt ≡ true) where
+module _ (h : ℕ → ℕ → ℕ → ℕ) (add : (o : ℕ) → Additive (h o)) (s : Site) (ok : SoundSite s) (on : s .rmapbt ≡ true) where
   -- the records' parts, each with its owner
   abbrev before : ℕ
   before = h ownFs 0 (s .bno) + h ownAg (s .bno) (s .bno + 2) + h ownInobt (s .ibt) (s .«rmap_at»)
@@ -59,7 +59,7 @@ module _ (h : ℕ → ℕ → ℕ → ℕ) (add : (o : ℕ) → Additive (h o)) 
   abbrev inodes : Bool → ℕ
   inodes z = choose z (h ownInodes (s .«chunk_at») (s .«chunk_at» + s .«chunk_blocks»)) 0
 
-  head-weighs : (rest : List RmapRec) → weighOwned h (headParts s ++ rest) ≡ before + weighOwned h rest
+  head-weighs : (rest : List RmapRec) → weighOwned h (headMappings s ++ rest) ≡ before + weighOwned h rest
   unfolding weighOwned
   head-weighs rest =
       let a = ok .rmap-after in
@@ -87,10 +87,10 @@ module _ (h : ℕ → ℕ → ℕ → ℕ) (add : (o : ℕ) → Additive (h o)) 
   rest-weighs z false true r = let i = chunk-weighed z in omega arith
   rest-weighs z true true r = let i = chunk-weighed z in omega arith
 
-  pub map-weighs : weighOwned h (closedRmap s) ≡ before + root + counts (s .reflink) + log (s .«has_log») + list (s .«has_log») + inodes (isFirst s)
+  pub map-weighs : weighOwned h (closedRmap s) ≡ before + root + counts (s .reflink) + log (s .«has_log») + list (s .«has_log») + inodes (hasRootChunk s)
   map-weighs =
-      by-cases (λ (rs : List RmapRec). weighOwned h rs ≡ before + root + counts (s .reflink) + log (s .«has_log») + list (s .«has_log») + inodes (isFirst s)) s on
-      (let a = head-weighs (restIf s (isFirst s) (s .reflink) (s .«has_log»)) in let b = rest-weighs (isFirst s) (s .reflink) (s .«has_log») refl in omega arith)
+      by-cases (λ (rs : List RmapRec). weighOwned h rs ≡ before + root + counts (s .reflink) + log (s .«has_log») + list (s .«has_log») + inodes (hasRootChunk s)) s on
+      (let a = head-weighs (restIf s (hasRootChunk s) (s .reflink) (s .«has_log»)) in let b = rest-weighs (hasRootChunk s) (s .reflink) (s .«has_log») refl in omega arith)
 
 none : (t : Bool) → choose {A = ℕ} t 0 0 ≡ 0
 none true = refl
@@ -104,7 +104,7 @@ module _ (f : ℕ → ℕ → ℕ) (add : Additive f) where
   only-additive : (o p : ℕ) → Additive (onlyOwner o f p)
   only-additive o p = only-at (eqb p o)
 
-  module _ (s : Site) (ok : Sound s) (on : s .rmapbt ≡ true) where
+  module _ (s : Site) (ok : SoundSite s) (on : s .rmapbt ≡ true) where
     -- the head is its parts
     head-at : (t : Bool) → s .reflink ≡ t
         → f 0 (s .bno) + f (s .bno) (s .bno + 2) + f (s .ibt) (s .«rmap_at») + f (s .«rmap_at») (s .«rmap_at» + 1) + choose t (f (s .«refc_at») (s .«refc_at» + 1)) 0 ≡ f 0 (s .head)
@@ -143,7 +143,7 @@ module _ (f : ℕ → ℕ → ℕ) (add : Additive f) where
     owners-weigh =
         let a = none (s .reflink) in
         let b = none (s .«has_log») in
-        let c = none (isFirst s) in
+        let c = none (hasRootChunk s) in
         record {
           fs = let m = map-weighs (onlyOwner ownFs f) (only-additive ownFs) s ok on in omega arith;
           ag = let m = map-weighs (onlyOwner ownAg f) (only-additive ownAg) s ok on in let n = list-weighs f add s ok in omega arith;

@@ -14,14 +14,14 @@ use Rattle.seqs.specs.Runs.{weigh}
 use Rattle.seqs.proofs.Weights.{Additive, weigh-append}
 use Rattle.params.specs.declared.OptU64.the-variants.{Absent, Given}
 use Rattle.plan_site.specs.declared.Site.{Site}
-use Rattle.plan_site.specs.Sites.{Sound}
-use Rattle.plan_free.specs.Free.{startOf, countOf}
+use Rattle.plan_site.specs.Sites.{SoundSite}
+use Rattle.plan_free.specs.Free.{allocStart, allocCount}
 use Rattle.plan_free.proofs.Uses.{free-packed, piece-weighs}
 use Rattle.plan.specs.Plan.{packAgfl, gap}
-use Rattle.plan_closed.specs.Closed.{isFirst, listAt, closedFree, closedList, short, closedAgPlan}
-use Rattle.plan_uses.specs.Uses.{listOf, self, one, chunkFrom, allParts}
+use Rattle.plan_closed.specs.Closed.{hasRootChunk, listAt, closedFree, closedList, listShort, closedAgPlan}
+use Rattle.plan_uses.specs.Uses.{freeListEntries, self, one, chunkFrom, allParts}
 
-list-packed : (ys : List ℕ) → listOf (packAgfl ys) ≡ ys
+list-packed : (ys : List ℕ) → freeListEntries (packAgfl ys) ≡ ys
 list-packed ys = take-append-seam ys (replicate (64 - length ys) 0)
 
 module _ (f : ℕ → ℕ → ℕ) (add : Additive f) where
@@ -34,8 +34,8 @@ module _ (f : ℕ → ℕ → ℕ) (add : Additive f) where
       let e : a + suc n ≡ a + 1 + n = omega arith in
       rw e (let s = add .split a (a + 1) (a + 1 + n) (omega arith) (omega arith) in omega arith)
 
-  module _ (s : Site) (ok : Sound s) where
-    pub list-weighs : weigh self one f (listOf (packAgfl (closedList s))) ≡ f (listAt s) (listAt s + s .need)
+  module _ (s : Site) (ok : SoundSite s) where
+    pub list-weighs : weigh self one f (freeListEntries (packAgfl (closedList s))) ≡ f (listAt s) (listAt s + s .need)
     unfolding closedList
     list-weighs = rw (list-packed (upFrom (listAt s) (s .need))) (run-weighs (listAt s) (s .need))
 
@@ -43,28 +43,28 @@ module _ (f : ℕ → ℕ → ℕ) (add : Additive f) where
     chunk-at true = refl
     chunk-at false = refl
 
-    pub chunk-weighs : chunkFrom f (choose (isFirst s) (Given (s .«chunk_at»)) Absent) (s .«chunk_blocks») ≡ choose (isFirst s) (f (s .«chunk_at») (s .«chunk_at» + s .«chunk_blocks»)) 0
-    chunk-weighs = chunk-at (isFirst s)
+    pub chunk-weighs : chunkFrom f (choose (hasRootChunk s) (Given (s .«chunk_at»)) Absent) (s .«chunk_blocks») ≡ choose (hasRootChunk s) (f (s .«chunk_at») (s .«chunk_at» + s .«chunk_blocks»)) 0
+    chunk-weighs = chunk-at (hasRootChunk s)
 
     free-at : (t : Bool)
-        → weigh startOf countOf f (choose t (gap (s .head + s .need) (s .«chunk_at») ++ gap (s .«chunk_at» + s .«chunk_blocks») (s .length)) (gap (listAt s + s .need) (s .length)))
+        → weigh allocStart allocCount f (choose t (gap (s .head + s .need) (s .«chunk_at») ++ gap (s .«chunk_at» + s .«chunk_blocks») (s .length)) (gap (listAt s + s .need) (s .length)))
         ≡ choose t (f (s .head + s .need) (s .«chunk_at») + f (s .«chunk_at» + s .«chunk_blocks») (s .length)) (f (listAt s + s .need) (s .length))
     free-at true =
-        let u = weigh-append startOf countOf f (gap (s .head + s .need) (s .«chunk_at»)) (gap (s .«chunk_at» + s .«chunk_blocks») (s .length)) in
+        let u = weigh-append allocStart allocCount f (gap (s .head + s .need) (s .«chunk_at»)) (gap (s .«chunk_at» + s .«chunk_blocks») (s .length)) in
         let p = piece-weighs f add (s .head + s .need) (s .«chunk_at») in
         let q = piece-weighs f add (s .«chunk_at» + s .«chunk_blocks») (s .length) in
         omega arith
     free-at false = piece-weighs f add (listAt s + s .need) (s .length)
 
-    free-weighs : weigh startOf countOf f (closedFree s) ≡ choose (isFirst s) (f (s .head + s .need) (s .«chunk_at») + f (s .«chunk_at» + s .«chunk_blocks») (s .length)) (f (listAt s + s .need) (s .length))
+    free-weighs : weigh allocStart allocCount f (closedFree s) ≡ choose (hasRootChunk s) (f (s .head + s .need) (s .«chunk_at») + f (s .«chunk_at» + s .«chunk_blocks») (s .length)) (f (listAt s + s .need) (s .length))
     unfolding closedFree
-    free-weighs = free-at (isFirst s)
+    free-weighs = free-at (hasRootChunk s)
 
     -- the free list's first block, by the test that decides it
     abbrev from : Bool → ℕ
     from u = choose u (s .«log_at» + s .«log_blocks») (s .head)
 
-    sum-at : (t u : Bool) → isFirst s ≡ t → s .«has_log» ≡ u → both u (ltb (s .length - from u) (s .need)) ≡ false
+    sum-at : (t u : Bool) → hasRootChunk s ≡ t → s .«has_log» ≡ u → both u (ltb (s .length - from u) (s .need)) ≡ false
         → f 0 (s .head) + choose u (f (s .«log_at») (s .«log_at» + s .«log_blocks»)) 0 + f (from u) (from u + s .need) + choose t (f (s .«chunk_at») (s .«chunk_at» + s .«chunk_blocks»)) 0
         + choose t (f (s .head + s .need) (s .«chunk_at») + f (s .«chunk_at» + s .«chunk_blocks») (s .length)) (f (from u + s .need) (s .length))
         ≡ f 0 (s .length)
@@ -96,7 +96,7 @@ module _ (f : ℕ → ℕ → ℕ) (add : Additive f) where
         omega arith
 
     -- EVERY ADDITIVE WEIGHT OF THE GROUP IS THAT OF ITS FIVE USES
-    pub parts-weigh : short s ≡ false → allParts f s (closedAgPlan s) ≡ f 0 (s .length)
-    unfolding short listAt
+    pub parts-weigh : listShort s ≡ false → allParts f s (closedAgPlan s) ≡ f 0 (s .length)
+    unfolding listShort listAt
     parts-weigh q =
-        rw (list-weighs, chunk-weighs, free-packed (closedFree s), free-weighs) (sum-at (isFirst s) (s .«has_log») refl refl q)
+        rw (list-weighs, chunk-weighs, free-packed (closedFree s), free-weighs) (sum-at (hasRootChunk s) (s .«has_log») refl refl q)

@@ -11,9 +11,9 @@ use Rattle.seqs.specs.Lists.{both, choose}
 use Rattle.btree.specs.Owners.{negative}
 use Rattle.btree.specs.declared.records.RmapRec.{RmapRec}
 use Rattle.plan_site.specs.declared.Site.{Site}
-use Rattle.plan_site.specs.Sites.{Sound}
+use Rattle.plan_site.specs.Sites.{SoundSite}
 use Rattle.plan.specs.Plan.{ownFs, ownLog, ownAg, ownInobt, ownInodes, ownRefc, mapRec}
-use Rattle.plan_closed.specs.Closed.{isFirst, isJoined, listAt, headParts, closedRmap}
+use Rattle.plan_closed.specs.Closed.{hasRootChunk, isJoined, listAt, headMappings, closedRmap}
 use Rattle.plan_closed.proofs.Insertions.{validRmap, valid-nil, valid-cons}
 use Rattle.plan_closed.proofs.Mappings.{listIf, parts-valid, refc-is, head-is}
 use Rattle.plan_uses.specs.Uses.{noneJoins, startsAt}
@@ -33,9 +33,9 @@ none-joins-at s false false true = refl
 none-joins-at s false false false = refl
 
 pub none-joins : (s : Site) → s .rmapbt ≡ true → noneJoins (closedRmap s) ≡ true
-none-joins s on = by-cases (λ (rs : List RmapRec). noneJoins rs ≡ true) s on (none-joins-at s (isFirst s) (s .reflink) (s .«has_log»))
+none-joins s on = by-cases (λ (rs : List RmapRec). noneJoins rs ≡ true) s on (none-joins-at s (hasRootChunk s) (s .reflink) (s .«has_log»))
 
-module _ (s : Site) (ok : Sound s) (on : s .rmapbt ≡ true) where
+module _ (s : Site) (ok : SoundSite s) (on : s .rmapbt ≡ true) where
   -- ---- valid
 
   -- the root chunk lies behind all others
@@ -46,10 +46,10 @@ module _ (s : Site) (ok : Sound s) (on : s .rmapbt ≡ true) where
   chunk-valid false lo h = valid-nil lo
 
   -- group 0 has no log
-  never-both : {X : Type 0} (z : Bool) → isFirst s ≡ z → s .«has_log» ≡ true → z ≡ true → X
+  never-both : {X : Type 0} (z : Bool) → hasRootChunk s ≡ z → s .«has_log» ≡ true → z ≡ true → X
   never-both z i e q = let n = ok .log-not-first (eqb-true (s .agno) 0 (i ∙ q)) in let o : _≡_ {A = ℕ} 0 1 = cc in absurd (omega arith)
 
-  rest-valid : (z t u : Bool) → isFirst s ≡ z → s .reflink ≡ t → s .«has_log» ≡ u → validRmap (s .«rmap_at») (restIf s z t u) ≡ true
+  rest-valid : (z t u : Bool) → hasRootChunk s ≡ z → s .reflink ≡ t → s .«has_log» ≡ u → validRmap (s .«rmap_at») (restIf s z t u) ≡ true
   rest-valid z false false i r e =
       let h = head-is s ok on false r in
       let m = ok .head-most in
@@ -96,7 +96,7 @@ module _ (s : Site) (ok : Sound s) (on : s .rmapbt ≡ true) where
   pub map-valid : validRmap 0 (closedRmap s) ≡ true
   map-valid =
       by-cases (λ (rs : List RmapRec). validRmap 0 rs ≡ true) s on
-      (parts-valid s ok on (restIf s (isFirst s) (s .reflink) (s .«has_log»)) (rest-valid (isFirst s) (s .reflink) (s .«has_log») refl refl refl))
+      (parts-valid s ok on (restIf s (hasRootChunk s) (s .reflink) (s .«has_log»)) (rest-valid (hasRootChunk s) (s .reflink) (s .«has_log») refl refl refl))
 
   -- ---- the free list's own record
 
@@ -114,7 +114,7 @@ module _ (s : Site) (ok : Sound s) (on : s .rmapbt ≡ true) where
   chunk-elsewhere true b h = rw (ne-eqb (s .«chunk_at») b (h refl))
   chunk-elsewhere false b h = refl
 
-  parts-elsewhere : (b : ℕ) (rs : List RmapRec) → s .«rmap_at» < b → startsAt b (headParts s ++ rs) ≡ startsAt b rs
+  parts-elsewhere : (b : ℕ) (rs : List RmapRec) → s .«rmap_at» < b → startsAt b (headMappings s ++ rs) ≡ startsAt b rs
   parts-elsewhere b rs h =
       let i = ok .ibt-next in
       let a = ok .rmap-after in
@@ -122,7 +122,7 @@ module _ (s : Site) (ok : Sound s) (on : s .rmapbt ≡ true) where
       ∙ other b (s .bno) 2 ownAg _ (λ e. omega arith)
       ∙ other b (s .ibt) (s .«rmap_at» - s .ibt) ownInobt rs (λ e. omega arith)
 
-  starts-at : (z t u : Bool) → isFirst s ≡ z → s .reflink ≡ t → s .«has_log» ≡ u → startsAt (listIf s u) (restIf s z t u) ≡ choose (both (not t) (not u)) 0 1
+  starts-at : (z t u : Bool) → hasRootChunk s ≡ z → s .reflink ≡ t → s .«has_log» ≡ u → startsAt (listIf s u) (restIf s z t u) ≡ choose (both (not t) (not u)) 0 1
   starts-at z false false i r e =
       let h = head-is s ok on false r in
       let n = ok .need-least in
@@ -165,5 +165,5 @@ module _ (s : Site) (ok : Sound s) (on : s .rmapbt ≡ true) where
   unfolding listAt
   list-starts =
       by-cases (λ (rs : List RmapRec). startsAt (listIf s (s .«has_log»)) rs ≡ choose (isJoined s) 0 1) s on
-      (parts-elsewhere (listIf s (s .«has_log»)) (restIf s (isFirst s) (s .reflink) (s .«has_log»)) (after-root (s .«has_log»))
-      ∙ starts-at (isFirst s) (s .reflink) (s .«has_log») refl refl refl)
+      (parts-elsewhere (listIf s (s .«has_log»)) (restIf s (hasRootChunk s) (s .reflink) (s .«has_log»)) (after-root (s .«has_log»))
+      ∙ starts-at (hasRootChunk s) (s .reflink) (s .«has_log») refl refl refl)

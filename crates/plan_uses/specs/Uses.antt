@@ -6,15 +6,15 @@ use mathlib.Core.List.{List, [], _∷_}
 use Prim.Native.Nat.{ℕ, _+_}
 use lib.Dec.{eqb}
 use Rattle.seqs.specs.Lists.{both, choose, live}
-use Rattle.seqs.specs.Runs.{weigh, blocks, has}
+use Rattle.seqs.specs.Runs.{weigh, runLength, has}
 use Rattle.params.specs.declared.OptU64.{OptU64}
 use Rattle.params.specs.declared.OptU64.the-variants.{Absent, Given}
 use Rattle.geometry.specs.declared.Geometry.{Geometry}
 use Rattle.btree.specs.declared.records.RmapRec.{RmapRec}
 use Rattle.plan_site.specs.declared.Site.{Site}
 use Rattle.plan_site.specs.Sites.{siteOf}
-use Rattle.plan_free.specs.Free.{freeOf, startOf as freeStart, countOf as freeCount}
-use Rattle.plan_rmap.specs.Rmap.{rmapOf, endOf, joins}
+use Rattle.plan_free.specs.Free.{freeOf, allocStart as freeStart, allocCount as freeCount}
+use Rattle.plan_rmap.specs.Rmap.{rmapOf, rmapEnd, joins}
 use Rattle.plan.specs.declared.Agfl.{Agfl}
 use Rattle.plan.specs.declared.AgPlan.{AgPlan}
 use Rattle.plan.specs.Plan.{ofAgfl, ownFs, ownLog, ownAg, ownInobt, ownInodes, ownRefc, planned}
@@ -22,8 +22,8 @@ use Rattle.plan.specs.Plan.{ofAgfl, ownFs, ownLog, ownAg, ownInobt, ownInodes, 
 -- ---- what each use weighs, for a weight f of runs: f a c is that of the blocks from a up to, not including, c
 
 -- the entries in use of a free list, each a run of one block
-abbrev pub listOf : Agfl → List ℕ
-listOf l = live (ofAgfl l)
+abbrev pub freeListEntries : Agfl → List ℕ
+freeListEntries l = live (ofAgfl l)
 
 abbrev pub self : ℕ → ℕ
 self n = n
@@ -38,7 +38,7 @@ abbrev pub logUse : (ℕ → ℕ → ℕ) → Site → ℕ
 logUse f s = choose (s .«has_log») (f (s .«log_at») (s .«log_at» + s .«log_blocks»)) 0
 
 abbrev pub listUse : (ℕ → ℕ → ℕ) → AgPlan → ℕ
-listUse f p = weigh self one f (listOf (p .agfl))
+listUse f p = weigh self one f (freeListEntries (p .agfl))
 
 -- n blocks from the chunk's first on, where the plan has one
 abbrev pub chunkFrom : (ℕ → ℕ → ℕ) → OptU64 → ℕ → ℕ
@@ -68,15 +68,15 @@ unfoldable pub usedOf : Geometry → ℕ → ℕ → ℕ
 usedOf g k b = usedParts (has b) (siteOf g k) (planned g k .plan)
 
 -- the blocks of the five uses of group k
-unfoldable pub blocksOf : Geometry → ℕ → ℕ
-blocksOf g k = allParts blocks (siteOf g k) (planned g k .plan)
+unfoldable pub usedBlocks : Geometry → ℕ → ℕ
+usedBlocks g k = allParts runLength (siteOf g k) (planned g k .plan)
 
 -- ---- reverse mappings
 
 -- the sum of h over the records' owners and ends
 unfoldable pub weighOwned : (ℕ → ℕ → ℕ → ℕ) → List RmapRec → ℕ
 weighOwned h [] = 0
-weighOwned h (r ∷ rs) = h (r .owner) (r .start) (endOf r) + weighOwned h rs
+weighOwned h (r ∷ rs) = h (r .owner) (r .start) (rmapEnd r) + weighOwned h rs
 
 -- a weight f of all runs, and of the runs of owner o alone
 abbrev pub anyOwner : (ℕ → ℕ → ℕ) → ℕ → ℕ → ℕ → ℕ

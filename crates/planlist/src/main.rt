@@ -1,7 +1,7 @@
 // Reads input records from standard input and prints the plan of every group in a table, or `refused N`, and then its sentence on standard error.
 // What is printed is `planBytes` of the input (`plan_table`); here bytes are only read and written.
 ghost use lib.ListN.{length};
-ghost use Rattle.plan_table.specs.Filling.{begun, Printing};
+ghost use Rattle.plan_table.specs.Filling.{tableBegun, Printing};
 use libc::STDERR_FILENO;
 use libc::STDIN_FILENO;
 use libc::STDOUT_FILENO;
@@ -9,7 +9,7 @@ use plan_print::Printed;
 
 // Prints what the input asks for.
 fn answer(input: &[u8], buf: &mut [u8]) -> Printed
-    ensures { λ r. ⌜ Printing (length (now (buf .entry))) (begun (now (input .entry))) (r .table) (r .written) ⌝ }
+    ensures { λ r. ⌜ Printing (length (now (buf .entry))) (tableBegun (now (input .entry))) (r .table) (r .written) ⌝ }
 {
     let t = plan_table::begin(input);
     plan_print::print(STDOUT_FILENO, t, buf)

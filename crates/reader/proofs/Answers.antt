@@ -18,7 +18,7 @@ use Rattle.plan_totals.specs.Totals.{plansNumber}
 use Rattle.plan_same.specs.Same.{eqList}
 use Rattle.reader_names.specs.Named.{namedBy, uuidAt}
 use Rattle.reader_exact.specs.declared.Found.{Found}
-use Rattle.reader_exact.specs.Read.{notFound, found, firstTests, foundAs, readAs, placeTests, groupNumber, readGroup}
+use Rattle.reader_exact.specs.Read.{notFound, found, firstTests, foundAs, readSized, placeTests, groupNumber, readGroup}
 
 -- ---- any group
 
@@ -38,13 +38,13 @@ pub none-found : (n : ℕ) (g : Geometry) (q : Planned) → g ≡ zeroGeometry �
 none-found n g q e d = rw (e, d) refl
 
 module _ (roomy : Bool) (xs : List ℕ) where
-  pub short : length xs < 512 → notFound 27 ≡ readAs roomy xs
-  unfolding readAs firstTests foundAs when
+  pub short : length xs < 512 → notFound 27 ≡ readSized roomy xs
+  unfolding readSized firstTests foundAs when
   short h = rw (lt-ltb (length xs) 512 h) refl
 
   module _ (l : 512 ≤ length xs) where
-    pub not-named : (namedBy roomy xs .number ≡ 0 → ⊥) → notFound 30 ≡ readAs roomy xs
-    unfolding readAs firstTests foundAs when
+    pub not-named : (namedBy roomy xs .number ≡ 0 → ⊥) → notFound 30 ≡ readSized roomy xs
+    unfolding readSized firstTests foundAs when
     not-named h = rw (le-ltb (length xs) 512 l, ne-eqb (namedBy roomy xs .number) 0 h) refl
 
     module _ (z : namedBy roomy xs .number ≡ 0) (a : isAnswer (namedBy roomy xs .geometry) ≡ true) (c : 0 < namedBy roomy xs .geometry .agcount) (n : ℕ) (e : n ≡ groupNumber (namedBy roomy xs .geometry) (uuidAt xs) 0 xs) where
@@ -52,10 +52,10 @@ module _ (roomy : Bool) (xs : List ℕ) where
       unfolding firstTests groupNumber placeTests when
       number-is = rw (e, le-ltb (length xs) 512 l, eq-eqb (namedBy roomy xs .number) 0 z, a, lt-leb (namedBy roomy xs .geometry .agcount) 0 c) refl
 
-      pub refused-first : (n ≡ 0 → ⊥) → notFound n ≡ readAs roomy xs
-      unfolding readAs foundAs
+      pub refused-first : (n ≡ 0 → ⊥) → notFound n ≡ readSized roomy xs
+      unfolding readSized foundAs
       refused-first h = rw (number-is, ne-eqb n 0 h) refl
 
-      pub accepted-first : n ≡ 0 → found (namedBy roomy xs .geometry) (uuidAt xs) (planned (namedBy roomy xs .geometry) 0 .plan) ≡ readAs roomy xs
-      unfolding readAs foundAs
+      pub accepted-first : n ≡ 0 → found (namedBy roomy xs .geometry) (uuidAt xs) (planned (namedBy roomy xs .geometry) 0 .plan) ≡ readSized roomy xs
+      unfolding readSized foundAs
       accepted-first h = rw (number-is, h) refl

@@ -18,7 +18,7 @@ use Rattle.reader_names.specs.Named.{namedBy, uuidAt}
 use Rattle.reader_names.proofs.Answer.{named-answered, named-label}
 use Rattle.reader_names.specs.Read.{namedRead, uuidRead}
 use Rattle.reader_names.proofs.Laws.{full-name, full-uuid}
-use Rattle.reader_exact.specs.Read.{notFound, found, readAs, lesser, readGroup0, groupNumber}
+use Rattle.reader_exact.specs.Read.{notFound, found, readSized, lesser, readGroup0, groupNumber}
 use Rattle.reader_exact.specs.declared.Found.{Found}
 use Rattle.reader.proofs.Answers.{not-named, refused-first, accepted-first}
 
@@ -29,7 +29,7 @@ module _ (roomy : Bool) (xs : List ℕ) (l : 512 ≤ length xs) (r : Computed) (
   number-named : r .number ≡ namedBy roomy xs .number
   number-named = ap (λ (c : Computed). c .number) is-named
 
-  pub unnamed : (r .number ≡ 0 → ⊥) → notFound 30 ≡ readAs roomy xs
+  pub unnamed : (r .number ≡ 0 → ⊥) → notFound 30 ≡ readSized roomy xs
   unnamed h = not-named roomy xs l (λ z. h (number-named ∙ z))
 
   module _ (z : r .number ≡ 0) where
@@ -51,10 +51,10 @@ module _ (roomy : Bool) (xs : List ℕ) (l : 512 ≤ length xs) (r : Computed) (
       number-here : n ≡ groupNumber (namedBy roomy xs .geometry) (uuidAt xs) 0 xs
       number-here = m ∙ ap₂ (λ (c : Computed) (v : List ℕ). groupNumber (c .geometry) v 0 xs) is-named its-uuid
 
-      pub refused-read : (n ≡ 0 → ⊥) → notFound n ≡ readAs roomy xs
+      pub refused-read : (n ≡ 0 → ⊥) → notFound n ≡ readSized roomy xs
       refused-read h = refused-first roomy xs l its-number (its-answer .0) (its-answer .1) n number-here h
 
-      pub accepted-read : n ≡ 0 → (q : Planned) → q ≡ planned (r .geometry) 0 → found (r .geometry) u (q .plan) ≡ readAs roomy xs
+      pub accepted-read : n ≡ 0 → (q : Planned) → q ≡ planned (r .geometry) 0 → found (r .geometry) u (q .plan) ≡ readSized roomy xs
       accepted-read h q d =
           ap (λ (x : Planned). found (r .geometry) u (x .plan)) d
           ∙ ap₂ (λ (c : Computed) (v : List ℕ). found (c .geometry) v (planned (c .geometry) 0 .plan)) is-named its-uuid
@@ -62,12 +62,12 @@ module _ (roomy : Bool) (xs : List ℕ) (l : 512 ≤ length xs) (r : Computed) (
 
 -- ---- of the two readings
 
-module _ (xs : List ℕ) (old : Found) (e : old ≡ readAs false xs) where
+module _ (xs : List ℕ) (old : Found) (e : old ≡ readSized false xs) where
   pub old-given : old .number ≡ 0 → old ≡ readGroup0 xs
   unfolding readGroup0
-  old-given z = e ∙ sym (ap (λ (t : Bool). choose t (readAs true xs) (readAs false xs)) (le-ltb (readAs true xs .number) (readAs false xs .number) (let n = ap (λ (f : Found). f .number) e in omega arith)))
+  old-given z = e ∙ sym (ap (λ (t : Bool). choose t (readSized true xs) (readSized false xs)) (le-ltb (readSized true xs .number) (readSized false xs .number) (let n = ap (λ (f : Found). f .number) e in omega arith)))
 
-  module _ (roomy : Found) (d : roomy ≡ readAs true xs) where
+  module _ (roomy : Found) (d : roomy ≡ readSized true xs) where
     both-given : lesser roomy old ≡ readGroup0 xs
     unfolding readGroup0
     both-given = ap₂ lesser d e

@@ -2,7 +2,7 @@
 // from it, and the two are compared.
 ghost use mathlib.Core.Path.{_≡_};
 ghost use Rattle.plan.specs.Plan.{refusedPlan};
-ghost use Rattle.reader_exact.specs.Read.{notFound, readAs, readGroup0, readGroup, readLog};
+ghost use Rattle.reader_exact.specs.Read.{notFound, readSized, readGroup0, readGroup, readLog};
 use geometry::Geometry;
 use params::OptU64;
 use plan::AgPlan;
@@ -53,7 +53,7 @@ fn not_found(n: u32) -> Found
 
 // The head of group 0 under one sizing of the log.
 fn read_as(head: &[u8], roomy: bool) -> Found
-    ensures { λ r. ⌜ r ≡ readAs roomy (now (head .entry)) ⌝ }
+    ensures { λ r. ⌜ r ≡ readSized roomy (now (head .entry)) ⌝ }
 {
     if head.len() < reader_names::LEAST_SECTOR {
         return not_found(WRONG_LENGTH);

@@ -21,7 +21,7 @@ use Rattle.list_spec.specs.Listing.{logBlock, headLeft}
 use Rattle.list_accepted.specs.Accepted.{Source}
 use Rattle.reader_exact.specs.declared.Found.{Found}
 use Rattle.reader_exact.specs.Read.{found, readGroup0, readGroup, readLog}
-use Rattle.reader_exact.specs.Left.{Octets, Handed, Left, LeftLog}
+use Rattle.reader_exact.specs.Left.{Octets, Handed, HeadLeftBy, LeftLog}
 use Rattle.reader_exact.specs.Disk.{headOn, logOn, formatted}
 use Rattle.reader_exact.proofs.Disk.{head-formatted, log-formatted}
 use Rattle.reader_exact.proofs.First.{complete-first, exact-first}
@@ -70,7 +70,7 @@ module _ (g : Geometry) (u : List ℕ) where
   on-log s old = rw (← s .geometry, ← s .uuid) (log-formatted (s .request) (s .accepted) old)
 
   -- bytes that a run leaves, on a disk within the profile
-  head-leaves : (k : ℕ) (xs : List ℕ) → Left g u k xs → inProfile g (labelOn g) ≡ true → ProfileLeaves g u k xs
+  head-leaves : (k : ℕ) (xs : List ℕ) → HeadLeftBy g u k xs → inProfile g (labelOn g) ≡ true → ProfileLeaves g u k xs
   head-leaves k xs l e =
       let p = within-source g u (l .source) e in
       record {
@@ -83,7 +83,7 @@ module _ (g : Geometry) (u : List ℕ) where
       let p = within-source g u (l .source) e in
       record { leaves = record { run = p .run; bytes = λ old. l .bytes ∙ sym (on-log (p .run) old) }; profile = p .profile }
 
-  left-by : (k : ℕ) (xs : List ℕ) → ProfileLeaves g u k xs → Left g u k xs
+  left-by : (k : ℕ) (xs : List ℕ) → ProfileLeaves g u k xs → HeadLeftBy g u k xs
   left-by k xs w =
       let l = w .leaves in
       let old : Device = λ x. 0 in
@@ -134,7 +134,7 @@ module _ (xs : List ℕ) (o : Octets xs) where
   abbrev f : Found
   f = readGroup0 xs
 
-  its-left : readGroup0 xs .number ≡ 0 → Left (readGroup0 xs .geometry) (readGroup0 xs .uuid) 0 xs
+  its-left : readGroup0 xs .number ≡ 0 → HeadLeftBy (readGroup0 xs .geometry) (readGroup0 xs .uuid) 0 xs
   its-left n =
       let g = f .geometry in
       let u = f .uuid in
@@ -159,7 +159,7 @@ true-or-false false h = refl
 
 -- where a run leaves the bytes, and none under the profile does
 module _ (g : Geometry) (u : List ℕ) (k : ℕ) (xs : List ℕ) where
-  pub group-37 : Left g u k xs → (ProfileLeaves g u k xs → ⊥) → admitted true g (readGroup g u k xs .number) ≡ 37
+  pub group-37 : HeadLeftBy g u k xs → (ProfileLeaves g u k xs → ⊥) → admitted true g (readGroup g u k xs .number) ≡ 37
   group-37 l h =
       outside-37 g (readGroup g u k xs .number) (ap (λ (p : Planned). p .number) (complete-group g u k xs l))
       (true-or-false (inProfile g (labelOn g)) (λ e. h (head-leaves g u k xs l e)))

@@ -13,7 +13,7 @@ use Rattle.seqs.specs.Lists.{choose}
 use Rattle.geometry.specs.declared.Geometry.{Geometry}
 use Rattle.profile.specs.Rules.{profileNumber, labelOn}
 use Rattle.reader_exact.specs.Read.{readGroup0, readGroup, readLog}
-use Rattle.reader_exact.specs.Left.{Octets, Handed, Left, LeftLog}
+use Rattle.reader_exact.specs.Left.{Octets, Handed, HeadLeftBy, LeftLog}
 use Rattle.reader_exact.proofs.Others.{group-sound, exact-log}
 use Rattle.reader_exact.proofs.Numbers.{oneOf, firstNumbers, groupNumbers, logNumbers, first-numbers, group-numbers, log-numbers}
 use Rattle.reader_admit.specs.Admit.{admitted}
@@ -45,7 +45,7 @@ first-exactly xs o = (
 
 -- A GROUP'S HEAD
 pub group-exactly : (g : Geometry) (u : List ℕ) (k : ℕ) (xs : List ℕ) → Handed g u
-    → (admitted true g (readGroup g u k xs .number) ≡ 37) ↔ (Left g u k xs × (ProfileLeaves g u k xs → ⊥))
+    → (admitted true g (readGroup g u k xs .number) ≡ 37) ↔ (HeadLeftBy g u k xs × (ProfileLeaves g u k xs → ⊥))
 group-exactly g u k xs h = (
   (λ e. (
     group-sound g u k xs h (only-zero g (readGroup g u k xs .number) (λ q. subst (λ (j : ℕ). T (oneOf groupNumbers j)) q (group-numbers g u k xs)) e),

@@ -21,8 +21,8 @@ use Rattle.reader_exact.proofs.Heads.{source-handed}
 use Rattle.reader_exact.proofs.Others.{exact-log}
 use Rattle.reader_exact.proofs.Recovery.{Recovered, recovered}
 use Rattle.reader_exact.proofs.Whole.{whole-source, whole-heads}
-use Rattle.reader_pass.specs.Passing.{verdictOf}
-use Rattle.reader_pass.specs.Device.{Bytes, passed, fedBy, groupsFed, sectorNamed, turnsNeeded, LeftByRun}
+use Rattle.reader_pass.specs.Passing.{passVerdict}
+use Rattle.reader_pass.specs.Device.{ByteDevice, passedTurns, fedBy, groupsFed, sectorNamed, turnsNeeded, LeftByRun}
 use Rattle.reader_pass.proofs.Accepted.{pass-sound, pass-geometry}
 use Rattle.reader_pass.proofs.Fed.{fed-whole}
 use Rattle.reader_pass.proofs.Left.{octets, run-leaves, left-accepted, left-geometry}
@@ -74,22 +74,22 @@ module _ (heads : ℕ → List ℕ) (log : List ℕ) (o : Octets (heads 0)) (w :
 -- ---- a pass
 
 -- WHATEVER IS FED, from a file that changes while it is read too: admitted says that one run under the profile leaves all of it, and that all was fed
-pub admit-fed : (parts : ℕ → List ℕ) → Octets (parts 1) → (n : ℕ) → admitted true (verdictOf (fedBy parts n) .geometry) (verdictOf (fedBy parts n) .number) ≡ 0
+pub admit-fed : (parts : ℕ → List ℕ) → Octets (parts 1) → (n : ℕ) → admitted true (passVerdict (fedBy parts n) .geometry) (passVerdict (fedBy parts n) .number) ≡ 0
     → ProfileRecords (λ k. parts (k + 1)) (parts (groupsFed parts + 1)) × (groupsFed parts + 2 ≤ n)
 admit-fed parts o n e =
-    let p = admitted-zero (verdictOf (fedBy parts n) .geometry) (verdictOf (fedBy parts n) .number) e in
+    let p = admitted-zero (passVerdict (fedBy parts n) .geometry) (passVerdict (fedBy parts n) .number) e in
     let f = fed-whole parts n (p .0) in
     let i = subst (λ (x : Geometry). inProfile x (labelOn x) ≡ true) (f .1 .1) (p .1) in
     (profile-records (λ k. parts (k + 1)) (parts (groupsFed parts + 1)) o (f .0) i, f .1 .0)
 
 module _ (d : Device) (n : ℕ) where
   abbrev number : ℕ
-  number = verdictOf (passed d n) .number
+  number = passVerdict (passedTurns d n) .number
 
   abbrev geometry : Geometry
-  geometry = verdictOf (passed d n) .geometry
+  geometry = passVerdict (passedTurns d n) .geometry
 
-  disk-left : Bytes d → admitted true (verdictOf (passed d n) .geometry) (verdictOf (passed d n) .number) ≡ 0 → ProfileDisk d
+  disk-left : ByteDevice d → admitted true (passVerdict (passedTurns d n) .geometry) (passVerdict (passedTurns d n) .number) ≡ 0 → ProfileDisk d
   unfolding run-leaves
   disk-left b e =
       let p = admitted-zero geometry number e in
@@ -100,7 +100,7 @@ module _ (d : Device) (n : ℕ) where
       let o = octets d b (sectorNamed d) in
       record { left = run-leaves d w (profile-run heads log o w i); profile = profile-is heads log o w i }
 
-  left-within : Bytes d → turnsNeeded d ≤ n → ProfileDisk d → admitted true (verdictOf (passed d n) .geometry) (verdictOf (passed d n) .number) ≡ 0
+  left-within : ByteDevice d → turnsNeeded d ≤ n → ProfileDisk d → admitted true (passVerdict (passedTurns d n) .geometry) (passVerdict (passedTurns d n) .number) ≡ 0
   left-within b h w =
       let r = w .left .request in
       let z = left-accepted d b n h (w .left) in
@@ -109,11 +109,11 @@ module _ (d : Device) (n : ℕ) where
       zero-admitted geometry number z (ap (λ (x : Geometry). inProfile x (labelOn x)) q ∙ reported-within (runOf r .geometry) ∙ i)
 
   -- A DISK, once all was read
-  pub admit-disk : Bytes d → turnsNeeded d ≤ n → (admitted true (verdictOf (passed d n) .geometry) (verdictOf (passed d n) .number) ≡ 0) ↔ ProfileDisk d
+  pub admit-disk : ByteDevice d → turnsNeeded d ≤ n → (admitted true (passVerdict (passedTurns d n) .geometry) (passVerdict (passedTurns d n) .number) ≡ 0) ↔ ProfileDisk d
   admit-disk b h = (disk-left b, left-within b h)
 
   -- 37 WHERE A RUN LEAVES IT, AND NONE UNDER THE PROFILE DOES
-  pub disk-37 : Bytes d → turnsNeeded d ≤ n → LeftByRun d → (ProfileDisk d → ⊥) → admitted true (verdictOf (passed d n) .geometry) (verdictOf (passed d n) .number) ≡ 37
+  pub disk-37 : ByteDevice d → turnsNeeded d ≤ n → LeftByRun d → (ProfileDisk d → ⊥) → admitted true (passVerdict (passedTurns d n) .geometry) (passVerdict (passedTurns d n) .number) ≡ 37
   disk-37 b h l q =
       let z = left-accepted d b n h l in
       outside-37 geometry number z (go (inProfile geometry (labelOn geometry)) refl z)

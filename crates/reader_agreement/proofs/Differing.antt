@@ -27,7 +27,7 @@ use Rattle.reader_exact.specs.Read.{readGroup, readLog}
 use Rattle.reader_exact.proofs.Heads.{source-bounds, source-handed, left-length, log-length}
 use Rattle.reader_exact.proofs.Others.{complete-group, exact-log}
 use Rattle.reader_agreement.specs.declared.Agreement.{Agreement}
-use Rattle.reader_agreement.specs.Agreed.{common, known, largest, agreedIn, headAgreed, logAgreed}
+use Rattle.reader_agreement.specs.Agreed.{common, agreeing, mostHeadBytes, agreedIn, headAgreed, logAgreed}
 
 -- ---- two lists
 
@@ -71,11 +71,11 @@ common-all (x ∷ xs) (y ∷ ys) l h = by (λ k. common-all xs ys (let m : suc (
 
 module _ (g : Geometry) (u : List ℕ) (s : Source g u) (k : ℕ) (h : k < g .agcount) (xs : List ℕ) (l : length xs ≡ headLength g) where
   -- there is something to compare it with
-  pub head-known : headAgreed g u k xs ≡ known (headLeft g u k) xs
+  pub head-known : headAgreed g u k xs ≡ agreeing (headLeft g u k) xs
   unfolding headAgreed agreedIn headLength
   head-known =
       let m = head-most g (source-bounds g u s) in
-      rw (le-leb (length xs) largest (omega arith), eq-eqb (headRefusal g k (length xs)) 0 (sym (head-fits g k (length xs) (source-plans g u s) l h))) refl
+      rw (le-leb (length xs) mostHeadBytes (omega arith), eq-eqb (headRefusal g k (length xs)) 0 (sym (head-fits g k (length xs) (source-plans g u s) l h))) refl
 
   head-same : length (headLeft g u k) ≡ length xs
   head-same = left-length g u s k h ∙ sym l
@@ -105,11 +105,11 @@ module _ (g : Geometry) (u : List ℕ) (s : Source g u) (k : ℕ) (h : k < g .ag
 -- ---- the log's first block, likewise
 
 module _ (g : Geometry) (u : List ℕ) (s : Source g u) (xs : List ℕ) (l : length xs ≡ g .blocksize) where
-  pub log-known : logAgreed g u xs ≡ known (logBlock g u) xs
+  pub log-known : logAgreed g u xs ≡ agreeing (logBlock g u) xs
   unfolding logAgreed agreedIn
   log-known =
       let m = size-most g (source-bounds g u s) in
-      rw (le-leb (length xs) largest (omega arith), eq-eqb (logRefusal g (length xs)) 0 (sym (block-fits g (length xs) (source-plans g u s) l))) refl
+      rw (le-leb (length xs) mostHeadBytes (omega arith), eq-eqb (logRefusal g (length xs)) 0 (sym (block-fits g (length xs) (source-plans g u s) l))) refl
 
   pub log-agrees : length xs ≤ logAgreed g u xs .count → readLog g u xs ≡ 0
   log-agrees c =

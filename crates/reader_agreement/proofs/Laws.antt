@@ -23,7 +23,7 @@ use Rattle.group_bytes.specs.Answers.{headRefusal, logRefusal}
 use Rattle.reader_names.specs.Read.{namedRead, uuidRead}
 use Rattle.reader_pass.specs.declared.Verdict.{Verdict}
 use Rattle.reader_agreement.specs.declared.Agreement.{Agreement}
-use Rattle.reader_agreement.specs.Agreed.{common, unknown, known, largest, agreedIn, headAgreed, logAgreed, firstAs, farther, firstAgreed, agreedAt}
+use Rattle.reader_agreement.specs.Agreed.{common, nothingLeft, agreeing, mostHeadBytes, agreedIn, headAgreed, logAgreed, firstAs, farther, firstAgreed, agreedAt}
 
 -- ---- a turn of the loop that compares
 common-none : (l : List ℕ) → common l [] ≡ 0
@@ -57,20 +57,20 @@ module _ (a b : List ℕ) (i : ℕ) where
 
 -- ---- what is made in a buffer of the bytes' length, and compared
 module _ (n : ℕ) (left xs : List ℕ) where
-  pub too-long : largest < length xs → unknown ≡ agreedIn n left xs
+  pub too-long : mostHeadBytes < length xs → nothingLeft ≡ agreedIn n left xs
   unfolding agreedIn
-  too-long h = rw (lt-leb (length xs) largest h) refl
+  too-long h = rw (lt-leb (length xs) mostHeadBytes h) refl
 
-  module _ (l : length xs ≤ largest) where
-    pub not-made : (n ≡ 0 → ⊥) → unknown ≡ agreedIn n left xs
+  module _ (l : length xs ≤ mostHeadBytes) where
+    pub not-made : (n ≡ 0 → ⊥) → nothingLeft ≡ agreedIn n left xs
     unfolding agreedIn
-    not-made h = rw (le-leb (length xs) largest l, ne-eqb n 0 h) refl
+    not-made h = rw (le-leb (length xs) mostHeadBytes l, ne-eqb n 0 h) refl
 
     pub made : {r c : ℕ} {old ys : List ℕ} → Written n left old r ys → r ≡ 0 → c ≡ common ys xs → record { known = true; count = c } ≡ agreedIn n left xs
     unfolding agreedIn
     made {r} {c} w z e =
         let m : n ≡ 0 = sym (w .number) ∙ z in
-        rw (le-leb (length xs) largest l, eq-eqb n 0 m)
+        rw (le-leb (length xs) mostHeadBytes l, eq-eqb n 0 m)
         (ap (λ (k : ℕ). record { known = true; count = k }) (e ∙ ap (λ (zs : List ℕ). common zs xs) (written-in w m)))
 
 -- as much of a buffer as there are bytes
@@ -93,9 +93,9 @@ module _ (a b : Agreement) where
     second-farther k = rw (h, lt-leb (b .count) (a .count) k) refl
 
 -- ---- the place of a verdict
-module _ (g : Geometry) (u xs ws : List ℕ) (e : length ws ≡ length xs) (l : length xs ≤ largest) where
+module _ (g : Geometry) (u xs ws : List ℕ) (e : length ws ≡ length xs) (l : length xs ≤ mostHeadBytes) where
   module _ (k r : ℕ) (ys : List ℕ) (w : Written (headRefusal g k (length ws)) (headLeft g u k) ws r ys) where
-    pub head-unmade : (r ≡ 0 → ⊥) → unknown ≡ headAgreed g u k xs
+    pub head-unmade : (r ≡ 0 → ⊥) → nothingLeft ≡ headAgreed g u k xs
     unfolding headAgreed
     head-unmade n = not-made (headRefusal g k (length xs)) (headLeft g u k) xs l (λ z. n (w .number ∙ ap (headRefusal g k) e ∙ z))
 
@@ -106,7 +106,7 @@ module _ (g : Geometry) (u xs ws : List ℕ) (e : length ws ≡ length xs) (l : 
         made (headRefusal g k (length xs)) (headLeft g u k) xs l v z d
 
   module _ (r : ℕ) (ys : List ℕ) (w : Written (logRefusal g (length ws)) (logBlock g u) ws r ys) where
-    pub log-unmade : (r ≡ 0 → ⊥) → unknown ≡ logAgreed g u xs
+    pub log-unmade : (r ≡ 0 → ⊥) → nothingLeft ≡ logAgreed g u xs
     unfolding logAgreed
     log-unmade n = not-made (logRefusal g (length xs)) (logBlock g u) xs l (λ z. n (w .number ∙ ap (logRefusal g) e ∙ z))
 
@@ -116,17 +116,17 @@ module _ (g : Geometry) (u xs ws : List ℕ) (e : length ws ≡ length xs) (l : 
         let v : Written (logRefusal g (length xs)) (logBlock g u) ws r ys = rw e at w in
         made (logRefusal g (length xs)) (logBlock g u) xs l v z d
 
-module _ (g : Geometry) (u xs : List ℕ) (h : largest < length xs) where
-  pub head-long : (k : ℕ) → unknown ≡ headAgreed g u k xs
+module _ (g : Geometry) (u xs : List ℕ) (h : mostHeadBytes < length xs) where
+  pub head-long : (k : ℕ) → nothingLeft ≡ headAgreed g u k xs
   unfolding headAgreed
   head-long k = too-long (headRefusal g k (length xs)) (headLeft g u k) xs h
 
-  pub log-long : unknown ≡ logAgreed g u xs
+  pub log-long : nothingLeft ≡ logAgreed g u xs
   unfolding logAgreed
   log-long = too-long (logRefusal g (length xs)) (logBlock g u) xs h
 
 module _ (roomy : Bool) (xs : List ℕ) (c : Computed) (e : c ≡ namedRead roomy xs) where
-  pub first-unnamed : (c .number ≡ 0 → ⊥) → unknown ≡ firstAs roomy xs
+  pub first-unnamed : (c .number ≡ 0 → ⊥) → nothingLeft ≡ firstAs roomy xs
   unfolding firstAs
   first-unnamed n = rw (← e, ne-eqb (c .number) 0 n) refl
 

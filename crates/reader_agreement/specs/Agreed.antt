@@ -21,20 +21,20 @@ common (x ∷ xs) [] = 0
 common (x ∷ xs) (y ∷ ys) = choose (eqb x y) (suc (common xs ys)) 0
 
 -- no run leaves anything here that the bytes could be compared with
-abbrev pub unknown : Agreement
-unknown = record { known = false; count = 0 }
+abbrev pub nothingLeft : Agreement
+nothingLeft = record { known = false; count = 0 }
 
 -- the bytes xs agree so far with those that are left
-abbrev pub known : List ℕ → List ℕ → Agreement
-known left xs = record { known = true; count = common left xs }
+abbrev pub agreeing : List ℕ → List ℕ → Agreement
+agreeing left xs = record { known = true; count = common left xs }
 
 -- the largest head: 10 blocks of 16,384 bytes
-abbrev pub largest : ℕ
-largest = 163840
+abbrev pub mostHeadBytes : ℕ
+mostHeadBytes = 163840
 
 -- what is left is made in as many bytes as there are, unless a number refuses that, or they are more than any head has
 unfoldable pub agreedIn : ℕ → List ℕ → List ℕ → Agreement
-agreedIn number left xs = choose (leb (length xs) largest && eqb number 0) (known left xs) unknown
+agreedIn number left xs = choose (leb (length xs) mostHeadBytes && eqb number 0) (agreeing left xs) nothingLeft
 
 -- group k's head
 unfoldable pub headAgreed : Geometry → List ℕ → ℕ → List ℕ → Agreement
@@ -46,7 +46,7 @@ logAgreed g u xs = agreedIn (logRefusal g (length xs)) (logBlock g u) xs
 
 -- group 0's head under a sizing of the log: the geometry and the UUID are those that it names
 abbrev pub namedAgreed : Computed → List ℕ → List ℕ → Agreement
-namedAgreed c u xs = choose (eqb (c .number) 0) (headAgreed (c .geometry) u 0 xs) unknown
+namedAgreed c u xs = choose (eqb (c .number) 0) (headAgreed (c .geometry) u 0 xs) nothingLeft
 
 unfoldable pub firstAs : Bool → List ℕ → Agreement
 firstAs roomy xs = namedAgreed (namedRead roomy xs) (uuidRead xs) xs

@@ -2,7 +2,7 @@
 ghost use mathlib.Core.Path.{_≡_};
 ghost use Prim.Native.Nat.{_≤_};
 ghost use lib.ListN.{length};
-ghost use Rattle.reader_agreement.specs.Agreed.{common, unknown as unknownDef, headAgreed, logAgreed, firstAs, farther as fartherDef, firstAgreed, agreedAt};
+ghost use Rattle.reader_agreement.specs.Agreed.{common, nothingLeft as unknownDef, headAgreed, logAgreed, firstAs, farther as fartherDef, firstAgreed, agreedAt};
 use arith::numbers::min_usize;
 use geometry::Geometry;
 use group_bytes::LARGEST_HEAD;

@@ -28,7 +28,7 @@ use Rattle.plan.specs.declared.AgPlan.{AgPlan}
 use Rattle.plan_same.specs.Same.{isPlan}
 use Rattle.head_frame.specs.declared.Frame.{Frame}
 use Rattle.head_frame.specs.Frames.{frameOf, Fine}
-use Rattle.head_bytes.specs.Head.{zeros, agfOf, agiOf, inoMagic, finoMagic, rootBytes, bnoRoot, cntRoot, inodeRoot, rmapRoot, refcRoot, sectorsBytes, rootsBytes, behindBytes, headBytes}
+use Rattle.head_bytes.specs.Head.{zeros, agfFor, agiFor, inoMagic, finoMagic, rootBytes, bnoRoot, cntRoot, inodeRoot, rmapRoot, refcRoot, sectorsBytes, rootsBytes, behindBytes, headBytes}
 use Rattle.head_bytes.proofs.Lending.{sb-length, agf-length, agi-length, agfl-length}
 use Rattle.head_bytes.proofs.Whole.{root-length}
 use Rattle.reader_decoded.specs.Decoded.{sectorAt, blockAt}
@@ -83,14 +83,14 @@ module _ (w : Frame) (p : AgPlan) (g : Geometry) (s : SbState) (uuid : List ℕ)
   unfolding sbBytes
   sb-checked = stamped-verifies 224 _ (let a = write-length (sbFields g s) sector in let b = sector-long in omega arith)
 
-  agf-checked : verified 216 (agfBytes (agfOf w (p .free) (p .agfl .len)) uuid sector) ≡ true
+  agf-checked : verified 216 (agfBytes (agfFor w (p .free) (p .agfl .len)) uuid sector) ≡ true
   unfolding agfBytes
   agf-checked =
-      stamped-verifies 216 _ (let a = write-length (agfFields (agfOf w (p .free) (p .agfl .len)) uuid) sector in let b = sector-long in omega arith)
+      stamped-verifies 216 _ (let a = write-length (agfFields (agfFor w (p .free) (p .agfl .len)) uuid) sector in let b = sector-long in omega arith)
 
-  agi-checked : verified 312 (agiBytes (agiOf w) uuid sector) ≡ true
+  agi-checked : verified 312 (agiBytes (agiFor w) uuid sector) ≡ true
   unfolding agiBytes
-  agi-checked = stamped-verifies 312 _ (let a = write-length (agiFields (agiOf w) uuid) sector in let b = sector-long in omega arith)
+  agi-checked = stamped-verifies 312 _ (let a = write-length (agiFields (agiFor w) uuid) sector in let b = sector-long in omega arith)
 
   list-checked : verified 32 (agflBytes (w .agno) uuid 1 (take (p .agfl .len) (p .agfl .blocks)) sector) ≡ true
   unfolding agflBytes
@@ -175,8 +175,8 @@ module _ (w : Frame) (p : AgPlan) (g : Geometry) (s : SbState) (uuid : List ℕ)
       let z = length-replicate {A = ℕ} (w .sector) 0 in
       let q = length-replicate {A = ℕ} (w .header * w .block - 4 * w .sector) 0 in
       let a = sb-length g s sector in
-      let b = agf-length (agfOf w (p .free) (p .agfl .len)) uuid sector in
-      let c = agi-length (agiOf w) uuid sector in
+      let b = agf-length (agfFor w (p .free) (p .agfl .len)) uuid sector in
+      let c = agi-length (agiFor w) uuid sector in
       let d = agfl-length (w .agno) uuid 1 (take (p .agfl .len) (p .agfl .blocks)) sector in
       let f = ok .sectors-fit in
       simp length-append (omega arith)

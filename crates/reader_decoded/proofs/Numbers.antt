@@ -20,19 +20,19 @@ use Rattle.btree.specs.declared.records.AllocRec.{AllocRec}
 use Rattle.btree.specs.Decode.{each, allocFits}
 use Rattle.ag.specs.Decode.{agfFits, agiFits}
 use Rattle.plan_site.specs.declared.Site.{Site}
-use Rattle.plan_site.specs.Sites.{siteOf, Sound}
+use Rattle.plan_site.specs.Sites.{siteOf, SoundSite}
 use Rattle.plan_site.proofs.Sites.{site-sound}
 use Rattle.plan_free.specs.declared.FreeList.{FreeList}
 use Rattle.plan_free.specs.Free.{freeOf}
 use Rattle.plan_free.proofs.Uses.{free-packed}
 use Rattle.plan.specs.declared.AgPlan.{AgPlan}
 use Rattle.plan.specs.Plan.{gap}
-use Rattle.plan_closed.specs.Closed.{isFirst, listAt, closedFree, closedList, closedAgPlan}
+use Rattle.plan_closed.specs.Closed.{hasRootChunk, listAt, closedFree, closedList, closedAgPlan}
 use Rattle.plan_totals.specs.Totals.{freeblksOf, longestOf}
 use Rattle.plan_same.specs.Same.{isPlan}
 use Rattle.head_frame.specs.declared.Frame.{Frame}
 use Rattle.plan_summary.proofs.Narrow.{plan-answer, plan-closed}
-use Rattle.head_bytes.specs.Head.{agfOf, agiOf}
+use Rattle.head_bytes.specs.Head.{agfFor, agiFor}
 
 -- ---- the headers
 
@@ -48,8 +48,8 @@ module _ (w : Frame) (header : w .header ≤ 4) (group : w .agno < 2 ^ 32) (bloc
   root-below : (t : Bool) (n : ℕ) → n ≤ 10 → when t n 0 < 2 ^ 32
   root-below t n h = when-below t n (2 ^ 32) (omega arith) (lit< tt)
 
-  pub agf-fits : (free : FreeList) (list : ℕ) → list ≤ 6 → freeblksOf free < 2 ^ 32 → longestOf free < 2 ^ 32 → agfFits (agfOf w free list)
-  unfolding agfOf cntBlock rmapBlock refcBlock
+  pub agf-fits : (free : FreeList) (list : ℕ) → list ≤ 6 → freeblksOf free < 2 ^ 32 → longestOf free < 2 ^ 32 → agfFits (agfFor w free list)
+  unfolding agfFor cntBlock rmapBlock refcBlock
   agf-fits free list n f m =
       let i = bit-le (w .features .finobt) in
       let j = bit-le (w .features .rmapbt) in
@@ -59,8 +59,8 @@ module _ (w : Frame) (header : w .header ≤ 4) (group : w .agno < 2 ^ 32) (bloc
       let refc = bit-below (w .features .reflink) in
       (group, (blocks, (omega arith, (one, (omega arith, (one, (root-below (w .features .rmapbt) _ (omega arith), (rmap, (rmap, (root-below (w .features .reflink) _ (omega arith), (refc, (refc, (one, (omega arith, (omega arith, (f, (m, (lit< tt, tt))))))))))))))))))
 
-  pub agi-fits : w .newino < 2 ^ 32 → agiFits (agiOf w)
-  unfolding agiOf ibtBlock fibtBlock
+  pub agi-fits : w .newino < 2 ^ 32 → agiFits (agiFor w)
+  unfolding agiFor ibtBlock fibtBlock
   agi-fits inode =
       let one : 1 < 2 ^ 32 = lit< tt in
       let some : (n : ℕ) → n ≤ 64 → when (w .«has_chunk») n 0 < 2 ^ 32 = λ n h. when-below (w .«has_chunk») n (2 ^ 32) (omega arith) (lit< tt) in
@@ -81,7 +81,7 @@ each-append : {A : Type 0} (ok : A → Type 0) (xs ys : List A) → each ok xs �
 each-append ok [] ys a b = b
 each-append ok (x ∷ xs) ys a b = (a .0, each-append ok xs ys (a .1) b)
 
-module _ (s : Site) (ok : Sound s) where
+module _ (s : Site) (ok : SoundSite s) where
   after-list : listAt s + s .need < 2 ^ 32
   unfolding listAt
   after-list =
@@ -106,7 +106,7 @@ module _ (s : Site) (ok : Sound s) where
       let h = ok .head-most in
       let n = ok .need-most in
       let e : s .length < 2 ^ 32 = omega arith in
-      choose-elim (λ (l : List AllocRec). each allocFits l) (isFirst s) _ _
+      choose-elim (λ (l : List AllocRec). each allocFits l) (hasRootChunk s) _ _
       (λ t. each-append allocFits (gap (s .head + s .need) (s .«chunk_at»)) _ (gap-fits (s .head + s .need) (s .«chunk_at») (omega arith) (omega arith))
       (gap-fits (s .«chunk_at» + s .«chunk_blocks») (s .length) (omega arith) e))
       (λ t. gap-fits (listAt s + s .need) (s .length) after-list e)
@@ -121,7 +121,7 @@ module _ (g : Geometry) (p : AgPlan) (l : length (g .label) ≡ 12) (h : isPlan 
   abbrev its : Site
   its = siteOf g (p .agno)
 
-  sound : Sound its
+  sound : SoundSite its
   sound = site-sound g (p .agno) l (plan-answer g p l h .0)
 
   -- a fact of the plan from that of its closed form

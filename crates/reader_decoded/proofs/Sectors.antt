@@ -29,7 +29,7 @@ use Rattle.plan_same.specs.Same.{isPlan}
 use Rattle.head_frame.specs.declared.Frame.{Frame}
 use Rattle.head_frame.specs.Frames.{frameOf, Fine}
 use Rattle.head_frame.proofs.Fitting.{plan-narrow, plan-few, plan-fine}
-use Rattle.head_bytes.specs.Head.{zeros, agfOf, agiOf, inoMagic, finoMagic, bnoRoot, cntRoot, inodeRoot, rmapRoot, refcRoot, sectorsBytes, rootsBytes, behindBytes, headBytes}
+use Rattle.head_bytes.specs.Head.{zeros, agfFor, agiFor, inoMagic, finoMagic, bnoRoot, cntRoot, inodeRoot, rmapRoot, refcRoot, sectorsBytes, rootsBytes, behindBytes, headBytes}
 use Rattle.head_bytes.proofs.Lending.{sb-length, agf-length, agi-length, agfl-length}
 use Rattle.head_bytes.proofs.Whole.{root-length}
 use Rattle.head_bytes.proofs.Ready.{head-from}
@@ -48,10 +48,10 @@ module _ (w : Frame) (p : AgPlan) (g : Geometry) (s : SbState) (uuid : List ℕ)
   SB = sbBytes g s (zeros ss)
 
   abbrev pub AGF : List ℕ
-  AGF = agfBytes (agfOf w (p .free) (p .agfl .len)) uuid (zeros ss)
+  AGF = agfBytes (agfFor w (p .free) (p .agfl .len)) uuid (zeros ss)
 
   abbrev pub AGI : List ℕ
-  AGI = agiBytes (agiOf w) uuid (zeros ss)
+  AGI = agiBytes (agiFor w) uuid (zeros ss)
 
   abbrev pub LIST : List ℕ
   LIST = agflBytes (w .agno) uuid 1 (take (p .agfl .len) (p .agfl .blocks)) (zeros ss)
@@ -82,10 +82,10 @@ module _ (w : Frame) (p : AgPlan) (g : Geometry) (s : SbState) (uuid : List ℕ)
   sb-long = sb-length g s (zeros ss) ∙ zeros-length ss
 
   agf-long : length AGF ≡ ss
-  agf-long = agf-length (agfOf w (p .free) (p .agfl .len)) uuid (zeros ss) ∙ zeros-length ss
+  agf-long = agf-length (agfFor w (p .free) (p .agfl .len)) uuid (zeros ss) ∙ zeros-length ss
 
   agi-long : length AGI ≡ ss
-  agi-long = agi-length (agiOf w) uuid (zeros ss) ∙ zeros-length ss
+  agi-long = agi-length (agiFor w) uuid (zeros ss) ∙ zeros-length ss
 
   list-long : length LIST ≡ ss
   list-long = agfl-length (w .agno) uuid 1 (take (p .agfl .len) (p .agfl .blocks)) (zeros ss) ∙ zeros-length ss
@@ -166,32 +166,32 @@ module _ (g : Geometry) (p : AgPlan) (uuid : List ℕ) (s : SbState) (l : length
   sector-long = let a = sector-least (w .sector) (fine .sector-is) in let b = length-replicate {A = ℕ} (w .sector) 0 in omega arith
 
   -- THE AGF IS READ BACK
-  pub agf-in : agfIn g xs ≡ agfOf w (p .free) (p .agfl .len)
+  pub agf-in : agfIn g xs ≡ agfFor w (p .free) (p .agfl .len)
   unfolding agfIn frameOf
   agf-in =
       let n = plan-narrow g p l h in
       let f = plan-few g p l h in
       let z = sector-long in
       ap (λ (zs : List ℕ). agfRead zs) (sector-back 1 _ (agf-there w p g s uuid fine))
-      ∙ agf-back (agfOf w (p .free) (p .agfl .len)) uuid (zeros (w .sector)) u (omega arith)
+      ∙ agf-back (agfFor w (p .free) (p .agfl .len)) uuid (zeros (w .sector)) u (omega arith)
       (agf-fits w (fine .header-most) (n .group) (n .blocks) (p .free) (p .agfl .len) (f .list-most) (f .blocks-most) (f .longest-most))
 
   -- THE AGI IS READ BACK
-  pub agi-in : agiIn g xs ≡ agiOf w
+  pub agi-in : agiIn g xs ≡ agiFor w
   unfolding agiIn frameOf
   agi-in =
       let n = plan-narrow g p l h in
       let z = sector-long in
       ap (λ (zs : List ℕ). agiRead zs) (sector-back 2 _ (agi-there w p g s uuid fine))
-      ∙ agi-back (agiOf w) uuid (zeros (w .sector)) u (omega arith) (agi-fits w (fine .header-most) (n .group) (n .blocks) (n .inode))
+      ∙ agi-back (agiFor w) uuid (zeros (w .sector)) u (omega arith) (agi-fits w (fine .header-most) (n .group) (n .blocks) (n .inode))
 
   -- the group's number and length
   pub group-in : agfIn g xs .seqno ≡ p .agno
-  unfolding agfOf frameOf
+  unfolding agfFor frameOf
   group-in = ap (λ (a : Agf). a .seqno) agf-in
 
   pub length-in : agfIn g xs .length ≡ p .length
-  unfolding agfOf frameOf
+  unfolding agfFor frameOf
   length-in = ap (λ (a : Agf). a .length) agf-in
 
   -- the slots
@@ -214,16 +214,16 @@ module _ (g : Geometry) (p : AgPlan) (uuid : List ℕ) (s : SbState) (l : length
   ring-most = let z = sector-long in le-div-iff-mul-le (lit< tt) .1 (omega arith)
 
   first-in : agfIn g xs .flfirst ≡ 1
-  unfolding agfOf
+  unfolding agfFor
   first-in = ap (λ (a : Agf). a .flfirst) agf-in
 
   count-in : agfIn g xs .flcount ≡ length (entriesOf p)
-  unfolding agfOf
+  unfolding agfFor
   count-in = ap (λ (a : Agf). a .flcount) agf-in ∙ sym (list-length g p l h)
 
   -- the AGF's last is the slot of the last entry
   pub last-in : agfIn g xs .fllast ≡ (agfIn g xs .flfirst + agfIn g xs .flcount - 1) % agflSize (g .sectsize)
-  unfolding agfOf frameOf
+  unfolding agfFor frameOf
   last-in =
       let e : p .agfl .len ≡ agfIn g xs .flfirst + agfIn g xs .flcount - 1 = let a = first-in in let b = count-in in let c = list-length g p l h in omega arith in
       ap (λ (a : Agf). a .fllast) agf-in ∙ ap (λ (n : ℕ). n % agflSize (g .sectsize)) e

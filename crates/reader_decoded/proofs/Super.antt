@@ -22,7 +22,7 @@ use Rattle.plan.specs.declared.AgPlan.{AgPlan}
 use Rattle.head_frame.specs.Frames.{frameOf}
 use Rattle.head_bytes.specs.Head.{zeros, behindBytes, headBytes}
 use Rattle.head_bytes.proofs.Lending.{sb-length}
-use Rattle.reader_decoded.specs.Decoded.{LogRun, logIn, countIn}
+use Rattle.reader_decoded.specs.Decoded.{LogRun, logRunIn, countIn}
 use Rattle.reader_decoded.proofs.Parts.{at-before}
 
 abbrev logRun : ℕ → ℕ → ℕ → LogRun
@@ -89,22 +89,22 @@ module _ (g : Geometry) (p : AgPlan) (uuid : List ℕ) (s : SbState) (l : length
   at-is : (g .logagno * 2 ^ g .agblklog + g .«log_agbno») % 2 ^ g .agblklog ≡ g .«log_agbno»
   at-is = mul-add-mod-self-right (g .logagno) (2 ^ g .agblklog) (g .«log_agbno») ∙ mod-eq-of-lt log-below
 
-  pub group-in : logIn g xs .group ≡ g .logagno
-  unfolding logIn
+  pub group-in : logRunIn g xs .group ≡ g .logagno
+  unfolding logRunIn
   group-in = ap (λ (n : ℕ). n / 2 ^ g .agblklog) start-in ∙ group-is
 
-  pub at-in : logIn g xs .at ≡ g .«log_agbno»
-  unfolding logIn
+  pub at-in : logRunIn g xs .at ≡ g .«log_agbno»
+  unfolding logRunIn
   at-in = ap (λ (n : ℕ). n % 2 ^ g .agblklog) start-in ∙ at-is
 
-  pub blocks-in : logIn g xs .blocks ≡ g .logblocks
-  unfolding logIn
+  pub blocks-in : logRunIn g xs .blocks ≡ g .logblocks
+  unfolding logRunIn
   blocks-in = number-in 4 96 (omega arith) ∙ logblocks-back g s u l (zeros (g .sectsize)) zeros-long (let b = bounds .places .log-blocks in omega arith)
 
   -- THE LOG IS WHERE THE GEOMETRY HAS IT
-  pub log-in : logIn g xs ≡ record { group = g .logagno; at = g .«log_agbno»; blocks = g .logblocks }
-  unfolding logIn
+  pub log-in : logRunIn g xs ≡ record { group = g .logagno; at = g .«log_agbno»; blocks = g .logblocks }
+  unfolding logRunIn
   log-in =
-      ap (λ (n : ℕ). logRun n (logIn g xs .at) (logIn g xs .blocks)) group-in
-      ∙ ap (λ (n : ℕ). logRun (g .logagno) n (logIn g xs .blocks)) at-in
+      ap (λ (n : ℕ). logRun n (logRunIn g xs .at) (logRunIn g xs .blocks)) group-in
+      ∙ ap (λ (n : ℕ). logRun (g .logagno) n (logRunIn g xs .blocks)) at-in
       ∙ ap (λ (n : ℕ). logRun (g .logagno) (g .«log_agbno») n) blocks-in

@@ -22,7 +22,7 @@ use Rattle.geometry_layout.specs.Places.{ibtBlock, daddrOf}
 use Rattle.geometry_layout.proofs.Bounding.{answer-bounds}
 use Rattle.btree.specs.declared.records.AllocRec.{AllocRec}
 use Rattle.btree.specs.declared.records.InobtRec.{InobtRec}
-use Rattle.btree.specs.Records.{listed, allocBytes, inobtFields, inobtBytes}
+use Rattle.btree.specs.Records.{recordsBytes, allocBytes, inobtFields, inobtBytes}
 use Rattle.btree.specs.Decode.{readRecords, allocOf, allocFits}
 use Rattle.btree.proofs.Laws.{length-listed, alloc-size, inobt-size}
 use Rattle.btree.proofs.Held.{listed-back, alloc-back, sparse-holds, full-holds, leaf-records, leaf-numrecs}
@@ -37,8 +37,8 @@ use Rattle.head_frame.specs.declared.Frame.{Frame}
 use Rattle.head_frame.specs.Frames.{frameOf, hasChunk, chunkIno, Fine}
 use Rattle.plan_summary.proofs.Narrow.{plan-answer}
 use Rattle.head_frame.proofs.Fitting.{plan-narrow, plan-few}
-use Rattle.head_bytes.specs.Head.{agfOf, agiOf, bnoMagic, inoMagic, rootBytes, bnoRoot, inodeRoot, headBytes}
-use Rattle.reader_decoded.specs.Decoded.{blockAt, agfIn, agiIn, numrecsIn, recordsIn, freeIn, chunkOfRecord, chunksIn, chunkList}
+use Rattle.head_bytes.specs.Head.{agfFor, agiFor, bnoMagic, inoMagic, rootBytes, bnoRoot, inodeRoot, headBytes}
+use Rattle.reader_decoded.specs.Decoded.{blockAt, agfIn, agiIn, numrecsIn, recordsIn, freeRecordsIn, chunkOfRecord, chunksIn, chunkList}
 use Rattle.reader_decoded.proofs.Numbers.{free-length, free-narrow}
 use Rattle.reader_decoded.proofs.Sectors.{bno-there, ino-there, fine, block-back, agf-in, agi-in}
 
@@ -74,7 +74,7 @@ module _ (g : Geometry) (p : AgPlan) (uuid : List ℕ) (s : SbState) (l : length
   -- ---- the tree by block
 
   bno-in : agfIn g xs .«bno_root» ≡ w .header
-  unfolding agfOf
+  unfolding agfFor
   bno-in = ap (λ (a : Agf). a .«bno_root») (agf-in g p uuid s l h u)
 
   bno-leaf : blockAt g (agfIn g xs .«bno_root») xs ≡ bnoRoot w uuid (p .free)
@@ -83,10 +83,10 @@ module _ (g : Geometry) (p : AgPlan) (uuid : List ℕ) (s : SbState) (l : length
   abbrev frees : List AllocRec
   frees = freeOf (p .free)
 
-  frees-long : length (listed allocBytes frees) ≡ 8 * length frees
+  frees-long : length (recordsBytes allocBytes frees) ≡ 8 * length frees
   frees-long = length-listed allocBytes 8 alloc-size frees
 
-  free-room : 56 + length (listed allocBytes frees) ≤ w .block
+  free-room : 56 + length (recordsBytes allocBytes frees) ≤ w .block
   free-room =
       let a = frees-long in
       let b = free-length g p l h in
@@ -99,17 +99,17 @@ module _ (g : Geometry) (p : AgPlan) (uuid : List ℕ) (s : SbState) (l : length
 
   frees-in : numrecsIn (bnoRoot w uuid (p .free)) ≡ length frees
   unfolding bnoRoot
-  frees-in = root-numrecs w uuid u bnoMagic (w .header) (listed allocBytes frees) (p .free .len) free-few free-room ∙ sym (free-length g p l h)
+  frees-in = root-numrecs w uuid u bnoMagic (w .header) (recordsBytes allocBytes frees) (p .free .len) free-few free-room ∙ sym (free-length g p l h)
 
-  frees-there : part 56 (8 * length frees) (bnoRoot w uuid (p .free)) ≡ listed allocBytes frees
+  frees-there : part 56 (8 * length frees) (bnoRoot w uuid (p .free)) ≡ recordsBytes allocBytes frees
   unfolding bnoRoot
   frees-there =
       ap (λ (n : ℕ). part 56 n (bnoRoot w uuid (p .free))) (sym frees-long)
-      ∙ root-records w uuid u bnoMagic (w .header) (listed allocBytes frees) (p .free .len) free-few free-room
+      ∙ root-records w uuid u bnoMagic (w .header) (recordsBytes allocBytes frees) (p .free .len) free-few free-room
 
   -- THE FREE RECORDS ARE THE PLAN'S
-  pub free-in : freeIn g xs ≡ freeOf (p .free)
-  unfolding freeIn
+  pub free-in : freeRecordsIn g xs ≡ freeOf (p .free)
+  unfolding freeRecordsIn
   free-in =
       ap (λ (leaf : List ℕ). recordsIn allocOf 8 leaf) bno-leaf
       ∙ ap (λ (n : ℕ). readRecords allocOf 8 n 56 (bnoRoot w uuid (p .free))) frees-in
@@ -118,7 +118,7 @@ module _ (g : Geometry) (p : AgPlan) (uuid : List ℕ) (s : SbState) (l : length
   -- ---- the inode tree
 
   ibt-in : agiIn g xs .root ≡ ibtBlock (w .header)
-  unfolding agiOf
+  unfolding agiFor
   ibt-in = ap (λ (a : Agi). a .root) (agi-in g p uuid s l h u)
 
   ibt-leaf : blockAt g (agiIn g xs .root) xs ≡ inodeRoot w uuid inoMagic (ibtBlock (w .header))
@@ -126,7 +126,7 @@ module _ (g : Geometry) (p : AgPlan) (uuid : List ℕ) (s : SbState) (l : length
 
   -- no record, or the chunk's
   abbrev inoRecs : Bool → Bool → ℕ → List ℕ
-  inoRecs sparse t ino = listed (inobtBytes sparse) (few (bit t) (chunkRec ino))
+  inoRecs sparse t ino = recordsBytes (inobtBytes sparse) (few (bit t) (chunkRec ino))
 
   abbrev leafOf : Bool → Bool → ℕ → List ℕ
   leafOf sparse t ino = rootBytes w uuid inoMagic (ibtBlock (w .header)) (inoRecs sparse t ino) (bit t)

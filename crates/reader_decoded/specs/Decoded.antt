@@ -8,11 +8,11 @@ use Rattle.endian.specs.Fields.{part}
 use Rattle.params.specs.declared.OptU64.{OptU64}
 use Rattle.params.specs.declared.OptU64.the-variants.{Absent, Given}
 use Rattle.geometry.specs.declared.Geometry.{Geometry}
-use Rattle.geometry_layout.specs.Limits.{agflHeader, agflSlot}
+use Rattle.geometry_layout.specs.Limits.{agflHeaderSize, agflSlot}
 use Rattle.geometry_layout.specs.Places.{agflSize}
 use Rattle.btree.specs.declared.records.AllocRec.{AllocRec}
 use Rattle.btree.specs.Records.{allocSize, inobtSize}
-use Rattle.btree.specs.Leaf.{headerSize}
+use Rattle.btree.specs.Leaf.{leafHeaderSize}
 use Rattle.btree.specs.Decode.{readRecords, allocOf}
 use Rattle.ag.specs.declared.agf.Agf.{Agf}
 use Rattle.ag.specs.declared.agi.Agi.{Agi}
@@ -43,7 +43,7 @@ entries slots first (suc n) = getD slots (first % length slots) 0 ∷ entries sl
 
 -- the slots behind the header of the free list's sector
 unfoldable pub slotsIn : Geometry → List ℕ → List ℕ
-slotsIn g xs = numbersAt agflSlot (agflSize (g .sectsize)) agflHeader (sectorAt g 3 xs)
+slotsIn g xs = numbersAt agflSlot (agflSize (g .sectsize)) agflHeaderSize (sectorAt g 3 xs)
 
 -- the entries from the AGF's first on, as many as the AGF counts
 unfoldable pub listIn : Geometry → List ℕ → List ℕ
@@ -57,11 +57,11 @@ numrecsIn leaf = beAt 2 6 leaf
 
 -- the records of a leaf, as many as its header counts, each of n bytes as `of` reads it
 abbrev pub recordsIn : {A : Type 0} → (List ℕ → A) → ℕ → List ℕ → List A
-recordsIn of n leaf = readRecords of n (numrecsIn leaf) headerSize leaf
+recordsIn of n leaf = readRecords of n (numrecsIn leaf) leafHeaderSize leaf
 
 -- free: the records of the tree by block, whose root the AGF names
-unfoldable pub freeIn : Geometry → List ℕ → List AllocRec
-freeIn g xs = recordsIn allocOf allocSize (blockAt g (agfIn g xs .«bno_root») xs)
+unfoldable pub freeRecordsIn : Geometry → List ℕ → List AllocRec
+freeRecordsIn g xs = recordsIn allocOf allocSize (blockAt g (agfIn g xs .«bno_root») xs)
 
 -- the first block of a chunk by its record in the inode tree: ir_startino, its first inode within the group, by inodes per block
 unfoldable pub chunkOfRecord : Geometry → List ℕ → ℕ
@@ -80,8 +80,8 @@ pub record LogRun : Type 0 where
   pub blocks : ℕ
 
 -- by log start, sb_logstart, a file system block, and length, sb_logblocks
-unfoldable pub logIn : Geometry → List ℕ → LogRun
-logIn g xs = record { group = beAt 8 48 xs / 2 ^ g .agblklog; at = beAt 8 48 xs % 2 ^ g .agblklog; blocks = beAt 4 96 xs }
+unfoldable pub logRunIn : Geometry → List ℕ → LogRun
+logRunIn g xs = record { group = beAt 8 48 xs / 2 ^ g .agblklog; at = beAt 8 48 xs % 2 ^ g .agblklog; blocks = beAt 4 96 xs }
 
 -- the free count, sb_fdblocks
 unfoldable pub countIn : List ℕ → ℕ

@@ -4,7 +4,7 @@ use mathlib.Core.Bool.{false}
 use mathlib.Core.List.{List, [], _∷_, _++_}
 use Prim.Native.Nat.{ℕ}
 use lib.ListN.{replicate}
-use Rattle.endian.specs.Fields.{Field, field, write}
+use Rattle.endian.specs.Fields.{Field, field, writeFields}
 use Rattle.geometry.specs.declared.Geometry.{Geometry}
 
 -- one group, 2^5 blocks to a group's number; no formatter makes it
@@ -36,31 +36,31 @@ small =
     }
 
 -- n bytes with fields
-abbrev pub filled : ℕ → List Field → List ℕ
-filled n fs = write fs (replicate n 0)
+abbrev pub writtenZeros : ℕ → List Field → List ℕ
+writtenZeros n fs = writeFields fs (replicate n 0)
 
 -- the log has 9 blocks from block 4 of group 3 on; 777 blocks are counted as free
 unfoldable pub smallSuper : List ℕ
-smallSuper = filled 256 (field 48 8 100 ∷ field 96 4 9 ∷ field 136 8 61 ∷ field 144 8 777 ∷ [])
+smallSuper = writtenZeros 256 (field 48 8 100 ∷ field 96 4 9 ∷ field 136 8 61 ∷ field 144 8 777 ∷ [])
 
 -- group 0 of 32 blocks; the roots by block and by size are blocks 8 and 9; the free list has three entries from slot 54, the last, to slot 1
 unfoldable pub smallAgf : List ℕ
-smallAgf = filled 256 (field 12 4 32 ∷ field 16 4 8 ∷ field 20 4 9 ∷ field 40 4 54 ∷ field 44 4 1 ∷ field 48 4 3 ∷ [])
+smallAgf = writtenZeros 256 (field 12 4 32 ∷ field 16 4 8 ∷ field 20 4 9 ∷ field 40 4 54 ∷ field 44 4 1 ∷ field 48 4 3 ∷ [])
 
 -- the inode tree's root is block 10
 unfoldable pub smallAgi : List ℕ
-smallAgi = filled 256 (field 20 4 10 ∷ [])
+smallAgi = writtenZeros 256 (field 20 4 10 ∷ [])
 
 -- slots 0, 1, 2 and 54
 unfoldable pub smallList : List ℕ
-smallList = filled 256 (field 36 4 22 ∷ field 40 4 23 ∷ field 44 4 24 ∷ field 252 4 21 ∷ [])
+smallList = writtenZeros 256 (field 36 4 22 ∷ field 40 4 23 ∷ field 44 4 24 ∷ field 252 4 21 ∷ [])
 
 -- two free records by block and by size, and two chunks
 unfoldable pub smallRoots : List ℕ
 smallRoots =
-    filled 128 (field 6 2 2 ∷ field 56 4 25 ∷ field 60 4 5 ∷ field 64 4 31 ∷ field 68 4 1 ∷ [])
-    ++ (filled 128 (field 6 2 2 ∷ field 56 4 31 ∷ field 60 4 1 ∷ field 64 4 25 ∷ field 68 4 5 ∷ [])
-    ++ filled 128 (field 6 2 2 ∷ field 56 4 24 ∷ field 72 4 48 ∷ []))
+    writtenZeros 128 (field 6 2 2 ∷ field 56 4 25 ∷ field 60 4 5 ∷ field 64 4 31 ∷ field 68 4 1 ∷ [])
+    ++ (writtenZeros 128 (field 6 2 2 ∷ field 56 4 31 ∷ field 60 4 1 ∷ field 64 4 25 ∷ field 68 4 5 ∷ [])
+    ++ writtenZeros 128 (field 6 2 2 ∷ field 56 4 24 ∷ field 72 4 48 ∷ []))
 
 unfoldable pub smallHead : List ℕ
 smallHead = smallSuper ++ (smallAgf ++ (smallAgi ++ (smallList ++ smallRoots)))

@@ -7,7 +7,7 @@ use Prim.Native.Nat.{ℕ, _+_, _*_, _<_}
 use native.Mathlib.Omega.{arith}
 use lib.ListN.{length, take}
 use lib.Seq.{take-take}
-use Rattle.geometry_layout.specs.Places.{before, byteOf}
+use Rattle.geometry_layout.specs.Places.{diskBlocksBefore, byteOf}
 use Rattle.request.specs.declared.Request.{Request}
 use Rattle.run.specs.Runs.{runOf}
 use Rattle.head_bytes.specs.Head.{headLength}
@@ -33,7 +33,7 @@ use Rattle.reader_exact.proofs.Refused.{unnamed-refused, begun-refused}
 module _ (r : Request) (a : AcceptedRun r) where
   -- group 0's head begins with group 0's first block
   first-block : (d : Device) → take (runOf r .geometry .blocksize) (headOn (runOf r .geometry) d 0) ≡ read d 0 (runOf r .geometry .blocksize)
-  unfolding headOn byteOf before
+  unfolding headOn byteOf diskBlocksBefore
   first-block d =
       let g = runOf r .geometry in
       let z : (0 * g .agsize + 0) * g .blocksize ≡ 0 = omega arith in

@@ -25,11 +25,11 @@ use Rattle.geometry_layout.specs.Places.{ibtBlock, rmapBlock, refcBlock, freeli
 use Rattle.geometry_places.specs.Answers.{groupRefusal}
 use Rattle.plan_site.specs.Sites.{siteOf}
 use Rattle.seqs.specs.Lists.{firstIndex, pushed, appended, fold, turns, upFrom}
-use Rattle.seqs.specs.Runs.{valid, weigh, blocks}
+use Rattle.seqs.specs.Runs.{valid, weigh, runLength}
 use Rattle.btree.specs.Owners.{negative}
-use Rattle.plan_free.specs.Free.{cut, takenAt, takenFrom, taken, fitter, bigger, pickedFrom, picked}
+use Rattle.plan_free.specs.Free.{withoutRun, takenAt, takenFrom, taken, fitter, bigger, pickedFrom, pickAnswer}
 use Rattle.plan_rmap.specs.Rmap.{joinsLeft, joinsRight, insertedAt, takes, inserted}
-use Rattle.plan.specs.Plan.{freeAtFirst, rmapAtFirst, atFirst, failed, noted, moved, turn, listed, chunked, answer, planOf, planned}
+use Rattle.plan.specs.Plan.{freeAtFirst, rmapAtFirst, atFirst, failed, noted, moved, listTurn, listFilled, chunked, planAnswer, planOf, planned}
 use Rattle.plan_totals.specs.Totals.{firstTo, plansNumber}
 use Rattle.inode_time.specs.Time.{timeInside, notEarly, shifted}
 use Rattle.request.specs.declared.Request.{Request}
@@ -71,7 +71,7 @@ record Computed : Type 0 where
   pub zero-answer : isAnswer zeroGeometry ≡ false
 
 computed : Computed
-unfolding disk named tight allowedSector allOn allowedGroups labelByte labelBytes allowedLabel inProfile trimmed labelOn when bit ceilDiv powerIn powerLog leastFrom log2Up defaultSector sizesOf sizesRefusals askedBlocks defaultSize initialGroups isShort trim optionsRefusals groupsRefusals headerOf preallocOf logLimit logBlocks defaultImaxpct lastRefusals withGroups withSizes chosenOf refusals refusalOf labelOf geometryOf zeroGeometry compute.answer computeDef sameFeatures numbersOf sameFrom sameGeometry namedOptions namedOn namedFits namedAnswer namesOf isAnswer ibtBlock rmapBlock refcBlock freelistOf chunkOf clusterOf alignOf roundUp aligned rootChunkOf groupBlocks fsbOf inoOf groupRefusal siteOf firstIndex pushed appended fold turns upFrom valid weigh blocks negative cut takenAt takenFrom taken fitter bigger pickedFrom picked joinsLeft joinsRight insertedAt takes inserted freeAtFirst rmapAtFirst atFirst failed noted moved turn listed chunked answer planOf planned firstTo plansNumber timeInside notEarly shifted timeOf stepOf timeRefusal bareNumber runNumber
+unfolding disk named tight allowedSector allOn allowedGroups labelByte labelBytes allowedLabel inProfile trimmed labelOn when bit ceilDiv powerIn powerLog leastFrom log2Up defaultSector sizesOf sizesRefusals askedBlocks defaultSize initialGroups isShort trim optionsRefusals groupsRefusals headerOf preallocOf logLimit logBlocks defaultImaxpct lastRefusals withGroups withSizes chosenOf refusals refusalOf labelOf geometryOf zeroGeometry compute.answer computeDef sameFeatures numbersOf sameFrom sameGeometry namedOptions namedOn namedFits namedAnswer namesOf isAnswer ibtBlock rmapBlock refcBlock freelistOf chunkOf clusterOf alignOf roundUp aligned rootChunkOf groupBlocks fsbOf inoOf groupRefusal siteOf firstIndex pushed appended fold turns upFrom valid weigh runLength negative withoutRun takenAt takenFrom taken fitter bigger pickedFrom pickAnswer joinsLeft joinsRight insertedAt takes inserted freeAtFirst rmapAtFirst atFirst failed noted moved listTurn listFilled chunked planAnswer planOf planned firstTo plansNumber timeInside notEarly shifted timeOf stepOf timeRefusal bareNumber runNumber
 computed = record { disk-number = refl; disk-judged = refl; named-number = refl; named-field = refl; tight-answer = refl; tight-plans = refl; zero-answer = refl }
 
 pub disk-accepted : AcceptedRun disk
@@ -134,7 +134,7 @@ refusals-given =
       short = short-refused [] (lit< tt);
       unfinished = unfinished-refused g u s;
       past = past-refused g u [] (g .agcount) a (le-refl (g .agcount));
-      cut = length-refused g u [] 0 a (some-group g u s) (λ e. let l = head-least g (source-bounds g u s) in omega (arith, e, l));
+      withoutRun = length-refused g u [] 0 a (some-group g u s) (λ e. let l = head-least g (source-bounds g u s) in omega (arith, e, l));
       stranger = stranger-refused zeroGeometry u [] 0 (computed .zero-answer);
       unplanned = λ k xs h l. unplanned-refused tight u xs k (computed .tight-answer) h l (λ z. omega (arith, z, computed .tight-plans));
     }

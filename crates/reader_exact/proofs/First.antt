@@ -35,8 +35,8 @@ use Rattle.reader_names.proofs.Sizings.{one-name}
 use Rattle.reader_names.proofs.Inside.{part-length, part-below}
 use Rattle.reader_names.proofs.Answer.{named-answered, named-label}
 use Rattle.reader_exact.specs.declared.Found.{Found}
-use Rattle.reader_exact.specs.Read.{found, firstTests, foundAs, readAs, readGroup0}
-use Rattle.reader_exact.specs.Left.{Octets, Handed, Left, LeftFirst, reported}
+use Rattle.reader_exact.specs.Read.{found, firstTests, foundAs, readSized, readGroup0}
+use Rattle.reader_exact.specs.Left.{Octets, Handed, HeadLeftBy, LeftFirst, reported}
 use Rattle.reader_exact.proofs.Lists.{same-bytes, own-bytes}
 use Rattle.reader_exact.proofs.Sources.{source}
 use Rattle.reader_exact.proofs.Heads.{typed, head-least, source-bounds, some-group, left-length, left-named, left-uuid, left-log, left-names}
@@ -73,15 +73,15 @@ module _ (roomy : Bool) (xs : List ℕ) where
   number = first (firstTests xs (namedBy roomy xs) u) 0
 
   -- the number of a reading
-  pub number-as : readAs roomy xs .number ≡ first (firstTests xs (namedBy roomy xs) (uuidAt xs)) 0
-  unfolding readAs
+  pub number-as : readSized roomy xs .number ≡ first (firstTests xs (namedBy roomy xs) (uuidAt xs)) 0
+  unfolding readSized
   number-as = number-found number g u
 
   tests-clear : number ≡ 0 → clear (firstTests xs (namedBy roomy xs) u)
   unfolding firstTests
   tests-clear e = passed (firstTests xs (namedBy roomy xs) u) tt e
 
-  pub tests-passed : readAs roomy xs .number ≡ 0 → Passed roomy xs
+  pub tests-passed : readSized roomy xs .number ≡ 0 → Passed roomy xs
   unfolding firstTests
   tests-passed e =
       let c = tests-clear (sym number-as ∙ e) in
@@ -92,8 +92,8 @@ module _ (roomy : Bool) (xs : List ℕ) where
         same = same-bytes xs (headLeft g u 0) (not-false (eqList eqb xs (headLeft g u 0)) (c .1 .1 .1 .1 .0));
       }
 
-  pub read-is : readAs roomy xs .number ≡ 0 → readAs roomy xs ≡ found (namedBy roomy xs .geometry) (uuidAt xs) (planned (namedBy roomy xs .geometry) 0 .plan)
-  unfolding readAs
+  pub read-is : readSized roomy xs .number ≡ 0 → readSized roomy xs ≡ found (namedBy roomy xs .geometry) (uuidAt xs) (planned (namedBy roomy xs .geometry) 0 .plan)
+  unfolding readSized
   read-is e = found-none number g u (sym number-as ∙ e)
 
   -- what is named under a sizing, where there is room for a superblock
@@ -144,14 +144,14 @@ module _ (roomy : Bool) (xs : List ℕ) where
       ∙ left-log g u (named-length (p .long) (p .number)) (named-answer (p .long) (p .number)) (uuid-length (p .long) (p .number))
 
   -- accepted bytes are left by a run with the geometry and the UUID that they name
-  pub sound : Octets xs → readAs roomy xs .number ≡ 0 → Left g u 0 xs
+  pub sound : Octets xs → readSized roomy xs .number ≡ 0 → HeadLeftBy g u 0 xs
   sound o e =
       let p = tests-passed e in
       let s = its-source o p in
       record { source = s; group = some-group g u s; bytes = p .same }
 
 -- bytes that are accepted under both sizings name one geometry under both, but for the sizing
-apart : (xs : List ℕ) → readAs true xs .number ≡ 0 → readAs false xs .number ≡ 0 → plain (namedBy true xs .geometry) ≡ namedBy false xs .geometry
+apart : (xs : List ℕ) → readSized true xs .number ≡ 0 → readSized false xs .number ≡ 0 → plain (namedBy true xs .geometry) ≡ namedBy false xs .geometry
 unfolding namedBy
 apart xs y z =
     let p = tests-passed true xs y in
@@ -184,8 +184,8 @@ module _ (g : Geometry) (u : List ℕ) (s : Source g u) where
       )
 
   -- what an accepted run leaves in group 0 is accepted under its sizing, and its geometry, UUID and plan are given
-  pub complete-as : readAs (g .roomy) (headLeft g u 0) ≡ found g u (planned g 0 .plan)
-  unfolding readAs
+  pub complete-as : readSized (g .roomy) (headLeft g u 0) ≡ found g u (planned g 0 .plan)
+  unfolding readSized
   complete-as =
       ap (λ (c : Computed). foundAs (first (firstTests left c (uuidAt left)) 0) (c .geometry) (uuidAt left)) (left-named g u s)
       ∙ ap (λ (v : List ℕ). foundAs (first (firstTests left name v) 0) g v) (left-uuid g u s)
@@ -194,31 +194,31 @@ module _ (g : Geometry) (u : List ℕ) (s : Source g u) where
 -- ---- the two readings
 
 module _ (xs : List ℕ) where
-  old-read : readAs false xs .number ≡ 0 → readGroup0 xs ≡ readAs false xs
+  old-read : readSized false xs .number ≡ 0 → readGroup0 xs ≡ readSized false xs
   unfolding readGroup0
-  old-read z = ap (λ (t : Bool). choose t (readAs true xs) (readAs false xs)) (le-ltb (readAs true xs .number) (readAs false xs .number) (omega arith))
+  old-read z = ap (λ (t : Bool). choose t (readSized true xs) (readSized false xs)) (le-ltb (readSized true xs .number) (readSized false xs .number) (omega arith))
 
-  roomy-read : readAs true xs .number ≡ 0 → (readAs false xs .number ≡ 0 → ⊥) → readGroup0 xs ≡ readAs true xs
+  roomy-read : readSized true xs .number ≡ 0 → (readSized false xs .number ≡ 0 → ⊥) → readGroup0 xs ≡ readSized true xs
   unfolding readGroup0
-  roomy-read z n = ap (λ (t : Bool). choose t (readAs true xs) (readAs false xs)) (lt-ltb (readAs true xs .number) (readAs false xs .number) (omega (arith, z, n)))
+  roomy-read z n = ap (λ (t : Bool). choose t (readSized true xs) (readSized false xs)) (lt-ltb (readSized true xs .number) (readSized false xs .number) (omega (arith, z, n)))
 
 module _ (g : Geometry) (u : List ℕ) (s : Source g u) where
   -- where plain sizing gives the same log, it is reported
   both-first : g .roomy ≡ true → isAnswer (plain g) ≡ true → readGroup0 (headLeft g u 0) ≡ found (plain g) u (planned g 0 .plan)
   both-first r b =
       let a = source-answer g u s in
-      let e : readAs false (headLeft g u 0) ≡ found (plain g) u (planned g 0 .plan) =
-      ap (readAs false) (sym (left-plain g a b u 0)) ∙ complete-as (plain g) u (plain-source g u s b) ∙ ap (λ (p : Planned). found (plain g) u (p .plan)) (planned-plain g a b 0) in
+      let e : readSized false (headLeft g u 0) ≡ found (plain g) u (planned g 0 .plan) =
+      ap (readSized false) (sym (left-plain g a b u 0)) ∙ complete-as (plain g) u (plain-source g u s b) ∙ ap (λ (p : Planned). found (plain g) u (p .plan)) (planned-plain g a b 0) in
       old-read (headLeft g u 0) (ap (λ (f : Found). f .number) e) ∙ e
 
   -- where it doesn't, it leaves other bytes
   one-first : g .roomy ≡ true → isAnswer (plain g) ≡ false → readGroup0 (headLeft g u 0) ≡ found g u (planned g 0 .plan)
   one-first r b =
       let left = headLeft g u 0 in
-      let e : readAs true left ≡ found g u (planned g 0 .plan) = ap (λ (t : Bool). readAs t left) (sym r) ∙ complete-as g u s in
-      let y : readAs true left .number ≡ 0 = ap (λ (f : Found). f .number) e in
+      let e : readSized true left ≡ found g u (planned g 0 .plan) = ap (λ (t : Bool). readSized t left) (sym r) ∙ complete-as g u s in
+      let y : readSized true left .number ≡ 0 = ap (λ (f : Found). f .number) e in
       let n : namedBy true left .geometry ≡ g = ap (λ (t : Bool). namedBy t left .geometry) (sym r) ∙ ap (λ (c : Computed). c .geometry) (left-named g u s) in
-      let other : readAs false left .number ≡ 0 → ⊥ =
+      let other : readSized false left .number ≡ 0 → ⊥ =
       λ z.
       let i : namedBy false left .geometry ≡ plain g = sym (apart left y z) ∙ ap plain n in
       let p = tests-passed false left z in
@@ -229,7 +229,7 @@ module _ (g : Geometry) (u : List ℕ) (s : Source g u) where
   old-first : g .roomy ≡ false → readGroup0 (headLeft g u 0) ≡ found g u (planned g 0 .plan)
   old-first r =
       let left = headLeft g u 0 in
-      let e : readAs false left ≡ found g u (planned g 0 .plan) = ap (λ (t : Bool). readAs t left) (sym r) ∙ complete-as g u s in
+      let e : readSized false left ≡ found g u (planned g 0 .plan) = ap (λ (t : Bool). readSized t left) (sym r) ∙ complete-as g u s in
       old-read left (ap (λ (f : Found). f .number) e) ∙ e
 
   by-sizing : (t : Bool) → g .roomy ≡ t → readGroup0 (headLeft g u 0) ≡ found (reported g) u (planned g 0 .plan)
@@ -245,9 +245,9 @@ module _ (g : Geometry) (u : List ℕ) (s : Source g u) where
 -- ---- the theorem
 
 module _ (roomy : Bool) (xs : List ℕ) (g : Geometry) (u : List ℕ) (p : AgPlan) where
-  forth-as : Octets xs → readAs roomy xs ≡ found g u p → Left g u 0 xs × (p ≡ planned g 0 .plan)
+  forth-as : Octets xs → readSized roomy xs ≡ found g u p → HeadLeftBy g u 0 xs × (p ≡ planned g 0 .plan)
   forth-as o e =
-      let n : readAs roomy xs .number ≡ 0 = ap (λ (f : Found). f .number) e in
+      let n : readSized roomy xs .number ≡ 0 = ap (λ (f : Found). f .number) e in
       let i = sym (read-is roomy xs n) ∙ e in
       let a : namedBy roomy xs .geometry ≡ g = ap (λ (f : Found). f .geometry) i in
       let b : uuidAt xs ≡ u = ap (λ (f : Found). f .uuid) i in
@@ -256,18 +256,18 @@ module _ (roomy : Bool) (xs : List ℕ) (g : Geometry) (u : List ℕ) (p : AgPla
 
 module _ (xs : List ℕ) where
   -- of the two readings it is one
-  pub one-of : (P : Found → Type 0) → ((roomy : Bool) → P (readAs roomy xs)) → P (readGroup0 xs)
+  pub one-of : (P : Found → Type 0) → ((roomy : Bool) → P (readSized roomy xs)) → P (readGroup0 xs)
   unfolding readGroup0
-  one-of P h = choose-elim P (ltb (readAs true xs .number) (readAs false xs .number)) (readAs true xs) (readAs false xs) (λ t. h true) (λ t. h false)
+  one-of P h = choose-elim P (ltb (readSized true xs .number) (readSized false xs .number)) (readSized true xs) (readSized false xs) (λ t. h true) (λ t. h false)
 
   module _ (g : Geometry) (u : List ℕ) (p : AgPlan) where
-    forth : Octets xs → readGroup0 xs ≡ found g u p → Left g u 0 xs × ((p ≡ planned g 0 .plan) × (reported g ≡ g))
+    forth : Octets xs → readGroup0 xs ≡ found g u p → HeadLeftBy g u 0 xs × ((p ≡ planned g 0 .plan) × (reported g ≡ g))
     forth o e =
-        let l = one-of (λ (f : Found). f ≡ found g u p → Left g u 0 xs × (p ≡ planned g 0 .plan)) (λ roomy. forth-as roomy xs g u p o) e in
+        let l = one-of (λ (f : Found). f ≡ found g u p → HeadLeftBy g u 0 xs × (p ≡ planned g 0 .plan)) (λ roomy. forth-as roomy xs g u p o) e in
         let i = sym (complete-first g u (l .0 .source)) ∙ ap readGroup0 (sym (l .0 .bytes)) ∙ e in
         (l .0, (l .1, ap (λ (f : Found). f .geometry) i))
 
-    back : Left g u 0 xs × ((p ≡ planned g 0 .plan) × (reported g ≡ g)) → readGroup0 xs ≡ found g u p
+    back : HeadLeftBy g u 0 xs × ((p ≡ planned g 0 .plan) × (reported g ≡ g)) → readGroup0 xs ≡ found g u p
     back l =
         ap readGroup0 (l .0 .bytes)
         ∙ complete-first g u (l .0 .source)
@@ -275,7 +275,7 @@ module _ (xs : List ℕ) where
 
     -- `read_group0` accepts with geometry g, UUID u and plan p exactly where some accepted run with g and u leaves exactly these bytes in group 0's head,
     -- p is its plan, and plain sizing is reported where it gives the same log
-    pub exact-first : Octets xs → (readGroup0 xs ≡ found g u p → Left g u 0 xs × ((p ≡ planned g 0 .plan) × (reported g ≡ g))) × (Left g u 0 xs × ((p ≡ planned g 0 .plan) × (reported g ≡ g)) → readGroup0 xs ≡ found g u p)
+    pub exact-first : Octets xs → (readGroup0 xs ≡ found g u p → HeadLeftBy g u 0 xs × ((p ≡ planned g 0 .plan) × (reported g ≡ g))) × (HeadLeftBy g u 0 xs × ((p ≡ planned g 0 .plan) × (reported g ≡ g)) → readGroup0 xs ≡ found g u p)
     exact-first o = (forth o, back)
 
   some-run : Octets xs → readGroup0 xs .number ≡ 0 → LeftFirst xs

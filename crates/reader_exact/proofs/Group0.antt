@@ -22,7 +22,7 @@ use Rattle.list_spec.specs.Listing.{headLeft}
 use Rattle.reader_names.specs.Named.{namesAt, namedBy, uuidAt}
 use Rattle.reader_names.proofs.Sizings.{same-sizes}
 use Rattle.reader_exact.specs.declared.Found.{Found}
-use Rattle.reader_exact.specs.Read.{firstTests, readAs, readGroup0}
+use Rattle.reader_exact.specs.Read.{firstTests, readSized, readGroup0}
 use Rattle.reader_exact.specs.Left.{Octets, LeftFirst}
 use Rattle.reader_exact.proofs.First.{number-as, one-of, sound}
 
@@ -49,11 +49,11 @@ module _ (roomy : Bool) (xs : List ℕ) (l : 512 ≤ length xs) where
   abbrev g : Geometry
   g = namedBy roomy xs .geometry
 
-  unnamed-is : (namedBy roomy xs .number ≡ 0 → ⊥) → readAs roomy xs .number ≡ 30
+  unnamed-is : (namedBy roomy xs .number ≡ 0 → ⊥) → readSized roomy xs .number ≡ 30
   unfolding firstTests when
   unnamed-is n = number-as roomy xs ∙ rw (le-ltb (length xs) 512 l, ne-eqb (namedBy roomy xs .number) 0 n)
 
-  length-is : namedBy roomy xs .number ≡ 0 → (length xs ≡ headLength g → ⊥) → readAs roomy xs .number ≡ 27
+  length-is : namedBy roomy xs .number ≡ 0 → (length xs ≡ headLength g → ⊥) → readSized roomy xs .number ≡ 27
   unfolding firstTests when
   length-is z n = number-as roomy xs ∙ rw (le-ltb (length xs) 512 l, eq-eqb (namedBy roomy xs .number) 0 z, ne-eqb (length xs) (headLength g) n)
 
@@ -64,7 +64,7 @@ module _ (roomy : Bool) (xs : List ℕ) (l : 512 ≤ length xs) where
   last-is z h true false e f n = rw (le-ltb (length xs) 512 l, eq-eqb (namedBy roomy xs .number) 0 z, eq-eqb (length xs) (headLength g) h, e, f)
   last-is z h true true e f n = absurd (n (rw (le-ltb (length xs) 512 l, eq-eqb (namedBy roomy xs .number) 0 z, eq-eqb (length xs) (headLength g) h, e, f)))
 
-  left-is : namedBy roomy xs .number ≡ 0 → length xs ≡ headLength g → (readAs roomy xs .number ≡ 0 → ⊥) → readAs roomy xs .number ≡ 30
+  left-is : namedBy roomy xs .number ≡ 0 → length xs ≡ headLength g → (readSized roomy xs .number ≡ 0 → ⊥) → readSized roomy xs .number ≡ 30
   left-is z h n =
       number-as roomy xs
       ∙ last-is z h (eqb (plansNumber g) 0) (eqList eqb xs (headLeft g (uuidAt xs) 0)) refl refl (λ e. n (number-as roomy xs ∙ e))
@@ -73,7 +73,7 @@ module _ (roomy : Bool) (xs : List ℕ) (l : 512 ≤ length xs) where
 
 module _ (xs : List ℕ) (l : 512 ≤ length xs) (z : namedBy false xs .number ≡ 0) where
   module _ (n : length xs ≡ headLength (namedBy false xs .geometry) → ⊥) where
-    no-less : (t : Bool) → eqb (namedBy true xs .number) 0 ≡ t → 27 ≤ readAs true xs .number
+    no-less : (t : Bool) → eqb (namedBy true xs .number) 0 ≡ t → 27 ≤ readSized true xs .number
     no-less true e =
         let y = eqb-true (namedBy true xs .number) 0 e in
         let r = length-is true xs l y (λ h. n (h ∙ one-length xs true false y z)) in
@@ -86,13 +86,13 @@ module _ (xs : List ℕ) (l : 512 ≤ length xs) (z : namedBy false xs .number �
     other-length =
         let m = no-less (eqb (namedBy true xs .number) 0) refl in
         let r = length-is false xs l z n in
-        ap (λ (t : Bool). choose t (readAs true xs) (readAs false xs) .number) (le-ltb (readAs true xs .number) (readAs false xs .number) (omega arith)) ∙ r
+        ap (λ (t : Bool). choose t (readSized true xs) (readSized false xs) .number) (le-ltb (readSized true xs .number) (readSized false xs .number) (omega arith)) ∙ r
 
   module _ (o : Octets xs) (h : length xs ≡ headLength (namedBy false xs .geometry)) (n : LeftFirst xs → ⊥) where
-    not-as : (roomy : Bool) → readAs roomy xs .number ≡ 0 → ⊥
+    not-as : (roomy : Bool) → readSized roomy xs .number ≡ 0 → ⊥
     not-as roomy e = n (record { geometry = namedBy roomy xs .geometry; uuid = uuidAt xs; left = sound roomy xs o e })
 
-    each-is : (roomy : Bool) (t : Bool) → eqb (namedBy roomy xs .number) 0 ≡ t → readAs roomy xs .number ≡ 30
+    each-is : (roomy : Bool) (t : Bool) → eqb (namedBy roomy xs .number) 0 ≡ t → readSized roomy xs .number ≡ 30
     each-is roomy true e =
         let y = eqb-true (namedBy roomy xs .number) 0 e in
         left-is roomy xs l y (h ∙ one-length xs false roomy z y) (not-as roomy)

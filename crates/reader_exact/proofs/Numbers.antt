@@ -12,7 +12,7 @@ use Rattle.head_bytes.specs.Head.{headLength}
 use Rattle.list_spec.specs.Listing.{logBlock, headLeft}
 use Rattle.reader_names.specs.Named.{namedBy, uuidAt}
 use Rattle.reader_exact.specs.declared.Found.{Found}
-use Rattle.reader_exact.specs.Read.{firstTests, placeTests, readAs, readGroup0, groupNumber, readGroup, readLog}
+use Rattle.reader_exact.specs.Read.{firstTests, placeTests, readSized, readGroup0, groupNumber, readGroup, readLog}
 use Rattle.reader_exact.proofs.First.{number-as, one-of}
 use Rattle.reader_exact.proofs.Others.{number-read}
 
@@ -46,7 +46,7 @@ groupNumbers = 0 ∷ 27 ∷ 29 ∷ 30 ∷ 31 ∷ []
 abbrev pub logNumbers : List ℕ
 logNumbers = 0 ∷ 27 ∷ 30 ∷ 31 ∷ []
 
-as-numbers : (xs : List ℕ) (roomy : Bool) → T (oneOf firstNumbers (readAs roomy xs .number))
+as-numbers : (xs : List ℕ) (roomy : Bool) → T (oneOf firstNumbers (readSized roomy xs .number))
 unfolding firstTests
 as-numbers xs roomy = rw (number-as roomy xs) (first-of firstNumbers (firstTests xs (namedBy roomy xs) (uuidAt xs)) tt tt)
 

@@ -22,7 +22,7 @@ use Rattle.list_spec.specs.Listing.{logBlock, headLeft}
 use Rattle.list_accepted.specs.Accepted.{Source}
 use Rattle.list_accepted.proofs.Runs.{source-plans, source-answer}
 use Rattle.reader_exact.specs.Read.{placeTests, groupNumber, readGroup, readLog}
-use Rattle.reader_exact.specs.Left.{Handed, Left, LeftLog}
+use Rattle.reader_exact.specs.Left.{Handed, HeadLeftBy, LeftLog}
 use Rattle.reader_exact.proofs.Lists.{same-bytes, own-bytes}
 use Rattle.reader_exact.proofs.Sources.{source}
 use Rattle.reader_exact.proofs.Heads.{left-length, log-length}
@@ -70,23 +70,23 @@ module _ (g : Geometry) (u : List ℕ) (k : ℕ) (xs : List ℕ) where
   unfolding readGroup
   read-none e = rw e
 
-  pub group-sound : Handed g u → readGroup g u k xs .number ≡ 0 → Left g u k xs
+  pub group-sound : Handed g u → readGroup g u k xs .number ≡ 0 → HeadLeftBy g u k xs
   unfolding groupNumber
   group-sound h e =
       let c = place-sound g u (leb (g .agcount) k) (headLength g) (headLeft g u k) xs h (sym number-read ∙ e) in
       record { source = c .0; group = leb-false (g .agcount) k (c .1 .0); bytes = c .1 .1 }
 
-  none-left : Left g u k xs → groupNumber g u k xs ≡ 0
+  none-left : HeadLeftBy g u k xs → groupNumber g u k xs ≡ 0
   unfolding groupNumber
   none-left l =
       place-complete g u (leb (g .agcount) k) (headLength g) (headLeft g u k) xs (l .source) (lt-leb (g .agcount) k (l .group)) (left-length g u (l .source) k (l .group)) (l .bytes)
 
   -- what an accepted run leaves in group k is accepted, and its plan is given
-  pub complete-group : Left g u k xs → readGroup g u k xs ≡ record { number = 0; plan = planned g k .plan }
+  pub complete-group : HeadLeftBy g u k xs → readGroup g u k xs ≡ record { number = 0; plan = planned g k .plan }
   complete-group l = read-none (none-left l)
 
   -- `read_group` accepts with the plan p exactly where some accepted run with g and u leaves exactly these bytes in group k's head, and then p is its plan
-  pub exact-group : (p : AgPlan) → Handed g u → (readGroup g u k xs ≡ record { number = 0; plan = p } → Left g u k xs × (p ≡ planned g k .plan)) × (Left g u k xs × (p ≡ planned g k .plan) → readGroup g u k xs ≡ record { number = 0; plan = p })
+  pub exact-group : (p : AgPlan) → Handed g u → (readGroup g u k xs ≡ record { number = 0; plan = p } → HeadLeftBy g u k xs × (p ≡ planned g k .plan)) × (HeadLeftBy g u k xs × (p ≡ planned g k .plan) → readGroup g u k xs ≡ record { number = 0; plan = p })
   exact-group p h = (
     (λ e.
         let n : readGroup g u k xs .number ≡ 0 = ap (λ (x : Planned). x .number) e in

@@ -29,11 +29,11 @@ use Rattle.geometry_layout.specs.Places.{ibtBlock, rmapBlock, refcBlock, freeli
 use Rattle.geometry_places.specs.Answers.{groupRefusal}
 use Rattle.plan_site.specs.Sites.{siteOf}
 use Rattle.seqs.specs.Lists.{firstIndex, pushed, appended, fold, turns, upFrom}
-use Rattle.seqs.specs.Runs.{valid, weigh, blocks}
+use Rattle.seqs.specs.Runs.{valid, weigh, runLength}
 use Rattle.btree.specs.Owners.{negative}
-use Rattle.plan_free.specs.Free.{cut, takenAt, takenFrom, taken, fitter, bigger, pickedFrom, picked}
+use Rattle.plan_free.specs.Free.{withoutRun, takenAt, takenFrom, taken, fitter, bigger, pickedFrom, pickAnswer}
 use Rattle.plan_rmap.specs.Rmap.{joinsLeft, joinsRight, insertedAt, takes, inserted}
-use Rattle.plan.specs.Plan.{freeAtFirst, rmapAtFirst, atFirst, failed, noted, moved, turn, listed, chunked, answer, planOf, planned}
+use Rattle.plan.specs.Plan.{freeAtFirst, rmapAtFirst, atFirst, failed, noted, moved, listTurn, listFilled, chunked, planAnswer, planOf, planned}
 use Rattle.plan_totals.specs.Totals.{firstTo, plansNumber}
 use Rattle.inode_time.specs.Time.{timeInside, notEarly, shifted}
 use Rattle.request.specs.Parse.{request}
@@ -86,7 +86,7 @@ record Computed : Type 0 where
   pub corner-plain : isAnswer (plain (stepOf (corner true) .geometry)) ≡ false
 
 computed : Computed
-unfolding ample crowded corner when bit ceilDiv powerIn powerLog leastFrom log2Up defaultSector sizesOf sizesRefusals askedBlocks defaultSize initialGroups isShort trim optionsRefusals groupsRefusals headerOf preallocOf logLimit logBlocks defaultImaxpct lastRefusals withGroups withSizes chosenOf refusals refusalOf labelOf geometryOf zeroGeometry compute.answer computeDef sameFeatures numbersOf sameFrom sameGeometry namedOptions namedOn namedFits namedAnswer namesOf isAnswer ibtBlock rmapBlock refcBlock freelistOf chunkOf clusterOf alignOf roundUp aligned rootChunkOf groupBlocks fsbOf inoOf groupRefusal siteOf firstIndex pushed appended fold turns upFrom valid weigh blocks negative cut takenAt takenFrom taken fitter bigger pickedFrom picked joinsLeft joinsRight insertedAt takes inserted freeAtFirst rmapAtFirst atFirst failed noted moved turn listed chunked answer planOf planned firstTo plansNumber timeInside notEarly shifted timeOf stepOf timeRefusal bareNumber runNumber headLength
+unfolding ample crowded corner when bit ceilDiv powerIn powerLog leastFrom log2Up defaultSector sizesOf sizesRefusals askedBlocks defaultSize initialGroups isShort trim optionsRefusals groupsRefusals headerOf preallocOf logLimit logBlocks defaultImaxpct lastRefusals withGroups withSizes chosenOf refusals refusalOf labelOf geometryOf zeroGeometry compute.answer computeDef sameFeatures numbersOf sameFrom sameGeometry namedOptions namedOn namedFits namedAnswer namesOf isAnswer ibtBlock rmapBlock refcBlock freelistOf chunkOf clusterOf alignOf roundUp aligned rootChunkOf groupBlocks fsbOf inoOf groupRefusal siteOf firstIndex pushed appended fold turns upFrom valid weigh runLength negative withoutRun takenAt takenFrom taken fitter bigger pickedFrom pickAnswer joinsLeft joinsRight insertedAt takes inserted freeAtFirst rmapAtFirst atFirst failed noted moved listTurn listFilled chunked planAnswer planOf planned firstTo plansNumber timeInside notEarly shifted timeOf stepOf timeRefusal bareNumber runNumber headLength
 computed =
     record {
       ample-number = refl;

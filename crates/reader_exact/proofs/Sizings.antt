@@ -26,7 +26,7 @@ use Rattle.list_spec.specs.Listing.{logUnit, firstRecord, logBlock, headWritten
 use Rattle.list_accepted.specs.Accepted.{Source}
 use Rattle.list_accepted.proofs.Runs.{source-plans, source-answer}
 use Rattle.reader_names.specs.Sizings.{sized, plain}
-use Rattle.reader_exact.specs.Left.{Handed, Left, reported}
+use Rattle.reader_exact.specs.Left.{Handed, HeadLeftBy, reported}
 use Rattle.reader_exact.proofs.Sources.{source}
 use Rattle.reader_exact.proofs.Heads.{source-handed}
 
@@ -142,7 +142,7 @@ module _ (g : Geometry) (u : List ℕ) (s : Source g u) where
   reported-log = choose-elim (λ (h : Geometry). logBlock h u ≡ logBlock g u) (isAnswer (plain g)) (plain g) g (λ t. log-plain g u) (λ t. refl)
 
   -- what is left with the geometry is left with the reported one
-  pub reported-here : (k : ℕ) (xs : List ℕ) → Left g u k xs → Left (reported g) u k xs
+  pub reported-here : (k : ℕ) (xs : List ℕ) → HeadLeftBy g u k xs → HeadLeftBy (reported g) u k xs
   reported-here k xs l =
       record {
         source = reported-source;

@@ -19,7 +19,7 @@ use Rattle.list_accepted.specs.Accepted.{AcceptedRun, Source}
 use Rattle.list_accepted.proofs.Runs.{source-of}
 use Rattle.reader_exact.specs.declared.Found.{Found}
 use Rattle.reader_exact.specs.Read.{found, readGroup0, readGroup, readLog}
-use Rattle.reader_exact.specs.Left.{Octets, Left, ReadWhole, reported}
+use Rattle.reader_exact.specs.Left.{Octets, HeadLeftBy, ReadWhole, reported}
 use Rattle.reader_exact.specs.Disk.{headOn, logOn, formatted, ByRecords}
 use Rattle.reader_exact.proofs.Heads.{source-handed, some-group}
 use Rattle.reader_exact.proofs.Sizings.{reported-plain, reported-source, reported-log, reported-here}
@@ -63,7 +63,7 @@ module _ (heads : ℕ → List ℕ) (log : List ℕ) where
     abbrev u : List ℕ
     u = readGroup0 (heads 0) .uuid
 
-    first-left : Left g u 0 (heads 0)
+    first-left : HeadLeftBy g u 0 (heads 0)
     first-left =
         let n = r .first in
         let p = readGroup0 (heads 0) .plan in

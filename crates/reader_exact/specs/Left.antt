@@ -24,7 +24,7 @@ pub record Handed (g : Geometry) (u : List ℕ) : Type 0 where
   pub uuid-bytes : Octets u
 
 -- some accepted run with this geometry and UUID leaves these bytes in group k's head
-pub record Left (g : Geometry) (u : List ℕ) (k : ℕ) (xs : List ℕ) : Type 0 where
+pub record HeadLeftBy (g : Geometry) (u : List ℕ) (k : ℕ) (xs : List ℕ) : Type 0 where
   pub source : Source g u
   pub group : k < g .agcount
   pub bytes : xs ≡ headLeft g u k
@@ -38,7 +38,7 @@ pub record LeftLog (g : Geometry) (u xs : List ℕ) : Type 0 where
 pub record LeftFirst (xs : List ℕ) : Type 0 where
   pub geometry : Geometry
   pub uuid : List ℕ
-  pub left : Left geometry uuid 0 xs
+  pub left : HeadLeftBy geometry uuid 0 xs
 
 -- the geometry as the reader reports it: with plain sizing where this gives the same log
 unfoldable pub reported : Geometry → Geometry

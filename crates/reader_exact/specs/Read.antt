@@ -54,15 +54,15 @@ unfoldable pub foundAs : ℕ → Geometry → List ℕ → Found
 foundAs n g u = choose (eqb n 0) (found g u (planned g 0 .plan)) (notFound n)
 
 -- under one sizing of the log
-unfoldable pub readAs : Bool → List ℕ → Found
-readAs roomy xs = foundAs (first (firstTests xs (namedBy roomy xs) (uuidAt xs)) 0) (namedBy roomy xs .geometry) (uuidAt xs)
+unfoldable pub readSized : Bool → List ℕ → Found
+readSized roomy xs = foundAs (first (firstTests xs (namedBy roomy xs) (uuidAt xs)) 0) (namedBy roomy xs .geometry) (uuidAt xs)
 
 -- under both: the one with the smaller number, and plain sizing where they have the same
 abbrev pub lesser : Found → Found → Found
 lesser roomy old = choose (ltb (roomy .number) (old .number)) roomy old
 
 unfoldable pub readGroup0 : List ℕ → Found
-readGroup0 xs = lesser (readAs true xs) (readAs false xs)
+readGroup0 xs = lesser (readSized true xs) (readSized false xs)
 
 -- ---- any group and the log, with the geometry and the UUID that group 0 gave
 

@@ -20,7 +20,7 @@ use Rattle.structs.proofs.Reading.{read-number}
 use Rattle.params.specs.declared.Timestamp.{Timestamp}
 use Rattle.inode.specs.declared.dinode.Dinode.{Dinode}
 use Rattle.inode.specs.Dinode.{inodeMagic, version, freeFields, freeBytes, dinodeFields, dinodeBytes}
-use Rattle.inode.specs.Directory.{header, emptyDir}
+use Rattle.inode.specs.Directory.{directoryHeader, emptyDir}
 use Rattle.inode.proofs.Held.{dinode-holds, dinode-ino, free-holds, free-ino}
 use Rattle.geometry.specs.declared.Geometry.{Geometry}
 use Rattle.geometry_layout.specs.Bounds.{Bounds}
@@ -150,7 +150,7 @@ module _ (g : Geometry) (u : List ℕ) (u16 : length u ≡ 16) where
 
 -- ---- the root chunk of a geometry
 
-dir-at : (t : Bool) (parent : ℕ) → length (header t parent) ≤ 10
+dir-at : (t : Bool) (parent : ℕ) → length (directoryHeader t parent) ≤ 10
 dir-at true parent = omega (arith, length-be 4 parent)
 dir-at false parent = omega (arith, length-be 8 parent)
 

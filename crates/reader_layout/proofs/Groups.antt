@@ -9,7 +9,7 @@ use native.Mathlib.Omega.{arith}
 use lib.Dec.{eqb, lit<}
 use lib.ListN.{length, getD, take, replicate, length-replicate}
 use Rattle.arith.specs.Choice.{when}
-use Rattle.endian.specs.Bytes.{beBytes, beAt, below, numbersAt, runBytes}
+use Rattle.endian.specs.Bytes.{beBytes, beAt, below, numbersAt, numbersBytes}
 use Rattle.endian.specs.Fields.{Field, field, part, nth}
 use Rattle.endian.proofs.Consecutive.{run-back}
 use Rattle.structs.specs.Holds.{Holds}
@@ -41,7 +41,7 @@ use Rattle.sb.specs.declared.SbState.{SbState}
 use Rattle.head_frame.specs.declared.Frame.{Frame}
 use Rattle.head_frame.specs.Frames.{frameOf, hasChunk, chunkIno, Fine}
 use Rattle.head_frame.proofs.Fitting.{plan-narrow, plan-few}
-use Rattle.head_bytes.specs.Head.{zeros, agfOf, agiOf, headBytes}
+use Rattle.head_bytes.specs.Head.{zeros, agfFor, agiFor, headBytes}
 use Rattle.list_spec.proofs.Whole.{group-planned}
 use Rattle.list_accepted.specs.Accepted.{Source}
 use Rattle.list_accepted.proofs.Runs.{source-label, source-plans, source-uuid}
@@ -131,7 +131,7 @@ module _ (g : Geometry) (u : List ℕ) (z : Source g u) (k : ℕ) (h : k < g .ag
   -- ---- the AGF
 
   abbrev A : Agf
-  A = agfOf w (p .free) (p .agfl .len)
+  A = agfFor w (p .free) (p .agfl .len)
 
   agf-is : sectorAt g 1 head ≡ agfBytes A u (zeros (w .sector))
   agf-is = sector-back g p u s label is-plan u16 1 _ (agf-there w p g s u ok)
@@ -150,7 +150,7 @@ module _ (g : Geometry) (u : List ℕ) (z : Source g u) (k : ℕ) (h : k < g .ag
       ∙ agf-holds A u (zeros (w .sector)) u16 (omega (arith, sector-long)) 16 (lit< tt)
 
   pub agf-at : AgfAt g u k (sectorAt g 1 head)
-  unfolding agfIn agfRead agfOf frameOf agfFields cntBlock rmapBlock refcBlock
+  unfolding agfIn agfRead agfFor frameOf agfFields cntBlock rmapBlock refcBlock
   agf-at =
       let e = agf-in g p u s label is-plan u16 in
       record {
@@ -181,7 +181,7 @@ module _ (g : Geometry) (u : List ℕ) (z : Source g u) (k : ℕ) (h : k < g .ag
   -- ---- the AGI
 
   abbrev I : Agi
-  I = agiOf w
+  I = agiFor w
 
   agi-is : sectorAt g 2 head ≡ agiBytes I u (zeros (w .sector))
   agi-is = sector-back g p u s label is-plan u16 2 _ (agi-there w p g s u ok)
@@ -199,7 +199,7 @@ module _ (g : Geometry) (u : List ℕ) (z : Source g u) (k : ℕ) (h : k < g .ag
       ∙ read-number (agiFields I u) (agiBytes I u (zeros (w .sector))) (agi-holds I u (zeros (w .sector)) u16 (omega (arith, sector-long))) i off n v l e b
 
   agi-nulls : numbersAt 4 64 40 (sectorAt g 2 head) ≡ replicate 64 null32
-  unfolding agiFields runBytes beBytes
+  unfolding agiFields numbersBytes beBytes
   agi-nulls = run-back 4 (replicate 64 null32) 40 (sectorAt g 2 head) (below-nulls 64) (agi-held 10 (lit< tt))
 
   agi-id : part 296 16 (sectorAt g 2 head) ≡ u
@@ -207,7 +207,7 @@ module _ (g : Geometry) (u : List ℕ) (z : Source g u) (k : ℕ) (h : k < g .ag
   agi-id = ap (λ (m : ℕ). part 296 m (sectorAt g 2 head)) (sym u16) ∙ agi-held 11 (lit< tt)
 
   pub agi-at : AgiAt g u k (sectorAt g 2 head)
-  unfolding agiIn agiRead agiOf frameOf agiFields ibtBlock fibtBlock
+  unfolding agiIn agiRead agiFor frameOf agiFields ibtBlock fibtBlock
   agi-at =
       let e = agi-in g p u s label is-plan u16 in
       record {

@@ -16,9 +16,9 @@ use Rattle.structs.proofs.Lengths.{block-least}
 use Rattle.structs.proofs.Reading.{read-number}
 use Rattle.seqs.specs.Lists.{choose, total}
 use Rattle.geometry.specs.declared.Geometry.{Geometry}
-use Rattle.geometry_layout.specs.Places.{before as blocksBefore, cntBlock, ibtBlock, fibtBlock, rmapBlock, refcBlock, daddrOf}
+use Rattle.geometry_layout.specs.Places.{diskBlocksBefore as blocksBefore, cntBlock, ibtBlock, fibtBlock, rmapBlock, refcBlock, daddrOf}
 use Rattle.btree.specs.declared.records.AllocRec.{AllocRec}
-use Rattle.btree.specs.Records.{listed, allocBytes, inobtBytes, rmapBytes}
+use Rattle.btree.specs.Records.{recordsBytes, allocBytes, inobtBytes, rmapBytes}
 use Rattle.btree.specs.Leaf.{leafHeader, leafFields, leafBytes}
 use Rattle.btree.proofs.Laws.{length-listed, alloc-size, inobt-size, rmap-size}
 use Rattle.btree.proofs.Held.{leaf-holds}
@@ -40,7 +40,7 @@ use Rattle.reader_decoded.proofs.Parts.{joined, part-behind}
 use Rattle.reader_decoded.proofs.Numbers.{free-length}
 use Rattle.reader_decoded.proofs.Sectors.{whole, block-back}
 use Rattle.reader_decoded.proofs.Checks.{Blocks, before, before-long, counted, mapped, freed, roots, roots-ok, roots-count, whole-is}
-use Rattle.reader_layout.specs.Layouts.{header, LeafAt, RootsAt}
+use Rattle.reader_layout.specs.Layouts.{headerBlocksOf, LeafAt, RootsAt}
 use Rattle.reader_layout.proofs.Chunk.{first-part, next-part}
 use Rattle.reader_layout.proofs.Groups.{label, u16, is-plan, group-is, has-is, ok}
 
@@ -97,7 +97,7 @@ module _ (g : Geometry) (u : List ℕ) (z : Source g u) (k : ℕ) (h : k < g .ag
 
   -- ---- where they stand
 
-  root-is : (i : ℕ) → i < length (roots w p g s u fine) → blockAt g (header g + i) head ≡ getD (roots w p g s u fine) i []
+  root-is : (i : ℕ) → i < length (roots w p g s u fine) → blockAt g (headerBlocksOf g + i) head ≡ getD (roots w p g s u fine) i []
   unfolding frameOf
   root-is i l =
       block-back g p u s (label g u z k h s) (is-plan g u z k h s) id16 (w .header + i) _
@@ -137,7 +137,7 @@ module _ (g : Geometry) (u : List ℕ) (z : Source g u) (k : ℕ) (h : k < g .ag
   few-maps : p .rmap .len ≤ 8
   few-maps = plan-few g p (label g u z k h s) (is-plan g u z k h s) .rmap-most
 
-  free-room : 56 + length (listed allocBytes (freeOf (p .free))) ≤ w .block
+  free-room : 56 + length (recordsBytes allocBytes (freeOf (p .free))) ≤ w .block
   free-room =
       omega (
         arith,
@@ -147,7 +147,7 @@ module _ (g : Geometry) (u : List ℕ) (z : Source g u) (k : ℕ) (h : k < g .ag
         block-long,
       )
 
-  size-room : 56 + length (listed allocBytes (bySize (freeOf (p .free)))) ≤ w .block
+  size-room : 56 + length (recordsBytes allocBytes (bySize (freeOf (p .free)))) ≤ w .block
   size-room =
       omega (
         arith,
@@ -158,10 +158,10 @@ module _ (g : Geometry) (u : List ℕ) (z : Source g u) (k : ℕ) (h : k < g .ag
         block-long,
       )
 
-  maps-room : 56 + length (listed rmapBytes (rmapOf (p .rmap))) ≤ w .block
+  maps-room : 56 + length (recordsBytes rmapBytes (rmapOf (p .rmap))) ≤ w .block
   maps-room = omega (arith, length-listed rmapBytes 24 rmap-size (rmapOf (p .rmap)), length-take (p .rmap .len) (p .rmap .recs), few-maps, block-long)
 
-  chunk-room : 56 + length (listed (inobtBytes (w .features .sparse)) (few (bit (w .«has_chunk»)) (chunkRec (w .newino)))) ≤ w .block
+  chunk-room : 56 + length (recordsBytes (inobtBytes (w .features .sparse)) (few (bit (w .«has_chunk»)) (chunkRec (w .newino)))) ≤ w .block
   chunk-room =
       omega (
         arith,
@@ -177,7 +177,7 @@ module _ (g : Geometry) (u : List ℕ) (z : Source g u) (k : ℕ) (h : k < g .ag
       subst (λ (n : ℕ). LeafAt g u k b magic n (inodeRoot w u magic b)) (ap (λ (t : Bool). bit t) (has-is g u z k h s))
       (leaf-at magic b _ (bit (w .«has_chunk»)) m t (omega (arith, bit-le (w .«has_chunk»))) chunk-room)
 
-  header-few : header g ≤ 4
+  header-few : headerBlocksOf g ≤ 4
   unfolding frameOf
   header-few = fine .header-most
 
@@ -187,7 +187,7 @@ module _ (g : Geometry) (u : List ℕ) (z : Source g u) (k : ℕ) (h : k < g .ag
   many : length its ≡ 3 + bit (w .features .finobt) + bit (w .features .rmapbt) + bit (w .features .reflink)
   many = roots-count w p g s u fine
 
-  at-root : (i b magic n : ℕ) (x : List ℕ) → header g + i ≡ b → i < length its → getD its i [] ≡ x → LeafAt g u k b magic n x → LeafAt g u k b magic n (blockAt g b head)
+  at-root : (i b magic n : ℕ) (x : List ℕ) → headerBlocksOf g + i ≡ b → i < length its → getD its i [] ≡ x → LeafAt g u k b magic n x → LeafAt g u k b magic n (blockAt g b head)
   at-root i b magic n x q l e a = subst (LeafAt g u k b magic n) (sym (ap (λ (j : ℕ). blockAt g j head) (sym q) ∙ root-is i l ∙ e)) a
 
   abbrev f : ℕ
@@ -216,24 +216,24 @@ module _ (g : Geometry) (u : List ℕ) (z : Source g u) (k : ℕ) (h : k < g .ag
       ∙ opt-behind (g .features .rmapbt) (rmapRoot w u (p .rmap)) (counted w p g s u fine) 0
       ∙ opt-here (g .features .reflink) (refcRoot w u) [] on
 
-  bno-leaf : LeafAt g u k (header g) bnoMagic (p .free .len) (bnoRoot w u (p .free))
+  bno-leaf : LeafAt g u k (headerBlocksOf g) bnoMagic (p .free .len) (bnoRoot w u (p .free))
   unfolding bnoRoot frameOf
-  bno-leaf = leaf-at bnoMagic (header g) (listed allocBytes (freeOf (p .free))) (p .free .len) (lit< tt) (omega (arith, header-few)) (omega (arith, few-free)) free-room
+  bno-leaf = leaf-at bnoMagic (headerBlocksOf g) (recordsBytes allocBytes (freeOf (p .free))) (p .free .len) (lit< tt) (omega (arith, header-few)) (omega (arith, few-free)) free-room
 
-  cnt-leaf : LeafAt g u k (header g + 1) cntMagic (p .free .len) (cntRoot w u (p .free))
+  cnt-leaf : LeafAt g u k (headerBlocksOf g + 1) cntMagic (p .free .len) (cntRoot w u (p .free))
   unfolding cntRoot cntBlock frameOf
-  cnt-leaf = leaf-at cntMagic (header g + 1) (listed allocBytes (bySize (freeOf (p .free)))) (p .free .len) (lit< tt) (omega (arith, header-few)) (omega (arith, few-free)) size-room
+  cnt-leaf = leaf-at cntMagic (headerBlocksOf g + 1) (recordsBytes allocBytes (bySize (freeOf (p .free)))) (p .free .len) (lit< tt) (omega (arith, header-few)) (omega (arith, few-free)) size-room
 
-  maps-leaf : LeafAt g u k (header g + 3 + f) rmapMagic (p .rmap .len) (rmapRoot w u (p .rmap))
+  maps-leaf : LeafAt g u k (headerBlocksOf g + 3 + f) rmapMagic (p .rmap .len) (rmapRoot w u (p .rmap))
   unfolding rmapRoot rmapBlock frameOf
   maps-leaf =
-      leaf-at rmapMagic (header g + 3 + f) (listed rmapBytes (rmapOf (p .rmap))) (p .rmap .len) (lit< tt)
+      leaf-at rmapMagic (headerBlocksOf g + 3 + f) (recordsBytes rmapBytes (rmapOf (p .rmap))) (p .rmap .len) (lit< tt)
       (omega (arith, header-few, bit-le (g .features .finobt))) (omega (arith, few-maps)) maps-room
 
-  counts-leaf : LeafAt g u k (header g + 3 + f + m) refcMagic 0 (refcRoot w u)
+  counts-leaf : LeafAt g u k (headerBlocksOf g + 3 + f + m) refcMagic 0 (refcRoot w u)
   unfolding refcRoot refcBlock frameOf
   counts-leaf =
-      leaf-at refcMagic (header g + 3 + f + m) [] 0 (lit< tt)
+      leaf-at refcMagic (headerBlocksOf g + 3 + f + m) [] 0 (lit< tt)
       (omega (arith, header-few, bit-le (g .features .finobt), bit-le (g .features .rmapbt))) (lit< tt) (omega (arith, block-long))
 
   pub roots-at : RootsAt g u k (headBytes g (planned g k .plan) u s)
@@ -241,15 +241,15 @@ module _ (g : Geometry) (u : List ℕ) (z : Source g u) (k : ℕ) (h : k < g .ag
   roots-at =
       let n = many in
       record {
-        by-block = at-root 0 (header g) bnoMagic (p .free .len) _ (omega arith) (omega arith) refl bno-leaf;
-        by-size = at-root 1 (header g + 1) cntMagic (p .free .len) _ refl (omega arith) refl cnt-leaf;
-        inodes = at-root 2 (header g + 2) inoMagic (bit (eqb k 0)) _ refl (omega arith) refl (inode-leaf inoMagic (header g + 2) (lit< tt) (omega (arith, header-few)));
+        by-block = at-root 0 (headerBlocksOf g) bnoMagic (p .free .len) _ (omega arith) (omega arith) refl bno-leaf;
+        by-size = at-root 1 (headerBlocksOf g + 1) cntMagic (p .free .len) _ refl (omega arith) refl cnt-leaf;
+        inodes = at-root 2 (headerBlocksOf g + 2) inoMagic (bit (eqb k 0)) _ refl (omega arith) refl (inode-leaf inoMagic (headerBlocksOf g + 2) (lit< tt) (omega (arith, header-few)));
         free-inodes =
             λ on.
-            at-root 3 (header g + 3) finoMagic (bit (eqb k 0)) _ refl (omega (arith, on-bit (g .features .finobt) on)) (free-third on)
-            (inode-leaf finoMagic (header g + 3) (lit< tt) (omega (arith, header-few)));
+            at-root 3 (headerBlocksOf g + 3) finoMagic (bit (eqb k 0)) _ refl (omega (arith, on-bit (g .features .finobt) on)) (free-third on)
+            (inode-leaf finoMagic (headerBlocksOf g + 3) (lit< tt) (omega (arith, header-few)));
         mappings =
-            λ on. at-root (3 + (f + 0)) (header g + 3 + f) rmapMagic (p .rmap .len) _ (omega arith) (omega (arith, on-bit (g .features .rmapbt) on)) (maps-there on) maps-leaf;
+            λ on. at-root (3 + (f + 0)) (headerBlocksOf g + 3 + f) rmapMagic (p .rmap .len) _ (omega arith) (omega (arith, on-bit (g .features .rmapbt) on)) (maps-there on) maps-leaf;
         counts =
-            λ on. at-root (3 + (f + (m + 0))) (header g + 3 + f + m) refcMagic 0 _ (omega arith) (omega (arith, on-bit (g .features .reflink) on)) (counts-there on) counts-leaf;
+            λ on. at-root (3 + (f + (m + 0))) (headerBlocksOf g + 3 + f + m) refcMagic 0 _ (omega arith) (omega (arith, on-bit (g .features .reflink) on)) (counts-there on) counts-leaf;
       }

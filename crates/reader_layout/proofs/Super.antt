@@ -12,7 +12,7 @@ use lib.Pow.{pow-mono}
 use Rattle.arith.specs.Choice.{when, bit}
 use Rattle.arith.proofs.Laws.{bit-le}
 use Rattle.endian.specs.Bytes.{beBytes, beAt}
-use Rattle.endian.specs.Fields.{field, write, nth, spans, clear}
+use Rattle.endian.specs.Fields.{field, writeFields, nth, spans, clear}
 use Rattle.endian.proofs.Fields.{at-part, write-clear}
 use Rattle.crc.proofs.Laws.{stamped-before}
 use Rattle.structs.specs.Holds.{Holds}
@@ -29,7 +29,7 @@ use Rattle.geometry_layout.specs.Places.{fsbOf, rextSize, alignOf, sparseAlign,
 use Rattle.geometry_layout.proofs.Inside.{few-blocks, inodes-most}
 use Rattle.geometry_places.specs.Answers.{rootIno}
 use Rattle.sb.specs.declared.SbState.{SbState}
-use Rattle.sb.specs.Superblock.{magic, largeSector, versionOf, features2Bits, roCompat, inCompat, logstartOf, fieldsWith, sbFields, sbBytes}
+use Rattle.sb.specs.Superblock.{sbMagic, largeSector, versionOf, features2Bits, roCompat, inCompat, logstartOf, fieldsWith, sbFields, sbBytes}
 use Rattle.sb.proofs.Laws.{answer-fits}
 use Rattle.sb.proofs.Read.{sb-holds, uuid-back, label-back}
 use Rattle.list_accepted.specs.Superblocks.{rootNamed, freeNamed}
@@ -160,7 +160,7 @@ module _ (g : Geometry) (z : Bounds g) (a : Answered g) (l : length (g .label) �
   unnamed n off h t e =
       let c = subst (λ (b : Bool). T (clear off n (spans (fieldsWith b g s)))) (sym e) t in
       at-part n off zs
-      ∙ ap (beAt n 0) (stamped-before off n 224 (write (fieldsWith (largeSector g) g s) ys) h ∙ write-clear (fieldsWith (largeSector g) g s) off n ys c)
+      ∙ ap (beAt n 0) (stamped-before off n 224 (writeFields (fieldsWith (largeSector g) g s) ys) h ∙ write-clear (fieldsWith (largeSector g) g s) off n ys c)
       ∙ sym (at-part n off ys)
       ∙ at-zeros n off size
 
@@ -197,7 +197,7 @@ module _ (g : Geometry) (z : Bounds g) (a : Answered g) (l : length (g .label) �
       let groups = z .groups in
       let few = few-blocks g z in
       record {
-        magic = number 0 0 4 magic tt refl (lit< tt);
+        sbMagic = number 0 0 4 sbMagic tt refl (lit< tt);
         blocksize = number 1 4 4 (g .blocksize) tt refl (omega arith);
         dblocks = number 2 8 8 (g .dblocks) tt refl (omega arith);
         rblocks = number 3 16 8 0 tt refl (lit< tt);

@@ -22,8 +22,8 @@ use Rattle.list_accepted.specs.Superblocks.{rootNamed, freeNamed}
 use Rattle.reader_decoded.specs.Decoded.{blockAt}
 
 -- the blocks of the four header sectors: the root by block is behind them
-abbrev pub header : Geometry → ℕ
-header g = headerOf (g .sectsize) (g .blocksize)
+abbrev pub headerBlocksOf : Geometry → ℕ
+headerBlocksOf g = headerOf (g .sectsize) (g .blocksize)
 
 -- ---- sector 0: the superblock, `struct xfs_dsb`
 pub record SuperblockAt (g : Geometry) (u : List ℕ) (k : ℕ) (xs : List ℕ) : Type 0 where
@@ -85,9 +85,9 @@ pub record AgfAt (g : Geometry) (u : List ℕ) (k : ℕ) (xs : List ℕ) : Type 
   pub versionnum : beAt 4 4 xs ≡ 1
   pub seqno : beAt 4 8 xs ≡ k
   pub length : beAt 4 12 xs ≡ groupBlocks (g .dblocks) (g .agsize) (g .agcount) k
-  pub bno-root : beAt 4 16 xs ≡ header g
-  pub cnt-root : beAt 4 20 xs ≡ header g + 1
-  pub rmap-root : beAt 4 24 xs ≡ when (g .features .rmapbt) (header g + 3 + bit (g .features .finobt)) 0
+  pub bno-root : beAt 4 16 xs ≡ headerBlocksOf g
+  pub cnt-root : beAt 4 20 xs ≡ headerBlocksOf g + 1
+  pub rmap-root : beAt 4 24 xs ≡ when (g .features .rmapbt) (headerBlocksOf g + 3 + bit (g .features .finobt)) 0
   pub bno-level : beAt 4 28 xs ≡ 1
   pub cnt-level : beAt 4 32 xs ≡ 1
   pub rmap-level : beAt 4 36 xs ≡ bit (g .features .rmapbt)
@@ -100,7 +100,7 @@ pub record AgfAt (g : Geometry) (u : List ℕ) (k : ℕ) (xs : List ℕ) : Type 
   pub uuid : part 64 16 xs ≡ u
   pub rmap-blocks : beAt 4 80 xs ≡ bit (g .features .rmapbt)
   pub refcount-blocks : beAt 4 84 xs ≡ bit (g .features .reflink)
-  pub refcount-root : beAt 4 88 xs ≡ when (g .features .reflink) (header g + 3 + bit (g .features .finobt) + bit (g .features .rmapbt)) 0
+  pub refcount-root : beAt 4 88 xs ≡ when (g .features .reflink) (headerBlocksOf g + 3 + bit (g .features .finobt) + bit (g .features .rmapbt)) 0
   pub refcount-level : beAt 4 92 xs ≡ bit (g .features .reflink)
   pub lsn : beAt 8 208 xs ≡ 0
 
@@ -111,7 +111,7 @@ pub record AgiAt (g : Geometry) (u : List ℕ) (k : ℕ) (xs : List ℕ) : Type 
   pub seqno : beAt 4 8 xs ≡ k
   pub length : beAt 4 12 xs ≡ groupBlocks (g .dblocks) (g .agsize) (g .agcount) k
   pub count : beAt 4 16 xs ≡ when (eqb k 0) 64 0
-  pub root : beAt 4 20 xs ≡ header g + 2
+  pub root : beAt 4 20 xs ≡ headerBlocksOf g + 2
   pub level : beAt 4 24 xs ≡ 1
   pub freecount : beAt 4 28 xs ≡ when (eqb k 0) 61 0
   pub newino : beAt 4 32 xs ≡ when (eqb k 0) (rootChunk g * 2 ^ g .inopblog) null32
@@ -119,7 +119,7 @@ pub record AgiAt (g : Geometry) (u : List ℕ) (k : ℕ) (xs : List ℕ) : Type 
   pub unlinked : numbersAt 4 64 40 xs ≡ replicate 64 null32
   pub uuid : part 296 16 xs ≡ u
   pub lsn : beAt 8 320 xs ≡ 0
-  pub free-root : beAt 4 328 xs ≡ when (g .features .finobt) (header g + 3) 0
+  pub free-root : beAt 4 328 xs ≡ when (g .features .finobt) (headerBlocksOf g + 3) 0
   pub free-level : beAt 4 332 xs ≡ bit (g .features .finobt)
   pub iblocks : beAt 4 336 xs ≡ bit (g .features .inobtcount)
   pub fblocks : beAt 4 340 xs ≡ when (g .features .inobtcount) (bit (g .features .finobt)) 0
@@ -147,13 +147,13 @@ pub record LeafAt (g : Geometry) (u : List ℕ) (k b magicnum records : ℕ) (xs
 -- the roots of a group: three, and one more for each of finobt, rmapbt and reflink, in this order
 pub record RootsAt (g : Geometry) (u : List ℕ) (k : ℕ) (head : List ℕ) : Type 0 where
   -- free extents by block, "AB3B", and by size, "AB3C"
-  pub by-block : LeafAt g u k (header g) 0x4142_3342 (planned g k .plan .free .len) (blockAt g (header g) head)
-  pub by-size : LeafAt g u k (header g + 1) 0x4142_3343 (planned g k .plan .free .len) (blockAt g (header g + 1) head)
+  pub by-block : LeafAt g u k (headerBlocksOf g) 0x4142_3342 (planned g k .plan .free .len) (blockAt g (headerBlocksOf g) head)
+  pub by-size : LeafAt g u k (headerBlocksOf g + 1) 0x4142_3343 (planned g k .plan .free .len) (blockAt g (headerBlocksOf g + 1) head)
   -- inodes, "IAB3", and free inodes, "FIB3": the root chunk's record in group 0
-  pub inodes : LeafAt g u k (header g + 2) 0x4941_4233 (bit (eqb k 0)) (blockAt g (header g + 2) head)
-  pub free-inodes : g .features .finobt ≡ true → LeafAt g u k (header g + 3) 0x4649_4233 (bit (eqb k 0)) (blockAt g (header g + 3) head)
+  pub inodes : LeafAt g u k (headerBlocksOf g + 2) 0x4941_4233 (bit (eqb k 0)) (blockAt g (headerBlocksOf g + 2) head)
+  pub free-inodes : g .features .finobt ≡ true → LeafAt g u k (headerBlocksOf g + 3) 0x4649_4233 (bit (eqb k 0)) (blockAt g (headerBlocksOf g + 3) head)
   -- reverse mappings, "RMB3", and reference counts, "R3FC"
   pub mappings : g .features .rmapbt ≡ true
-      → let b = header g + 3 + bit (g .features .finobt) in LeafAt g u k b 0x524d_4233 (planned g k .plan .rmap .len) (blockAt g b head)
+      → let b = headerBlocksOf g + 3 + bit (g .features .finobt) in LeafAt g u k b 0x524d_4233 (planned g k .plan .rmap .len) (blockAt g b head)
   pub counts : g .features .reflink ≡ true
-      → let b = header g + 3 + bit (g .features .finobt) + bit (g .features .rmapbt) in LeafAt g u k b 0x5233_4643 0 (blockAt g b head)
+      → let b = headerBlocksOf g + 3 + bit (g .features .finobt) + bit (g .features .rmapbt) in LeafAt g u k b 0x5233_4643 0 (blockAt g b head)

@@ -8,13 +8,13 @@ use lib.ListN.{length, replicate}
 use borrow.Author.Tests.{lt-ltb, le-ltb}
 use Rattle.geometry.specs.declared.Computed.{Computed}
 use Rattle.geometry.specs.declared.Geometry.{Geometry}
-use Rattle.geometry.specs.Compute.{refused, zeroGeometry}
+use Rattle.geometry.specs.Compute.{stepRefused, zeroGeometry}
 use Rattle.geometry_answers.specs.Named.{namedAnswer}
 use Rattle.reader_names.specs.Named.{namesAt, namedBy, uuidAt}
 use Rattle.reader_names.specs.Read.{namedRead, uuidRead}
 
 module _ (xs : List ℕ) where
-  pub short-name : (roomy : Bool) → length xs < 512 → namedRead roomy xs ≡ refused 27
+  pub short-name : (roomy : Bool) → length xs < 512 → namedRead roomy xs ≡ stepRefused 27
   unfolding namedRead
   short-name roomy h = rw (lt-ltb (length xs) 512 h) refl
 

@@ -8,17 +8,17 @@ use lib.ListN.{length, replicate}
 use Rattle.refusals.specs.Numbers.{wrongLength}
 use Rattle.seqs.specs.Lists.{choose}
 use Rattle.geometry.specs.declared.Computed.{Computed}
-use Rattle.geometry.specs.Compute.{refused}
+use Rattle.geometry.specs.Compute.{stepRefused}
 use Rattle.reader_names.specs.Named.{namedBy, uuidAt}
 
 -- the least that a superblock needs
-abbrev pub least : ℕ
-least = 512
+abbrev pub leastSuperblock : ℕ
+leastSuperblock = 512
 
 -- the geometry under a sizing of the log, or its refusal
 unfoldable pub namedRead : Bool → List ℕ → Computed
-namedRead roomy xs = choose (ltb (length xs) least) (refused wrongLength) (namedBy roomy xs)
+namedRead roomy xs = choose (ltb (length xs) leastSuperblock) (stepRefused wrongLength) (namedBy roomy xs)
 
 -- the UUID, or zeros
 unfoldable pub uuidRead : List ℕ → List ℕ
-uuidRead xs = choose (ltb (length xs) least) (replicate 16 0) (uuidAt xs)
+uuidRead xs = choose (ltb (length xs) leastSuperblock) (replicate 16 0) (uuidAt xs)

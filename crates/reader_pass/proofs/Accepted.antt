@@ -12,7 +12,7 @@ use Rattle.seqs.proofs.Laws.{choose-elim}
 use Rattle.geometry.specs.declared.Geometry.{Geometry}
 use Rattle.geometry.specs.declared.Computed.{Computed}
 use Rattle.geometry_answers.specs.Named.{isAnswer}
-use Rattle.geometry_layout.specs.Places.{before, byteOf}
+use Rattle.geometry_layout.specs.Places.{diskBlocksBefore, byteOf}
 use Rattle.geometry_layout.specs.Bounds.{Bounds}
 use Rattle.geometry_layout.proofs.Bounding.{answer-bounds}
 use Rattle.head_bytes.specs.Head.{headLength}
@@ -36,8 +36,8 @@ use Rattle.reader_pass.specs.declared.Stage.{Stage}
 use Rattle.reader_pass.specs.declared.Stage.the-variants.{Naming, First, Heads, Log, Ended}
 use Rattle.reader_pass.specs.declared.Pass.{Pass}
 use Rattle.reader_pass.specs.declared.Verdict.{Verdict}
-use Rattle.reader_pass.specs.Passing.{begun, endedBy, stageAt, wentOn, fedNamed, fedFirst, isEnded, saying, verdictOf}
-use Rattle.reader_pass.specs.Device.{turn, turns, passed, sectorNamed, turnsNeeded, Missing, Whole}
+use Rattle.reader_pass.specs.Passing.{passBegun, passEndedBy, stageAt, wentOn, fedNamed, fedFirst, isEnded, saying, passVerdict}
+use Rattle.reader_pass.specs.Device.{passTurn, passTurns, passedTurns, sectorNamed, turnsNeeded, Missing, AcceptedWhole}
 use Rattle.reader_pass.proofs.States.{stopped, went, unnamed, named}
 use Rattle.reader_pass.proofs.Turns.{turn-at, turns-ended, Ends, before-place, Rest, same-ends, log-turn, heads-on, heads-end}
 
@@ -122,7 +122,7 @@ module _ (d : Device) where
 
   -- group 0's head begins with the first sector
   head-start : (g : Geometry) → headOn g d 0 ≡ read d 0 (headLength g)
-  unfolding headOn byteOf before
+  unfolding headOn byteOf diskBlocksBefore
   head-start g = let z : (0 * g .agsize + 0) * g .blocksize ≡ 0 = omega arith in ap (λ (off : ℕ). read d off (headLength g)) z
 
   pub head-named : (roomy : Bool) (g : Geometry) → 512 ≤ headLength g → namedBy roomy (headOn g d 0) ≡ namedBy roomy (read d 0 512)
@@ -140,7 +140,7 @@ module _ (d : Device) where
 
   -- ---- a disk that is accepted whole names its geometry
 
-  whole-named : Whole d → namedBy false (read d 0 512) .number ≡ 0
+  whole-named : AcceptedWhole d → namedBy false (read d 0 512) .number ≡ 0
   unfolding headOn
   whole-named w =
       let n = its-name (headOn g d 0) (w .first) in
@@ -173,7 +173,7 @@ module _ (d : Device) where
           (sym (head-named (n .roomy) g (head-least g bounds)) ∙ (λ i. record { number = n .number i; geometry = sym (n .geometry) i }))
 
       -- the reader's answers and those of the pass
-      whole : Rest d (found .geometry) (found .uuid) label answer 1 → Whole d
+      whole : Rest d (found .geometry) (found .uuid) label answer 1 → AcceptedWhole d
       whole r =
           let f = found .geometry in
           let u = found .uuid in
@@ -183,7 +183,7 @@ module _ (d : Device) where
             log-block = ap (readLog f u) (sym (same-log d f g near)) ∙ r .1;
           }
 
-      rest : Whole d → Rest d (found .geometry) (found .uuid) label answer 1
+      rest : AcceptedWhole d → Rest d (found .geometry) (found .uuid) label answer 1
       rest w =
           let f = found .geometry in
           let u = found .uuid in (
@@ -194,64 +194,64 @@ module _ (d : Device) where
     -- ---- group 0's head
 
     abbrev named-pass : Pass
-    named-pass = record { stage = First; number = 0; place = 0; geometry = g; uuid = begun .uuid }
+    named-pass = record { stage = First; number = 0; place = 0; geometry = g; uuid = passBegun .uuid }
 
-    first-turn : turn d named-pass ≡ wentOn named-pass (found .number) (found .geometry) (found .uuid) 1
+    first-turn : passTurn d named-pass ≡ wentOn named-pass (found .number) (found .geometry) (found .uuid) 1
     unfolding fedFirst
     first-turn =
         turn-at d named-pass First refl
         ∙ ap (λ (xs : List ℕ). wentOn named-pass (readGroup0 xs .number) (readGroup0 xs .geometry) (readGroup0 xs .uuid) 1) (sym (head-start g))
 
-    first-accepted : (e : found .number ≡ 0) → turn d named-pass ≡ before-place d (found .geometry) (found .uuid) (label e) (answer e) 1
+    first-accepted : (e : found .number ≡ 0) → passTurn d named-pass ≡ before-place d (found .geometry) (found .uuid) (label e) (answer e) 1
     first-accepted e = first-turn ∙ sym (went named-pass (found .number) (found .geometry) (found .uuid) 1 (stageAt (found .geometry) 1) e refl)
 
-    from-first : (m : ℕ) → 1 + m ≡ g .agcount → (t : Bool) → eqb (found .number) 0 ≡ t → Ends (turns d (suc m) (turn d named-pass)) (Whole d)
+    from-first : (m : ℕ) → 1 + m ≡ g .agcount → (t : Bool) → eqb (found .number) 0 ≡ t → Ends (passTurns d (suc m) (passTurn d named-pass)) (AcceptedWhole d)
     from-first m c true t =
         let n = eqb-true (found .number) 0 t in
         let r = heads-end d (found .geometry) (found .uuid) (label n) (answer n) m 1 (c ∙ sym (same-count d (found .geometry) g (near n))) in
-        same-ends _ _ (ap (turns d (suc m)) (first-accepted n))
+        same-ends _ _ (ap (passTurns d (suc m)) (first-accepted n))
         (record { ended = r .ended; from = λ x. whole n (r .from x); to = λ w. r .to (rest n w) })
     from-first m c false t =
         let o = eqb-false (found .number) 0 t in
-        let s : turn d named-pass ≡ endedBy named-pass (found .number) = first-turn ∙ sym (stopped named-pass (found .number) (found .geometry) (found .uuid) 1 o) in
-        same-ends _ _ (ap (turns d (suc m)) s ∙ turns-ended d (suc m) (endedBy named-pass (found .number)) refl)
+        let s : passTurn d named-pass ≡ passEndedBy named-pass (found .number) = first-turn ∙ sym (stopped named-pass (found .number) (found .geometry) (found .uuid) 1 o) in
+        same-ends _ _ (ap (passTurns d (suc m)) s ∙ turns-ended d (suc m) (passEndedBy named-pass (found .number)) refl)
         (record { ended = refl; from = λ x. absurd (o x); to = λ w. absurd (o (w .first)) })
 
-  pub whole-near : Whole d → plain (readGroup0 (headOn (sectorNamed d) d 0) .geometry) ≡ sized (sectorNamed d) (readGroup0 (headOn (sectorNamed d) d 0) .geometry .logblocks) false
+  pub whole-near : AcceptedWhole d → plain (readGroup0 (headOn (sectorNamed d) d 0) .geometry) ≡ sized (sectorNamed d) (readGroup0 (headOn (sectorNamed d) d 0) .geometry .logblocks) false
   whole-near w = near (whole-named w) (w .first)
 
   -- ---- the first sector
 
-  begin-turn : turn d begun ≡ fedNamed begun sector
-  begin-turn = turn-at d begun Naming refl
+  begin-turn : passTurn d passBegun ≡ fedNamed passBegun sector
+  begin-turn = turn-at d passBegun Naming refl
 
-  named-first : (z : namedBy false (read d 0 512) .number ≡ 0) → turn d begun ≡ named-pass z
-  named-first z = begin-turn ∙ sym (named begun sector (namedBy false sector) (sym (full-name sector false (long z))) z)
+  named-first : (z : namedBy false (read d 0 512) .number ≡ 0) → passTurn d passBegun ≡ named-pass z
+  named-first z = begin-turn ∙ sym (named passBegun sector (namedBy false sector) (sym (full-name sector false (long z))) z)
 
-  exact-turns : (m : ℕ) → 1 + m ≡ g .agcount → (z : namedBy false (read d 0 512) .number ≡ 0) → Ends (turns d (suc (suc (suc m))) begun) (Whole d)
-  unfolding turns
+  exact-turns : (m : ℕ) → 1 + m ≡ g .agcount → (z : namedBy false (read d 0 512) .number ≡ 0) → Ends (passTurns d (suc (suc (suc m))) passBegun) (AcceptedWhole d)
+  unfolding passTurns
   exact-turns m c z =
-      same-ends _ _ (ap (turns d (suc (suc m))) (named-first z))
+      same-ends _ _ (ap (passTurns d (suc (suc m))) (named-first z))
       (from-first z m c (eqb (found .number) 0) refl)
 
-  unnamed-ends : (n : ℕ) → (namedBy false (read d 0 512) .number ≡ 0 → ⊥) → Ends (turns d (suc n) begun) (Whole d)
-  unfolding turns
+  unnamed-ends : (n : ℕ) → (namedBy false (read d 0 512) .number ≡ 0 → ⊥) → Ends (passTurns d (suc n) passBegun) (AcceptedWhole d)
+  unfolding passTurns
   unnamed-ends n o =
-      let s : turn d begun ≡ endedBy begun 30 = begin-turn ∙ sym (unnamed begun sector (namedBy false sector) (sym (full-name sector false (omega (arith, length-read d 0 512)))) o) in
-      let e : turns d n (turn d begun) ≡ endedBy begun 30 = ap (turns d n) s ∙ turns-ended d n (endedBy begun 30) refl in
+      let s : passTurn d passBegun ≡ passEndedBy passBegun 30 = begin-turn ∙ sym (unnamed passBegun sector (namedBy false sector) (sym (full-name sector false (omega (arith, length-read d 0 512)))) o) in
+      let e : passTurns d n (passTurn d passBegun) ≡ passEndedBy passBegun 30 = ap (passTurns d n) s ∙ turns-ended d n (passEndedBy passBegun 30) refl in
       rw e (record { ended = refl; from = λ x. absurd (omega (arith, x)); to = λ w. absurd (o (whole-named w)) })
 
   -- ---- more turns
 
-  pub turns-add : (m n : ℕ) (p : Pass) → turns d (m + n) p ≡ turns d n (turns d m p)
-  unfolding turns
+  pub turns-add : (m n : ℕ) (p : Pass) → passTurns d (m + n) p ≡ passTurns d n (passTurns d m p)
+  unfolding passTurns
   turns-add zero n p = let e : 0 + n ≡ n = omega arith in rw e
-  turns-add (suc m) n p = let e : suc m + n ≡ suc (m + n) = omega arith in rw e (turns-add m n (turn d p))
+  turns-add (suc m) n p = let e : suc m + n ≡ suc (m + n) = omega arith in rw e (turns-add m n (passTurn d p))
 
-  more-turns : (m n : ℕ) (p : Pass) → turns d m p .stage ≡ Ended → turns d (m + n) p ≡ turns d m p
-  more-turns m n p e = turns-add m n p ∙ turns-ended d n (turns d m p) e
+  more-turns : (m n : ℕ) (p : Pass) → passTurns d m p .stage ≡ Ended → passTurns d (m + n) p ≡ passTurns d m p
+  more-turns m n p e = turns-add m n p ∙ turns-ended d n (passTurns d m p) e
 
-  ends-by : (n : ℕ) → g .agcount + 2 ≤ n → (t : Bool) → eqb (namedBy false (read d 0 512) .number) 0 ≡ t → Ends (passed d n) (Whole d)
+  ends-by : (n : ℕ) → g .agcount + 2 ≤ n → (t : Bool) → eqb (namedBy false (read d 0 512) .number) 0 ≡ t → Ends (passedTurns d n) (AcceptedWhole d)
   ends-by n h true t =
       let z = eqb-true (namedBy false (read d 0 512) .number) 0 t in
       let c = count z in
@@ -259,19 +259,19 @@ module _ (d : Device) where
       let r = exact-turns m (omega arith) z in
       let k = n - (g .agcount + 2) in
       let e : n ≡ suc (suc (suc m)) + k = omega arith in
-      rw (e, more-turns (suc (suc (suc m))) k begun (r .ended)) r
+      rw (e, more-turns (suc (suc (suc m))) k passBegun (r .ended)) r
   ends-by n h false t =
       let e : n ≡ suc (n - 1) = omega arith in
       rw e (unnamed-ends (n - 1) (eqb-false (namedBy false (read d 0 512) .number) 0 t))
 
   -- THE PASS ENDS after as many turns as there are groups, and two
-  pub pass-ends : (n : ℕ) → turnsNeeded d ≤ n → Ends (passed d n) (Whole d)
+  pub pass-ends : (n : ℕ) → turnsNeeded d ≤ n → Ends (passedTurns d n) (AcceptedWhole d)
   pass-ends n h = ends-by n h (eqb (namedBy false (read d 0 512) .number) 0) refl
 
 -- ---- the verdict
 
-verdict-ended : (p : Pass) → p .stage ≡ Ended → verdictOf p .number ≡ p .number
-unfolding verdictOf
+verdict-ended : (p : Pass) → p .stage ≡ Ended → passVerdict p .number ≡ p .number
+unfolding passVerdict
 verdict-ended p e = rw e
 
 is-ended : (s : Stage) → isEnded s ≡ true → s ≡ Ended
@@ -281,18 +281,18 @@ is-ended Heads e = absurd (true≢false (sym e))
 is-ended Log e = absurd (true≢false (sym e))
 is-ended Ended e = refl
 
-no-verdict : (p : Pass) (t : Bool) → isEnded (p .stage) ≡ t → verdictOf p .number ≡ 0 → p .stage ≡ Ended
-unfolding verdictOf
+no-verdict : (p : Pass) (t : Bool) → isEnded (p .stage) ≡ t → passVerdict p .number ≡ 0 → p .stage ≡ Ended
+unfolding passVerdict
 no-verdict p true e z = is-ended (p .stage) e
 no-verdict p false e z = absurd (let w : 27 ≡ 0 = rw e at z in omega (arith, w))
 
 -- without a refusal it has ended
-pub ended-zero : (p : Pass) → verdictOf p .number ≡ 0 → (p .stage ≡ Ended) × (p .number ≡ 0)
+pub ended-zero : (p : Pass) → passVerdict p .number ≡ 0 → (p .stage ≡ Ended) × (p .number ≡ 0)
 ended-zero p z = let e = no-verdict p (isEnded (p .stage)) refl z in (e, sym (verdict-ended p e) ∙ z)
 
 -- one that isn't ended says 27 at the place that comes next
-pub verdict-open : (p : Pass) → isEnded (p .stage) ≡ false → Missing (verdictOf p) (p .place)
-unfolding verdictOf
+pub verdict-open : (p : Pass) → isEnded (p .stage) ≡ false → Missing (passVerdict p) (p .place)
+unfolding passVerdict
 verdict-open p e = rw e (refl, refl)
 
 pub place-open : (g : Geometry) (k : ℕ) → isEnded (stageAt g k) ≡ false
@@ -301,26 +301,26 @@ place-open g k = choose-elim (λ (s : Stage). isEnded s ≡ false) (ltb k (g .ag
 
 module _ (d : Device) (n : ℕ) where
   -- ACCEPTED ONLY WHERE THE READER ACCEPTS THE DEVICE WHOLE, after any number of turns
-  pub pass-sound : verdictOf (passed d n) .number ≡ 0 → Whole d
+  pub pass-sound : passVerdict (passedTurns d n) .number ≡ 0 → AcceptedWhole d
   pass-sound z =
-      let e = ended-zero (passed d n) z in
+      let e = ended-zero (passedTurns d n) z in
       let k = turnsNeeded d in
       let r = pass-ends d (n + k) (omega arith) in
-      r .from (ap (λ (p : Pass). p .number) (more-turns d n k begun (e .0)) ∙ e .1)
+      r .from (ap (λ (p : Pass). p .number) (more-turns d n k passBegun (e .0)) ∙ e .1)
 
   -- AND THERE IT IS ACCEPTED, once all was fed
-  pub pass-complete : turnsNeeded d ≤ n → Whole d → verdictOf (passed d n) .number ≡ 0
-  pass-complete h w = let r = pass-ends d n h in verdict-ended (passed d n) (r .ended) ∙ r .to w
+  pub pass-complete : turnsNeeded d ≤ n → AcceptedWhole d → passVerdict (passedTurns d n) .number ≡ 0
+  pass-complete h w = let r = pass-ends d n h in verdict-ended (passedTurns d n) (r .ended) ∙ r .to w
 
 -- ---- the geometry that it gives
 
-pub verdict-geometry : (p : Pass) → verdictOf p .geometry ≡ p .geometry
-unfolding verdictOf
+pub verdict-geometry : (p : Pass) → passVerdict p .geometry ≡ p .geometry
+unfolding passVerdict
 verdict-geometry p = choose-elim (λ (v : Verdict). v .geometry ≡ p .geometry) (isEnded (p .stage)) (saying p (p .number)) (saying p 27) (λ t. refl) (λ t. refl)
 
 -- once all was fed, it is the one that group 0's head gave
-whole-geometry : (d : Device) → Whole d → passed d (turnsNeeded d) .geometry ≡ readGroup0 (headOn (sectorNamed d) d 0) .geometry
-unfolding turns
+whole-geometry : (d : Device) → AcceptedWhole d → passedTurns d (turnsNeeded d) .geometry ≡ readGroup0 (headOn (sectorNamed d) d 0) .geometry
+unfolding passTurns
 whole-geometry d w =
     let z = whole-named d w in
     let f = readGroup0 (headOn (sectorNamed d) d 0) in
@@ -332,23 +332,23 @@ whole-geometry d w =
     let k : turnsNeeded d ≡ suc (suc (m + 1)) = omega arith in
     let h = heads-on d (f .geometry) (f .uuid) l a m 1 (omega (arith, c)) (rest d z (w .first) w) in
     let t = log-turn d (f .geometry) (f .uuid) l a (1 + m) (omega (arith, c)) in
-    let e = ap (λ (x : Pass). turns d (m + 1) (turn d x)) (named-first d z) ∙ ap (turns d (m + 1)) (first-accepted d z (w .first)) ∙ turns-add d m 1 (before-place d (f .geometry) (f .uuid) l a 1) ∙ ap (turn d) h ∙ t in
-    ap (λ (j : ℕ). turns d j begun .geometry) k ∙ ap (λ (p : Pass). p .geometry) e
+    let e = ap (λ (x : Pass). passTurns d (m + 1) (passTurn d x)) (named-first d z) ∙ ap (passTurns d (m + 1)) (first-accepted d z (w .first)) ∙ turns-add d m 1 (before-place d (f .geometry) (f .uuid) l a 1) ∙ ap (passTurn d) h ∙ t in
+    ap (λ (j : ℕ). passTurns d j passBegun .geometry) k ∙ ap (λ (p : Pass). p .geometry) e
 
 -- AND SO OF EVERY VERDICT 0
-pub pass-geometry : (d : Device) (n : ℕ) → verdictOf (passed d n) .number ≡ 0 → verdictOf (passed d n) .geometry ≡ readGroup0 (headOn (sectorNamed d) d 0) .geometry
+pub pass-geometry : (d : Device) (n : ℕ) → passVerdict (passedTurns d n) .number ≡ 0 → passVerdict (passedTurns d n) .geometry ≡ readGroup0 (headOn (sectorNamed d) d 0) .geometry
 pass-geometry d n z =
-    let e = ended-zero (passed d n) z in
+    let e = ended-zero (passedTurns d n) z in
     let k = turnsNeeded d in
     let r = pass-ends d k (omega arith) in
     let c : n + k ≡ k + n = omega arith in
-    let s = sym (more-turns d n k begun (e .0)) ∙ ap (λ (j : ℕ). turns d j begun) c ∙ more-turns d k n begun (r .ended) in
-    verdict-geometry (passed d n) ∙ ap (λ (p : Pass). p .geometry) s ∙ whole-geometry d (pass-sound d n z)
+    let s = sym (more-turns d n k passBegun (e .0)) ∙ ap (λ (j : ℕ). passTurns d j passBegun) c ∙ more-turns d k n passBegun (r .ended) in
+    verdict-geometry (passedTurns d n) ∙ ap (λ (p : Pass). p .geometry) s ∙ whole-geometry d (pass-sound d n z)
 
 -- UNTIL ALL WAS FED it says 27 at the place that comes next
-pub pass-unfinished : (d : Device) → Whole d → (n : ℕ) → n < turnsNeeded d → Missing (verdictOf (passed d n)) (n - 1)
-unfolding turns
-pass-unfinished d w zero h = verdict-open begun refl
+pub pass-unfinished : (d : Device) → AcceptedWhole d → (n : ℕ) → n < turnsNeeded d → Missing (passVerdict (passedTurns d n)) (n - 1)
+unfolding passTurns
+pass-unfinished d w zero h = verdict-open passBegun refl
 pass-unfinished d w (suc zero) h = rw (named-first d (whole-named d w)) (verdict-open (named-pass d (whole-named d w)) refl)
 pass-unfinished d w (suc (suc m)) h =
     let z = whole-named d w in
@@ -356,6 +356,6 @@ pass-unfinished d w (suc (suc m)) h =
     let c = same-count d (f .geometry) (sectorNamed d) (near d z (w .first)) in
     let s = heads-on d (f .geometry) (f .uuid) (label d z (w .first)) (answer d z (w .first)) m 1 (omega (arith, c)) (rest d z (w .first) w) in
     let p : suc (suc m) - 1 ≡ 1 + m = omega arith in
-    let e = ap (λ (x : Pass). turns d m (turn d x)) (named-first d z) ∙ ap (turns d m) (first-accepted d z (w .first)) ∙ s in
+    let e = ap (λ (x : Pass). passTurns d m (passTurn d x)) (named-first d z) ∙ ap (passTurns d m) (first-accepted d z (w .first)) ∙ s in
     let v = verdict-open (before-place d (f .geometry) (f .uuid) (label d z (w .first)) (answer d z (w .first)) (1 + m)) (place-open (f .geometry) (1 + m)) in
-    subst (λ (k : ℕ). Missing (verdictOf (passed d (suc (suc m)))) k) (sym p) (subst (λ (x : Pass). Missing (verdictOf x) (1 + m)) (sym e) v)
+    subst (λ (k : ℕ). Missing (passVerdict (passedTurns d (suc (suc m)))) k) (sym p) (subst (λ (x : Pass). Missing (passVerdict x) (1 + m)) (sym e) v)

@@ -34,7 +34,7 @@ use Rattle.reader_exact.proofs.Whole.{head-by, whole-complete, exact-whole}
 use Rattle.reader_pass.specs.declared.Stage.{Stage}
 use Rattle.reader_pass.specs.declared.Stage.the-variants.{Naming, First, Heads, Log, Ended}
 use Rattle.reader_pass.specs.declared.Pass.{Pass}
-use Rattle.reader_pass.specs.Passing.{begun, lengthOf, endedBy, stageAt, following, wentOn, namedSo, fedNamed, fedFirst, fedHead, fedLog, fedShort, fedWhole, fed, verdictOf}
+use Rattle.reader_pass.specs.Passing.{passBegun, stageLength, passEndedBy, stageAt, following, wentOn, namedSo, fedNamed, fedFirst, passFedHead, fedLog, fedShort, fedWhole, passFed, passVerdict}
 use Rattle.reader_pass.specs.Device.{fedBy, groupsFed, Missing}
 use Rattle.reader_pass.specs.Parts.{Announces, partsNeeded, RunParts}
 use Rattle.reader_pass.proofs.States.{some-head, no-head, went, named, long-is}
@@ -95,7 +95,7 @@ module _ (parts : ℕ → List ℕ) where
   Known n Ended p = p .number ≡ 0 → All n (p .geometry)
 
   -- a refusal
-  refused : (n m : ℕ) (p : Pass) → (m ≡ 0 → ⊥) → Known n Ended (endedBy p m)
+  refused : (n m : ℕ) (p : Pass) → (m ≡ 0 → ⊥) → Known n Ended (passEndedBy p m)
   refused n m p h = λ z. absurd (h z)
 
   -- a place that is next is a head, or behind the last the log's block
@@ -112,7 +112,7 @@ module _ (parts : ℕ → List ℕ) where
       → Known n (wentOn p m g u k .stage) (wentOn p m g u k)
   unfolding wentOn
   went-known n m k p g u h =
-      choose-elim (λ (q : Pass). Known n (q .stage) q) (eqb m 0) (record { stage = stageAt g k; number = 0; place = k; geometry = g; uuid = u }) (endedBy p m)
+      choose-elim (λ (q : Pass). Known n (q .stage) q) (eqb m 0) (record { stage = stageAt g k; number = 0; place = k; geometry = g; uuid = u }) (passEndedBy p m)
       (λ t. h (eqb-true m 0 t)) (λ t. refused n m p (eqb-false m 0 t))
 
   -- ---- as many bytes as were asked for
@@ -121,7 +121,7 @@ module _ (parts : ℕ → List ℕ) where
   unfolding fedNamed namedSo
   named-at p l =
       choose-elim (λ (q : Pass). Known 1 (q .stage) q) (eqb (namedRead false (parts 0) .number) 0)
-      (record { stage = First; number = 0; place = 0; geometry = namedRead false (parts 0) .geometry; uuid = p .uuid }) (endedBy p 30)
+      (record { stage = First; number = 0; place = 0; geometry = namedRead false (parts 0) .geometry; uuid = p .uuid }) (passEndedBy p 30)
       (λ t. (refl, record { long = l; number = eqb-true (namedRead false (parts 0) .number) 0 t; geometry = refl }))
       (λ t. refused 1 30 p (λ z. omega (arith, z)))
 
@@ -152,8 +152,8 @@ module _ (parts : ℕ → List ℕ) where
       subst (λ (m : ℕ). Known (suc m) (fedFirst p (parts m) .stage) (fedFirst p (parts m))) (sym e)
       (first-at p (announced p w (subst (λ (m : ℕ). length (parts m) ≡ headLength (p .geometry)) e l)))
 
-  head-known : (n : ℕ) (p : Pass) → Known n Heads p → Known (suc n) (fedHead p (parts n) .stage) (fedHead p (parts n))
-  unfolding fedHead
+  head-known : (n : ℕ) (p : Pass) → Known n Heads p → Known (suc n) (passFedHead p (parts n) .stage) (passFedHead p (parts n))
+  unfolding passFedHead
   head-known n p w =
       let b = w .0 in
       let k = p .place in
@@ -209,7 +209,7 @@ module _ (parts : ℕ → List ℕ) where
       later : (m : ℕ) (q : Pass) → Known m Ended q → Known (suc m) Ended q
       later m q h = λ z. let a = h z in record { sector = a .sector; whole = a .whole; count = omega (arith, a .count); geometry = a .geometry }
 
-  whole-known : (n : ℕ) (s : Stage) (p : Pass) → Known n s p → p .stage ≡ s → length (parts n) ≡ lengthOf s (p .geometry)
+  whole-known : (n : ℕ) (s : Stage) (p : Pass) → Known n s p → p .stage ≡ s → length (parts n) ≡ stageLength s (p .geometry)
       → Known (suc n) (fedWhole s p (parts n) .stage) (fedWhole s p (parts n))
   unfolding fedLog
   whole-known n Naming p k e l = named-known n p k l
@@ -231,23 +231,23 @@ module _ (parts : ℕ → List ℕ) where
   -- ---- after any number of feeds
 
   known : (n : ℕ) → Known n (fedBy parts n .stage) (fedBy parts n)
-  unfolding fedBy fed
+  unfolding fedBy passFed
   known zero = refl
   known (suc n) =
       let p = fedBy parts n in
-      choose-elim (λ (q : Pass). Known (suc n) (q .stage) q) (eqb (length (parts n)) (lengthOf (p .stage) (p .geometry))) (fedWhole (p .stage) p (parts n)) (fedShort (p .stage) p)
-      (λ t. whole-known n (p .stage) p (known n) refl (eqb-true (length (parts n)) (lengthOf (p .stage) (p .geometry)) t)) (λ t. short-known n (p .stage) p (known n) refl)
+      choose-elim (λ (q : Pass). Known (suc n) (q .stage) q) (eqb (length (parts n)) (stageLength (p .stage) (p .geometry))) (fedWhole (p .stage) p (parts n)) (fedShort (p .stage) p)
+      (λ t. whole-known n (p .stage) p (known n) refl (eqb-true (length (parts n)) (stageLength (p .stage) (p .geometry)) t)) (λ t. short-known n (p .stage) p (known n) refl)
 
   -- the verdict 0 says that all was fed and is accepted
-  all-fed : (n : ℕ) → verdictOf (fedBy parts n) .number ≡ 0 → All n (fedBy parts n .geometry)
+  all-fed : (n : ℕ) → passVerdict (fedBy parts n) .number ≡ 0 → All n (fedBy parts n .geometry)
   all-fed n z =
       let p = fedBy parts n in
       let e = ended-zero p z in
       subst (λ (s : Stage). Known n s p) (e .0) (known n) (e .1)
 
   -- the reader accepts it, and the geometry is the one that group 0's head gave
-  pub fed-whole : (n : ℕ) → verdictOf (fedBy parts n) .number ≡ 0
-      → ReadWhole (λ k. parts (k + 1)) (parts (groupsFed parts + 1)) × ((partsNeeded parts ≤ n) × (verdictOf (fedBy parts n) .geometry ≡ readGroup0 (parts 1) .geometry))
+  pub fed-whole : (n : ℕ) → passVerdict (fedBy parts n) .number ≡ 0
+      → ReadWhole (λ k. parts (k + 1)) (parts (groupsFed parts + 1)) × ((partsNeeded parts ≤ n) × (passVerdict (fedBy parts n) .geometry ≡ readGroup0 (parts 1) .geometry))
   fed-whole n z = let a = all-fed n z in (a .whole, (a .count, verdict-geometry (fedBy parts n) ∙ a .geometry))
 
   -- ---- more parts than are needed
@@ -263,10 +263,10 @@ module _ (parts : ℕ → List ℕ) where
   pub parts-end : (n : ℕ) → partsNeeded parts ≤ n → fedBy parts n .stage ≡ Ended
   parts-end n h = done n (fedBy parts n .stage) (fedBy parts n) (known n) h
 
-  fed-ended : (p : Pass) (xs : List ℕ) → p .stage ≡ Ended → fed p xs ≡ p
-  unfolding fed fedShort
+  fed-ended : (p : Pass) (xs : List ℕ) → p .stage ≡ Ended → passFed p xs ≡ p
+  unfolding passFed fedShort
   fed-ended p xs e =
-      choose-elim (λ (q : Pass). q ≡ p) (eqb (length xs) (lengthOf (p .stage) (p .geometry))) (fedWhole (p .stage) p xs) (fedShort (p .stage) p)
+      choose-elim (λ (q : Pass). q ≡ p) (eqb (length xs) (stageLength (p .stage) (p .geometry))) (fedWhole (p .stage) p xs) (fedShort (p .stage) p)
       (λ t. ap (λ (s : Stage). fedWhole s p xs) e) (λ t. ap (λ (s : Stage). fedShort s p) e)
 
   fed-more : (m : ℕ) → fedBy parts (m + partsNeeded parts) ≡ fedBy parts (partsNeeded parts)
@@ -297,55 +297,55 @@ module _ (parts : ℕ → List ℕ) where
     state k = record { stage = stageAt g k; number = 0; place = k; geometry = g; uuid = u }
 
     abbrev sized-pass : Pass
-    sized-pass = record { stage = First; number = 0; place = 0; geometry = namedBy false (parts 0) .geometry; uuid = begun .uuid }
+    sized-pass = record { stage = First; number = 0; place = 0; geometry = namedBy false (parts 0) .geometry; uuid = passBegun .uuid }
 
-    fed-one : fed begun (parts 0) ≡ sized-pass
+    fed-one : passFed passBegun (parts 0) ≡ sized-pass
     fed-one =
-        sym (long-is begun (parts 0) (a .long))
-        ∙ sym (named begun (parts 0) (namedBy false (parts 0)) (sym (full-name (parts 0) false (omega (arith, a .long)))) (a .named))
+        sym (long-is passBegun (parts 0) (a .long))
+        ∙ sym (named passBegun (parts 0) (namedBy false (parts 0)) (sym (full-name (parts 0) false (omega (arith, a .long)))) (a .named))
 
-    fed-two : fed sized-pass (parts 1) ≡ state 1
+    fed-two : passFed sized-pass (parts 1) ≡ state 1
     unfolding fedFirst
     fed-two = sym (long-is sized-pass (parts 1) (a .head-long)) ∙ sym (went sized-pass (its .number) g u 1 (stageAt g 1) (r .first) refl)
 
     head-number : (k : ℕ) → 0 < k → k < g .agcount → groupNumber g u k (parts (k + 1)) ≡ 0
     head-number k p h = sym (number-read g u k (parts (k + 1))) ∙ r .others k p h
 
-    fed-head : (k : ℕ) → 0 < k → k < g .agcount → fed (state k) (parts (k + 1)) ≡ state (k + 1)
-    unfolding fedHead
+    fed-head : (k : ℕ) → 0 < k → k < g .agcount → passFed (state k) (parts (k + 1)) ≡ state (k + 1)
+    unfolding passFedHead
     fed-head k p h =
         let xs = parts (k + 1) in
         let z = head-number k p h in
         let s = some-head g k h in
-        sym (long-is (state k) xs (head-length g u k xs z ∙ ap (λ (t : Stage). lengthOf t g) s))
+        sym (long-is (state k) xs (head-length g u k xs z ∙ ap (λ (t : Stage). stageLength t g) s))
         ∙ ap (λ (t : Stage). fedWhole t (state k) xs) (sym s)
         ∙ ap (wentOn (state k) (groupNumber g u k xs) g u) (following-in k (g .agcount) h)
         ∙ sym (went (state k) (groupNumber g u k xs) g u (k + 1) (stageAt g (k + 1)) z refl)
 
-    fed-log : fed (state (g .agcount)) (parts (g .agcount + 1)) ≡ endedBy (state (g .agcount)) 0
+    fed-log : passFed (state (g .agcount)) (parts (g .agcount + 1)) ≡ passEndedBy (state (g .agcount)) 0
     unfolding fedLog
     fed-log =
         let k = g .agcount in
         let xs = parts (k + 1) in
         let s = no-head g k (omega arith) in
-        sym (long-is (state k) xs (log-length g u xs (r .log-block) ∙ ap (λ (t : Stage). lengthOf t g) s))
+        sym (long-is (state k) xs (log-length g u xs (r .log-block) ∙ ap (λ (t : Stage). stageLength t g) s))
         ∙ ap (λ (t : Stage). fedWhole t (state k) xs) (sym s)
-        ∙ ap (endedBy (state k)) (r .log-block)
+        ∙ ap (passEndedBy (state k)) (r .log-block)
 
     -- until the log block each goes on to the next place
     fed-on : (m : ℕ) → 1 + m ≤ g .agcount → fedBy parts (suc (suc m)) ≡ state (1 + m)
     unfolding fedBy
-    fed-on zero h = ap (λ (p : Pass). fed p (parts 1)) fed-one ∙ fed-two
+    fed-on zero h = ap (λ (p : Pass). passFed p (parts 1)) fed-one ∙ fed-two
     fed-on (suc m) h =
         let k = 1 + m in
         let e : suc (suc m) ≡ k + 1 = omega arith in
         let f : k + 1 ≡ 1 + suc m = omega arith in
-        ap (λ (p : Pass). fed p (parts (suc (suc m)))) (fed-on m (omega arith))
-        ∙ ap (λ (n : ℕ). fed (state k) (parts n)) e
+        ap (λ (p : Pass). passFed p (parts (suc (suc m)))) (fed-on m (omega arith))
+        ∙ ap (λ (n : ℕ). passFed (state k) (parts n)) e
         ∙ fed-head k (omega arith) (omega arith)
         ∙ ap state f
 
-    fed-end : fedBy parts (partsNeeded parts) ≡ endedBy (state (g .agcount)) 0
+    fed-end : fedBy parts (partsNeeded parts) ≡ passEndedBy (state (g .agcount)) 0
     unfolding fedBy
     fed-end =
         let c = its-count (parts 1) (r .first) in
@@ -354,25 +354,25 @@ module _ (parts : ℕ → List ℕ) where
         let f : 1 + m ≡ g .agcount = omega arith in
         let k : suc (suc m) ≡ g .agcount + 1 = omega arith in
         ap (fedBy parts) e
-        ∙ ap₂ (λ (p : Pass) (n : ℕ). fed p (parts n)) (fed-on m (omega arith) ∙ ap state f) k
+        ∙ ap₂ (λ (p : Pass) (n : ℕ). passFed p (parts n)) (fed-on m (omega arith) ∙ ap state f) k
         ∙ fed-log
 
-    verdict-zero : verdictOf (endedBy (state (g .agcount)) 0) .number ≡ 0
-    unfolding verdictOf
+    verdict-zero : passVerdict (passEndedBy (state (g .agcount)) 0) .number ≡ 0
+    unfolding passVerdict
     verdict-zero = refl
 
-    fed-accepted : (n : ℕ) → partsNeeded parts ≤ n → verdictOf (fedBy parts n) .number ≡ 0
-    fed-accepted n h = ap (λ (p : Pass). verdictOf p .number) (parts-more n h ∙ fed-end) ∙ verdict-zero
+    fed-accepted : (n : ℕ) → partsNeeded parts ≤ n → passVerdict (fedBy parts n) .number ≡ 0
+    fed-accepted n h = ap (λ (p : Pass). passVerdict p .number) (parts-more n h ∙ fed-end) ∙ verdict-zero
 
     -- before that 27 at the place that comes next
-    fed-few : (n : ℕ) → n < partsNeeded parts → Missing (verdictOf (fedBy parts n)) (n - 1)
+    fed-few : (n : ℕ) → n < partsNeeded parts → Missing (passVerdict (fedBy parts n)) (n - 1)
     unfolding fedBy
-    fed-few zero h = verdict-open begun refl
-    fed-few (suc zero) h = subst (λ (p : Pass). Missing (verdictOf p) 0) (sym fed-one) (verdict-open sized-pass refl)
+    fed-few zero h = verdict-open passBegun refl
+    fed-few (suc zero) h = subst (λ (p : Pass). Missing (passVerdict p) 0) (sym fed-one) (verdict-open sized-pass refl)
     fed-few (suc (suc m)) h =
         let e : 1 + m ≡ suc (suc m) - 1 = omega arith in
-        subst (λ (k : ℕ). Missing (verdictOf (fedBy parts (suc (suc m)))) k) e
-        (subst (λ (p : Pass). Missing (verdictOf p) (1 + m)) (sym (fed-on m (omega arith))) (verdict-open (state (1 + m)) (place-open g (1 + m))))
+        subst (λ (k : ℕ). Missing (passVerdict (fedBy parts (suc (suc m)))) k) e
+        (subst (λ (p : Pass). Missing (passVerdict p) (1 + m)) (sym (fed-on m (omega arith))) (verdict-open (state (1 + m)) (place-open g (1 + m))))
 
   -- ---- the theorems
 
@@ -383,14 +383,14 @@ module _ (parts : ℕ → List ℕ) where
   its-log = parts (groupsFed parts + 1)
 
   -- THE VERDICT IS 0 EXACTLY WHERE ONE ACCEPTED RUN LEAVES ALL PARTS, AND ALL WERE FED
-  pub parts-exact : Octets (parts 1) → (n : ℕ) → (verdictOf (fedBy parts n) .number ≡ 0) ↔ (RunParts parts × (partsNeeded parts ≤ n))
+  pub parts-exact : Octets (parts 1) → (n : ℕ) → (passVerdict (fedBy parts n) .number ≡ 0) ↔ (RunParts parts × (partsNeeded parts ≤ n))
   parts-exact o n = (
     (λ z. let a = all-fed n z in (record { sector = a .sector; run = exact-whole its-heads its-log o .0 (a .whole) }, a .count)),
     (λ w. fed-accepted (w .0 .sector) (whole-complete its-heads its-log (w .0 .run)) n (w .1)),
   )
 
   -- WITH FEWER IT IS 27
-  pub parts-few : RunParts parts → (n : ℕ) → n < partsNeeded parts → Missing (verdictOf (fedBy parts n)) (n - 1)
+  pub parts-few : RunParts parts → (n : ℕ) → n < partsNeeded parts → Missing (passVerdict (fedBy parts n)) (n - 1)
   parts-few w n h = fed-few (w .sector) (whole-complete its-heads its-log (w .run)) n h
 
   -- the first 512 bytes of group 0's head announce it

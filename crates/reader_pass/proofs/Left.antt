@@ -22,24 +22,24 @@ use Rattle.reader_exact.proofs.Sizings.{reported-plain}
 use Rattle.reader_exact.proofs.Heads.{head-least, source-bounds, some-group, left-named}
 use Rattle.reader_exact.proofs.Whole.{exact-whole, whole-complete, whole-found}
 use Rattle.reader_exact.proofs.Disk.{head-formatted}
-use Rattle.reader_pass.specs.Passing.{verdictOf}
-use Rattle.reader_pass.specs.Device.{Bytes, passed, sectorNamed, turnsNeeded, Missing, Whole, LeftByRun}
+use Rattle.reader_pass.specs.Passing.{passVerdict}
+use Rattle.reader_pass.specs.Device.{ByteDevice, passedTurns, sectorNamed, turnsNeeded, Missing, AcceptedWhole, LeftByRun}
 use Rattle.reader_pass.proofs.Accepted.{same-head, same-log, head-named, near-named, whole-near, pass-sound, pass-complete, pass-unfinished}
 
 -- the bytes that are read from bytes
-read-below : (d : Device) → Bytes d → (n off i : ℕ) → getD (read d off n) i 0 < 256
+read-below : (d : Device) → ByteDevice d → (n off i : ℕ) → getD (read d off n) i 0 < 256
 unfolding read
 read-below d b zero off i = lit< tt
 read-below d b (suc n) off zero = b off
 read-below d b (suc n) off (suc i) = read-below d b n (suc off) i
 
 module _ (d : Device) where
-  pub octets : Bytes d → (g : Geometry) → Octets (headOn g d 0)
+  pub octets : ByteDevice d → (g : Geometry) → Octets (headOn g d 0)
   unfolding headOn
   octets b g = read-below d b (headLength g) _
 
   -- a run that leaves all heads and the log block leaves them on the device
-  unfoldable pub run-leaves : Whole d → ByRecords (headOn (sectorNamed d) d) (logOn (sectorNamed d) d) → LeftByRun d
+  unfoldable pub run-leaves : AcceptedWhole d → ByRecords (headOn (sectorNamed d) d) (logOn (sectorNamed d) d) → LeftByRun d
   run-leaves w o =
       let g = sectorNamed d in
       let r = o .request in
@@ -53,7 +53,7 @@ module _ (d : Device) where
         log-block = λ old. same-log d (runOf r .geometry) g near ∙ o .log-block old;
       }
 
-  from-whole : Bytes d → Whole d → LeftByRun d
+  from-whole : ByteDevice d → AcceptedWhole d → LeftByRun d
   from-whole b w = let g = sectorNamed d in run-leaves w (exact-whole (headOn g d) (logOn g d) (octets b g) .0 w)
 
   -- the run leaves them where the first sector puts them
@@ -72,7 +72,7 @@ module _ (d : Device) where
         log-block = λ old. sym (same-log d g (sectorNamed d) near) ∙ w .log-block old;
       }
 
-  to-whole : LeftByRun d → Whole d
+  to-whole : LeftByRun d → AcceptedWhole d
   to-whole w = whole-complete (headOn (sectorNamed d) d) (logOn (sectorNamed d) d) (its-run w)
 
   -- and its geometry, as it is reported, is what group 0's head gives
@@ -80,15 +80,15 @@ module _ (d : Device) where
   unfolding its-run
   left-geometry w = ap (λ (x : Found). x .geometry) (whole-found (headOn (sectorNamed d) d) (logOn (sectorNamed d) d) (its-run w))
 
-  module _ (b : Bytes d) (n : ℕ) where
+  module _ (b : ByteDevice d) (n : ℕ) where
     -- after any number of turns
-    pub accepted-left : verdictOf (passed d n) .number ≡ 0 → LeftByRun d
+    pub accepted-left : passVerdict (passedTurns d n) .number ≡ 0 → LeftByRun d
     accepted-left z = from-whole b (pass-sound d n z)
 
     -- once all was fed
-    pub left-accepted : turnsNeeded d ≤ n → LeftByRun d → verdictOf (passed d n) .number ≡ 0
+    pub left-accepted : turnsNeeded d ≤ n → LeftByRun d → passVerdict (passedTurns d n) .number ≡ 0
     left-accepted h w = pass-complete d n h (to-whole w)
 
   -- until all was fed
-  pub left-unfinished : LeftByRun d → (n : ℕ) → n < turnsNeeded d → Missing (verdictOf (passed d n)) (n - 1)
+  pub left-unfinished : LeftByRun d → (n : ℕ) → n < turnsNeeded d → Missing (passVerdict (passedTurns d n)) (n - 1)
   left-unfinished w = pass-unfinished d (to-whole w)

@@ -14,7 +14,7 @@ use Rattle.reader_exact.specs.Read.{readGroup0, groupNumber, readLog}
 use Rattle.reader_pass.specs.declared.Stage.{Stage}
 use Rattle.reader_pass.specs.declared.Stage.the-variants.{Heads, Log, First}
 use Rattle.reader_pass.specs.declared.Pass.{Pass}
-use Rattle.reader_pass.specs.Passing.{endedBy, stageAt, wentOn, namedSo, fedNamed, fedFirst, fedHead, fedLog, fedShort, fedWhole, fed, lengthOf, isEnded, following, workIn, worked, verdictOf, saying}
+use Rattle.reader_pass.specs.Passing.{passEndedBy, stageAt, wentOn, namedSo, fedNamed, fedFirst, passFedHead, fedLog, fedShort, fedWhole, passFed, stageLength, isEnded, following, workIn, worked, passVerdict, saying}
 
 pub some-head : (g : Geometry) (k : ℕ) → k < g .agcount → Heads ≡ stageAt g k
 unfolding stageAt
@@ -25,7 +25,7 @@ unfolding stageAt
 no-head g k h = rw (le-ltb k (g .agcount) h) refl
 
 module _ (p : Pass) (n : ℕ) (g : Geometry) (u : List ℕ) (k : ℕ) where
-  pub stopped : (n ≡ 0 → ⊥) → endedBy p n ≡ wentOn p n g u k
+  pub stopped : (n ≡ 0 → ⊥) → passEndedBy p n ≡ wentOn p n g u k
   unfolding wentOn
   stopped h = rw (ne-eqb n 0 h) refl
 
@@ -34,7 +34,7 @@ module _ (p : Pass) (n : ℕ) (g : Geometry) (u : List ℕ) (k : ℕ) where
   went s z e = rw (eq-eqb n 0 z, e) refl
 
 module _ (p : Pass) (xs : List ℕ) where
-  pub unnamed : (c : Computed) → c ≡ namedRead false xs → (c .number ≡ 0 → ⊥) → endedBy p 30 ≡ fedNamed p xs
+  pub unnamed : (c : Computed) → c ≡ namedRead false xs → (c .number ≡ 0 → ⊥) → passEndedBy p 30 ≡ fedNamed p xs
   unfolding fedNamed namedSo
   unnamed c e h = rw (← e, ne-eqb (c .number) 0 h) refl
 
@@ -46,45 +46,45 @@ module _ (p : Pass) (xs : List ℕ) where
   unfolding fedFirst
   first-is f e = ap (λ (x : Found). wentOn p (x .number) (x .geometry) (x .uuid) 1) e
 
-  pub head-is : (n k : ℕ) → n ≡ groupNumber (p .geometry) (p .uuid) (p .place) xs → k ≡ following (p .place) (p .geometry .agcount) → wentOn p n (p .geometry) (p .uuid) k ≡ fedHead p xs
-  unfolding fedHead
+  pub head-is : (n k : ℕ) → n ≡ groupNumber (p .geometry) (p .uuid) (p .place) xs → k ≡ following (p .place) (p .geometry .agcount) → wentOn p n (p .geometry) (p .uuid) k ≡ passFedHead p xs
+  unfolding passFedHead
   head-is n k e f = rw (e, f) refl
 
-  pub log-is : (n : ℕ) → n ≡ readLog (p .geometry) (p .uuid) xs → endedBy p n ≡ fedLog p xs
+  pub log-is : (n : ℕ) → n ≡ readLog (p .geometry) (p .uuid) xs → passEndedBy p n ≡ fedLog p xs
   unfolding fedLog
-  log-is n e = ap (endedBy p) e
+  log-is n e = ap (passEndedBy p) e
 
-  pub long-is : length xs ≡ lengthOf (p .stage) (p .geometry) → fedWhole (p .stage) p xs ≡ fed p xs
-  unfolding fed
-  long-is e = rw (eq-eqb (length xs) (lengthOf (p .stage) (p .geometry)) e) refl
+  pub long-is : length xs ≡ stageLength (p .stage) (p .geometry) → fedWhole (p .stage) p xs ≡ passFed p xs
+  unfolding passFed
+  long-is e = rw (eq-eqb (length xs) (stageLength (p .stage) (p .geometry)) e) refl
 
-  pub short-is : (length xs ≡ lengthOf (p .stage) (p .geometry) → ⊥) → fedShort (p .stage) p ≡ fed p xs
-  unfolding fed
-  short-is h = rw (ne-eqb (length xs) (lengthOf (p .stage) (p .geometry)) h) refl
+  pub short-is : (length xs ≡ stageLength (p .stage) (p .geometry) → ⊥) → fedShort (p .stage) p ≡ passFed p xs
+  unfolding passFed
+  short-is h = rw (ne-eqb (length xs) (stageLength (p .stage) (p .geometry)) h) refl
 
-  pub long-work : (ws : List ℕ) → length xs ≡ lengthOf (p .stage) (p .geometry) → workIn (p .stage) p ws ≡ worked p xs ws
+  pub long-work : (ws : List ℕ) → length xs ≡ stageLength (p .stage) (p .geometry) → workIn (p .stage) p ws ≡ worked p xs ws
   unfolding worked
-  long-work ws e = rw (eq-eqb (length xs) (lengthOf (p .stage) (p .geometry)) e) refl
+  long-work ws e = rw (eq-eqb (length xs) (stageLength (p .stage) (p .geometry)) e) refl
 
-  pub short-work : (ws : List ℕ) → (length xs ≡ lengthOf (p .stage) (p .geometry) → ⊥) → ws ≡ worked p xs ws
+  pub short-work : (ws : List ℕ) → (length xs ≡ stageLength (p .stage) (p .geometry) → ⊥) → ws ≡ worked p xs ws
   unfolding worked
-  short-work ws h = rw (ne-eqb (length xs) (lengthOf (p .stage) (p .geometry)) h) refl
+  short-work ws h = rw (ne-eqb (length xs) (stageLength (p .stage) (p .geometry)) h) refl
 
 -- ---- the end
 
 module _ (p : Pass) where
-  pub over : true ≡ isEnded (p .stage) → saying p (p .number) ≡ verdictOf p
-  unfolding verdictOf
+  pub over : true ≡ isEnded (p .stage) → saying p (p .number) ≡ passVerdict p
+  unfolding passVerdict
   over e = rw (← e) refl
 
-  pub missing : false ≡ isEnded (p .stage) → saying p 27 ≡ verdictOf p
-  unfolding verdictOf
+  pub missing : false ≡ isEnded (p .stage) → saying p 27 ≡ passVerdict p
+  unfolding passVerdict
   missing e = rw (← e) refl
 
 pub nothing-more : (s : Stage) (p : Pass) → true ≡ isEnded s → p ≡ fedShort s p
 unfolding fedShort
 nothing-more s p e = rw (← e) refl
 
-pub cut-short : (s : Stage) (p : Pass) → false ≡ isEnded s → endedBy p 27 ≡ fedShort s p
+pub cut-short : (s : Stage) (p : Pass) → false ≡ isEnded s → passEndedBy p 27 ≡ fedShort s p
 unfolding fedShort
 cut-short s p e = rw (← e) refl

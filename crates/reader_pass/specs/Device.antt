@@ -16,29 +16,29 @@ use Rattle.reader_exact.specs.Left.{ReadWhole}
 use Rattle.reader_exact.specs.Disk.{headOn, logOn, formatted}
 use Rattle.reader_pass.specs.declared.Pass.{Pass}
 use Rattle.reader_pass.specs.declared.Verdict.{Verdict}
-use Rattle.reader_pass.specs.Passing.{begun, wantedOf, fed}
+use Rattle.reader_pass.specs.Passing.{passBegun, passWanted, passFed}
 
 -- every byte is one
-abbrev pub Bytes : Device → Type 0
-Bytes d = (x : ℕ) → d x < 256
+abbrev pub ByteDevice : Device → Type 0
+ByteDevice d = (x : ℕ) → d x < 256
 
 -- one turn: what is wanted is read and fed
-unfoldable pub turn : Device → Pass → Pass
-turn d p = fed p (read d (wantedOf p .offset) (wantedOf p .length))
+unfoldable pub passTurn : Device → Pass → Pass
+passTurn d p = passFed p (read d (passWanted p .offset) (passWanted p .length))
 
 -- n turns
-unfoldable pub turns : Device → ℕ → Pass → Pass
-turns d zero p = p
-turns d (suc n) p = turns d n (turn d p)
+unfoldable pub passTurns : Device → ℕ → Pass → Pass
+passTurns d zero p = p
+passTurns d (suc n) p = passTurns d n (passTurn d p)
 
 -- n turns from the start
-abbrev pub passed : Device → ℕ → Pass
-passed d n = turns d n begun
+abbrev pub passedTurns : Device → ℕ → Pass
+passedTurns d n = passTurns d n passBegun
 
 -- n parts fed in order, whatever they are
 unfoldable pub fedBy : (ℕ → List ℕ) → ℕ → Pass
-fedBy parts zero = begun
-fedBy parts (suc n) = fed (fedBy parts n) (parts n)
+fedBy parts zero = passBegun
+fedBy parts (suc n) = passFed (fedBy parts n) (parts n)
 
 -- the number of groups by group 0's head, which is fed behind the first sector
 abbrev pub groupsFed : (ℕ → List ℕ) → ℕ
@@ -57,8 +57,8 @@ abbrev pub Missing : Verdict → ℕ → Type 0
 Missing v k = (v .number ≡ wrongLength) × (v .place ≡ k)
 
 -- the reader accepts the heads and the log block that stand where this geometry puts them
-abbrev pub Whole : Device → Type 0
-Whole d = ReadWhole (headOn (sectorNamed d) d) (logOn (sectorNamed d) d)
+abbrev pub AcceptedWhole : Device → Type 0
+AcceptedWhole d = ReadWhole (headOn (sectorNamed d) d) (logOn (sectorNamed d) d)
 
 -- the written records of one accepted run leave, on any old device, what stands here in all its heads and its log block
 pub record LeftByRun (d : Device) : Type 0 where

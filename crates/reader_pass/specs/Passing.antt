@@ -25,8 +25,8 @@ use Rattle.reader_pass.specs.declared.Wanted.{Wanted}
 use Rattle.reader_pass.specs.declared.Verdict.{Verdict}
 
 -- nothing was fed yet
-abbrev pub begun : Pass
-begun = record { stage = Naming; number = 0; place = 0; geometry = zeroGeometry; uuid = replicate 16 0 }
+abbrev pub passBegun : Pass
+passBegun = record { stage = Naming; number = 0; place = 0; geometry = zeroGeometry; uuid = replicate 16 0 }
 
 -- ---- what is wanted
 
@@ -48,12 +48,12 @@ offsetOf Log g k = placeByte g (g .logagno) (g .«log_agbno»)
 offsetOf Ended g k = 0
 
 -- and how many they are
-abbrev pub lengthOf : Stage → Geometry → ℕ
-lengthOf Naming g = leastSector
-lengthOf First g = headLength g
-lengthOf Heads g = headLength g
-lengthOf Log g = g .blocksize
-lengthOf Ended g = 0
+abbrev pub stageLength : Stage → Geometry → ℕ
+stageLength Naming g = leastSector
+stageLength First g = headLength g
+stageLength Heads g = headLength g
+stageLength Log g = g .blocksize
+stageLength Ended g = 0
 
 -- nothing more is wanted
 abbrev pub isEnded : Stage → Bool
@@ -64,15 +64,15 @@ isEnded Log = false
 isEnded Ended = true
 
 -- what a pass wants next
-unfoldable pub wantedOf : Pass → Wanted
-wantedOf p =
-    record { offset = offsetOf (p .stage) (p .geometry) (p .place); length = lengthOf (p .stage) (p .geometry); done = isEnded (p .stage) }
+unfoldable pub passWanted : Pass → Wanted
+passWanted p =
+    record { offset = offsetOf (p .stage) (p .geometry) (p .place); length = stageLength (p .stage) (p .geometry); done = isEnded (p .stage) }
 
 -- ---- what is fed
 
 -- it ends with the number n at the place that came next
-abbrev pub endedBy : Pass → ℕ → Pass
-endedBy p n = record { stage = Ended; number = n; place = p .place; geometry = p .geometry; uuid = p .uuid }
+abbrev pub passEndedBy : Pass → ℕ → Pass
+passEndedBy p n = record { stage = Ended; number = n; place = p .place; geometry = p .geometry; uuid = p .uuid }
 
 -- place k is a head, or behind the last head the log's block
 unfoldable pub stageAt : Geometry → ℕ → Stage
@@ -84,13 +84,13 @@ following k agcount = when (ltb k agcount) (k + 1) k
 
 -- a head has the number n, and with it come geometry and UUID; place k is next
 unfoldable pub wentOn : Pass → ℕ → Geometry → List ℕ → ℕ → Pass
-wentOn p n g u k = choose (eqb n 0) (record { stage = stageAt g k; number = 0; place = k; geometry = g; uuid = u }) (endedBy p n)
+wentOn p n g u k = choose (eqb n 0) (record { stage = stageAt g k; number = 0; place = k; geometry = g; uuid = u }) (passEndedBy p n)
 
 -- what the first sector names: how long a head is. Plain sizing decides, since roomy sizing accepts nothing more and a head is as long
 -- under both
 unfoldable pub namedSo : Pass → Computed → Pass
 namedSo p c =
-    choose (eqb (c .number) 0) (record { stage = First; number = 0; place = 0; geometry = c .geometry; uuid = p .uuid }) (endedBy p notLeft)
+    choose (eqb (c .number) 0) (record { stage = First; number = 0; place = 0; geometry = c .geometry; uuid = p .uuid }) (passEndedBy p notLeft)
 
 -- the first sector
 unfoldable pub fedNamed : Pass → List ℕ → Pass
@@ -101,29 +101,29 @@ unfoldable pub fedFirst : Pass → List ℕ → Pass
 fedFirst p xs = wentOn p (readGroup0 xs .number) (readGroup0 xs .geometry) (readGroup0 xs .uuid) 1
 
 -- another group's head, read with these
-unfoldable pub fedHead : Pass → List ℕ → Pass
-fedHead p xs =
+unfoldable pub passFedHead : Pass → List ℕ → Pass
+passFedHead p xs =
     wentOn p (groupNumber (p .geometry) (p .uuid) (p .place) xs) (p .geometry) (p .uuid) (following (p .place) (p .geometry .agcount))
 
 -- the log's first block
 unfoldable pub fedLog : Pass → List ℕ → Pass
-fedLog p xs = endedBy p (readLog (p .geometry) (p .uuid) xs)
+fedLog p xs = passEndedBy p (readLog (p .geometry) (p .uuid) xs)
 
 -- as many bytes as were asked for
 abbrev pub fedWhole : Stage → Pass → List ℕ → Pass
 fedWhole Naming p xs = fedNamed p xs
 fedWhole First p xs = fedFirst p xs
-fedWhole Heads p xs = fedHead p xs
+fedWhole Heads p xs = passFedHead p xs
 fedWhole Log p xs = fedLog p xs
 fedWhole Ended p xs = p
 
 -- another number of bytes: 27, but nothing is asked for at the end
 unfoldable pub fedShort : Stage → Pass → Pass
-fedShort s p = choose (isEnded s) p (endedBy p wrongLength)
+fedShort s p = choose (isEnded s) p (passEndedBy p wrongLength)
 
 -- THE PASS after the bytes xs: the first refusal ends it, and the end stays
-unfoldable pub fed : Pass → List ℕ → Pass
-fed p xs = choose (eqb (length xs) (lengthOf (p .stage) (p .geometry))) (fedWhole (p .stage) p xs) (fedShort (p .stage) p)
+unfoldable pub passFed : Pass → List ℕ → Pass
+passFed p xs = choose (eqb (length xs) (stageLength (p .stage) (p .geometry))) (fedWhole (p .stage) p xs) (fedShort (p .stage) p)
 
 -- ---- what is left in the work buffer: the head that was compared, if it was made there
 
@@ -137,7 +137,7 @@ workIn Ended p ws = ws
 
 -- after any; bytes of another length leave it as it was
 unfoldable pub worked : Pass → List ℕ → List ℕ → List ℕ
-worked p xs ws = choose (eqb (length xs) (lengthOf (p .stage) (p .geometry))) (workIn (p .stage) p ws) ws
+worked p xs ws = choose (eqb (length xs) (stageLength (p .stage) (p .geometry))) (workIn (p .stage) p ws) ws
 
 -- ---- what is said at the end
 
@@ -146,5 +146,5 @@ abbrev pub saying : Pass → ℕ → Verdict
 saying p n = record { number = n; place = p .place; geometry = p .geometry; uuid = p .uuid }
 
 -- where it isn't ended, 27 for the bytes that are missing
-unfoldable pub verdictOf : Pass → Verdict
-verdictOf p = choose (isEnded (p .stage)) (saying p (p .number)) (saying p wrongLength)
+unfoldable pub passVerdict : Pass → Verdict
+passVerdict p = choose (isEnded (p .stage)) (saying p (p .number)) (saying p wrongLength)

@@ -2,9 +2,9 @@
 // head is, then group 0's head, the other heads in rising order, and the log's first block. The first refusal ends it.
 ghost use mathlib.Core.Path.{_≡_};
 ghost use Rattle.head_bytes.specs.Head.{headLength};
-ghost use Rattle.reader_pass.specs.Passing.{begun, byteIn, placeByte, offsetOf, lengthOf, isEnded, wantedOf, verdictOf};
-ghost use Rattle.reader_pass.specs.Passing.{endedBy, stageAt, following, wentOn, fedShort, fedNamed, fedFirst, fedHead, fedLog};
-ghost use Rattle.reader_pass.specs.Passing.{fedWhole, fed, workIn, worked};
+ghost use Rattle.reader_pass.specs.Passing.{passBegun, byteIn, placeByte, offsetOf, stageLength, isEnded, passWanted, passVerdict};
+ghost use Rattle.reader_pass.specs.Passing.{passEndedBy, stageAt, following, wentOn, fedShort, fedNamed, fedFirst, passFedHead, fedLog};
+ghost use Rattle.reader_pass.specs.Passing.{fedWhole, passFed, workIn, worked};
 ghost use Rattle.reader_pass.specs.declared.Stage.the-variants.{Heads};
 use geometry::Geometry;
 use geometry_places::GroupBlock;
@@ -55,7 +55,7 @@ pub struct Verdict {
 
 // A pass that was fed nothing yet.
 pub fn begin() -> Pass
-    ensures { λ r. ⌜ r ≡ begun ⌝ }
+    ensures { λ r. ⌜ r ≡ passBegun ⌝ }
 {
     let geometry = Geometry::zero();
     let uuid = [0u8; 16];
@@ -109,7 +109,7 @@ fn head_bytes(g: Geometry) -> usize
 
 // How many the next bytes are.
 fn length_of(stage: Stage, g: Geometry) -> usize
-    ensures { λ r. ⌜ r ≡ lengthOf stage g ⌝ }
+    ensures { λ r. ⌜ r ≡ stageLength stage g ⌝ }
 {
     match stage {
         Stage::Naming => LEAST_SECTOR,
@@ -135,7 +135,7 @@ fn is_ended(stage: Stage) -> bool
 
 // Where the next bytes stand, and how many they are.
 pub fn wants(p: Pass) -> Wanted
-    ensures { λ r. ⌜ r ≡ wantedOf p ⌝ }
+    ensures { λ r. ⌜ r ≡ passWanted p ⌝ }
 {
     let stage = p.stage;
     let g = p.geometry;
@@ -148,7 +148,7 @@ pub fn wants(p: Pass) -> Wanted
 
 // It ends at the place that came next.
 fn ended_by(p: Pass, n: u32) -> Pass
-    ensures { λ r. ⌜ r ≡ endedBy p n ⌝ }
+    ensures { λ r. ⌜ r ≡ passEndedBy p n ⌝ }
 {
     let geometry = p.geometry;
     let uuid = p.uuid;
@@ -229,7 +229,7 @@ fn feed_first(p: Pass, bytes: &[u8]) -> Pass
 
 // The head of a group behind group 0.
 fn feed_head(p: Pass, bytes: &[u8], work: &mut [u8]) -> Pass
-    ensures { λ r. ⌜ (r ≡ fedHead p (now (bytes .entry))) × (now (work .exit) ≡ workIn Heads p (now (work .entry))) ⌝ }
+    ensures { λ r. ⌜ (r ≡ passFedHead p (now (bytes .entry))) × (now (work .exit) ≡ workIn Heads p (now (work .entry))) ⌝ }
 {
     let geometry = p.geometry;
     let uuid = p.uuid;
@@ -274,7 +274,7 @@ fn feed_whole(stage: Stage, p: Pass, bytes: &[u8], work: &mut [u8]) -> Pass
 // The bytes that were wanted. In `work` the heads are made that they are compared with, if it is as long as a head; the answer is the same
 // for every `work`.
 pub fn feed(p: Pass, bytes: &[u8], work: &mut [u8]) -> Pass
-    ensures { λ r. ⌜ (r ≡ fed p (now (bytes .entry))) × (now (work .exit) ≡ worked p (now (bytes .entry)) (now (work .entry))) ⌝ }
+    ensures { λ r. ⌜ (r ≡ passFed p (now (bytes .entry))) × (now (work .exit) ≡ worked p (now (bytes .entry)) (now (work .entry))) ⌝ }
 {
     let stage = p.stage;
     let g = p.geometry;
@@ -286,7 +286,7 @@ pub fn feed(p: Pass, bytes: &[u8], work: &mut [u8]) -> Pass
 
 // What is said of the disk: where it isn't ended, 27 for the bytes that are missing.
 pub fn finish(p: Pass) -> Verdict
-    ensures { λ r. ⌜ r ≡ verdictOf p ⌝ }
+    ensures { λ r. ⌜ r ≡ passVerdict p ⌝ }
 {
     let stage = p.stage;
     let geometry = p.geometry;

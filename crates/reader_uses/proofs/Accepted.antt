@@ -6,13 +6,13 @@ use Prim.Native.Nat.{ℕ, _<_}
 use Rattle.geometry.specs.declared.Geometry.{Geometry}
 use Rattle.request.specs.declared.Request.{Request}
 use Rattle.plan_summary.specs.declared.Summary.{Summary}
-use Rattle.plan_summary.specs.Summaries.{rowIn as rowOfSummary}
+use Rattle.plan_summary.specs.Summaries.{rowBySummary as rowOfSummary}
 use Rattle.plan_summary.proofs.Laws.{its-summary}
 use Rattle.plan_summary.proofs.Rows.{rows-agree, totals-agree}
 use Rattle.run.specs.Runs.{runOf}
 use Rattle.list_records.specs.Device.{Device, applied, read}
 use Rattle.list_spec.specs.Listing.{listOf, headLeft}
-use Rattle.list_spec.specs.Left.{headAt, headSize}
+use Rattle.list_spec.specs.Left.{headAt, headBytesOf}
 use Rattle.list_spec.proofs.Left.{left as device-left}
 use Rattle.list_accepted.specs.Accepted.{AcceptedRun, Source}
 use Rattle.list_accepted.proofs.Runs.{source-plans, source-label, source-uuid, source-of}
@@ -50,10 +50,10 @@ run-used r a =
 
 -- WHAT A DEVICE HOLDS AFTER ITS RECORDS WERE APPLIED TO ANY OLD CONTENTS, read where the heads stand
 pub device-used : (r : Request) → AcceptedRun r → (d : Device)
-    → Used (runOf r .geometry) (λ k. read (applied (listOf (runOf r) (r .device)) d) (headAt (runOf r) k) (headSize (runOf r)))
+    → Used (runOf r .geometry) (λ k. read (applied (listOf (runOf r) (r .device)) d) (headAt (runOf r) k) (headBytesOf (runOf r)))
 device-used r a d =
     let run = runOf r in
-    let heads : ℕ → List ℕ = λ k. read (applied (listOf run (r .device)) d) (headAt run k) (headSize run) in
+    let heads : ℕ → List ℕ = λ k. read (applied (listOf run (r .device)) d) (headAt run k) (headBytesOf run) in
     used (run .geometry) (run .uuid) heads
     (left (run .geometry) (run .uuid) heads (source-of r a) (device-left run (r .device) (sound r a) d .head))
 

@@ -16,10 +16,10 @@ use Rattle.geometry_layout.proofs.Inside.{few-blocks}
 use Rattle.btree.specs.declared.records.AllocRec.{AllocRec}
 use Rattle.plan_site.specs.Sites.{siteOf}
 use Rattle.plan_free.specs.declared.FreeList.{FreeList}
-use Rattle.plan_free.specs.Free.{freeOf, countOf}
+use Rattle.plan_free.specs.Free.{freeOf, allocCount}
 use Rattle.plan.specs.declared.AgPlan.{AgPlan}
 use Rattle.plan.specs.Plan.{planned}
-use Rattle.plan_closed.specs.Closed.{short}
+use Rattle.plan_closed.specs.Closed.{listShort}
 use Rattle.plan_totals.specs.Totals.{addCount, maxCount, freeblksOf, longestOf, freeCount}
 use Rattle.plan_totals.proofs.Whole.{all-planned, disk-adds}
 use Rattle.plan_same.specs.Same.{isPlan}
@@ -27,10 +27,10 @@ use Rattle.plan_same.proofs.Planners.{planned-is-plan}
 use Rattle.sb.specs.declared.SbState.{SbState}
 use Rattle.sb_states.specs.States.{stateOf, finishedState}
 use Rattle.head_bytes.specs.Head.{headBytes}
-use Rattle.plan_uses.specs.Uses.{listOf}
+use Rattle.plan_uses.specs.Uses.{freeListEntries}
 use Rattle.list_spec.specs.Listing.{headWritten, headFinished, headLeft}
 use Rattle.list_spec.proofs.Whole.{group-planned}
-use Rattle.reader_decoded.specs.Decoded.{agfIn, listIn, freeIn, chunksIn, chunkList, logIn, countIn}
+use Rattle.reader_decoded.specs.Decoded.{agfIn, listIn, freeRecordsIn, chunksIn, chunkList, logRunIn, countIn}
 use Rattle.reader_decoded.proofs.Numbers.{list-length}
 use Rattle.reader_decoded.proofs.Sectors.{group-in, length-in, list-in}
 use Rattle.reader_decoded.proofs.Trees.{free-in, chunks-in}
@@ -38,12 +38,12 @@ use Rattle.reader_decoded.proofs.Super.{log-in, count-back}
 use Rattle.reader_uses.specs.ByUse.{LeftHeads}
 
 -- the records' lengths, added one after the other
-fold-total : (n : ℕ) (rs : List AllocRec) → fold addCount n rs ≡ n + total countOf rs
+fold-total : (n : ℕ) (rs : List AllocRec) → fold addCount n rs ≡ n + total allocCount rs
 unfolding fold total
 fold-total n [] = omega arith
 fold-total n (r ∷ rs) = let e = fold-total (n + r .count) rs in omega arith
 
-records-total : (l : FreeList) → total countOf (freeOf l) ≡ freeblksOf l
+records-total : (l : FreeList) → total allocCount (freeOf l) ≡ freeblksOf l
 unfolding freeblksOf
 records-total l = let e = fold-total 0 (freeOf l) in omega arith
 
@@ -51,7 +51,7 @@ module _ (g : Geometry) (u : List ℕ) (heads : ℕ → List ℕ) (d : LeftHeads
   pub answer : isAnswer g ≡ true
   answer = all-planned g (d .label) (d .plans) .0
 
-  pub full : short (siteOf g (g .logagno)) ≡ false
+  pub full : listShort (siteOf g (g .logagno)) ≡ false
   full = all-planned g (d .label) (d .plans) .1
 
   pub first-group : 0 < g .agcount
@@ -83,11 +83,11 @@ module _ (g : Geometry) (u : List ℕ) (heads : ℕ → List ℕ) (d : LeftHeads
     head-is = d .bytes k i ∙ left-at (eqb k 0) refl
 
     -- THE FREE LIST, THE FREE RECORDS AND THE CHUNK OF ITS BYTES ARE THE PLAN'S
-    pub list-is : listIn g (heads k) ≡ listOf (its .agfl)
+    pub list-is : listIn g (heads k) ≡ freeListEntries (its .agfl)
     list-is = ap (λ (xs : List ℕ). listIn g xs) head-is ∙ list-in g its u state (d .label) is-plan (d .uuid)
 
-    pub free-is : freeIn g (heads k) ≡ freeOf (its .free)
-    free-is = ap (λ (xs : List ℕ). freeIn g xs) head-is ∙ free-in g its u state (d .label) is-plan (d .uuid)
+    pub free-is : freeRecordsIn g (heads k) ≡ freeOf (its .free)
+    free-is = ap (λ (xs : List ℕ). freeRecordsIn g xs) head-is ∙ free-in g its u state (d .label) is-plan (d .uuid)
 
     pub chunks-are : chunksIn g (heads k) ≡ chunkList (its .chunk)
     chunks-are = ap (λ (xs : List ℕ). chunksIn g xs) head-is ∙ chunks-in g its u state (d .label) is-plan (d .uuid)
@@ -103,10 +103,10 @@ module _ (g : Geometry) (u : List ℕ) (heads : ℕ → List ℕ) (d : LeftHeads
     pub entries-are : length (listIn g (heads k)) ≡ its .agfl .len
     entries-are = ap (λ (bs : List ℕ). length bs) list-is ∙ list-length g its (d .label) is-plan
 
-    pub lengths-are : total countOf (freeIn g (heads k)) ≡ freeblksOf (its .free)
-    lengths-are = ap (λ (rs : List AllocRec). total countOf rs) free-is ∙ records-total (its .free)
+    pub lengths-are : total allocCount (freeRecordsIn g (heads k)) ≡ freeblksOf (its .free)
+    lengths-are = ap (λ (rs : List AllocRec). total allocCount rs) free-is ∙ records-total (its .free)
 
-    pub longest-is : fold maxCount 0 (freeIn g (heads k)) ≡ longestOf (its .free)
+    pub longest-is : fold maxCount 0 (freeRecordsIn g (heads k)) ≡ longestOf (its .free)
     unfolding longestOf
     longest-is = ap (λ (rs : List AllocRec). fold maxCount 0 rs) free-is
 
@@ -121,8 +121,8 @@ module _ (g : Geometry) (u : List ℕ) (heads : ℕ → List ℕ) (d : LeftHeads
   its-uuid = d .uuid
 
   -- THE LOG OF ITS BYTES IS THE GEOMETRY'S
-  pub log-is : logIn g (heads 0) ≡ record { group = g .logagno; at = g .«log_agbno»; blocks = g .logblocks }
-  log-is = ap (λ (xs : List ℕ). logIn g xs) first-is ∙ log-in g (planned g 0 .plan) u (finishedState g u) (d .label) answer its-uuid
+  pub log-is : logRunIn g (heads 0) ≡ record { group = g .logagno; at = g .«log_agbno»; blocks = g .logblocks }
+  log-is = ap (λ (xs : List ℕ). logRunIn g xs) first-is ∙ log-in g (planned g 0 .plan) u (finishedState g u) (d .label) answer its-uuid
 
   count-fits : freeCount g < 2 ^ 64
   count-fits = let a = disk-adds g (d .label) answer full in let b = few-blocks g (answer-bounds g (d .label) answer) in omega arith

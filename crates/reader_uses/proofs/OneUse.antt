@@ -8,7 +8,7 @@ use native.Mathlib.Nat.{add-zero}
 use native.Mathlib.Omega.{arith}
 use Rattle.seqs.specs.Lists.{total}
 use Rattle.seqs.proofs.Laws.{lt-or-le}
-use Rattle.seqs.specs.Runs.{weigh, blocks, has}
+use Rattle.seqs.specs.Runs.{weigh, runLength, has}
 use Rattle.params.specs.declared.OptU64.{OptU64}
 use Rattle.params.specs.declared.OptU64.the-variants.{Absent, Given}
 use Rattle.geometry.specs.declared.Geometry.{Geometry}
@@ -16,17 +16,17 @@ use Rattle.geometry_layout.specs.Places.{groupBlocks, chunkOf}
 use Rattle.btree.specs.declared.records.AllocRec.{AllocRec}
 use Rattle.btree.specs.Decode.{each}
 use Rattle.plan_site.specs.Sites.{siteOf}
-use Rattle.plan_free.specs.Free.{startOf, countOf}
+use Rattle.plan_free.specs.Free.{allocStart, allocCount}
 use Rattle.plan.specs.declared.AgPlan.{AgPlan}
 use Rattle.plan.specs.Plan.{planned}
-use Rattle.plan_uses.specs.Uses.{self, one, chunkFrom, headUse, logUse, listUse, chunkUse, freeUse, allParts, usesOf, blocksOf}
+use Rattle.plan_uses.specs.Uses.{self, one, chunkFrom, headUse, logUse, listUse, chunkUse, freeUse, allParts, usesOf, usedBlocks}
 use Rattle.plan_uses.proofs.OneUse.{one-use as plan-use, no-use as plan-none, totals as plan-blocks}
 use Rattle.reader_decoded.specs.Decoded.{LogRun, chunkList}
-use Rattle.reader_uses.specs.ByUse.{headPart, logRuns, logPart, listPart, chunkSize, chunkPart, freePart, Use, head, log, list, chunk, free, partOf, usesIn, blocksIn, allUses, Once, LeftHeads}
+use Rattle.reader_uses.specs.ByUse.{headPart, logRuns, logPart, listPart, chunkLengthOf, chunkPart, freePart, Use, head, log, list, chunk, free, useWeight, usesIn, blocksIn, allUses, Once, LeftHeads}
 use Rattle.reader_uses.proofs.Decodings.{answer, numbered, list-is, free-is, chunks-are, log-is}
 
 -- a chunk as a list weighs what it weighs in the plan
-chunk-weighs : (f : ℕ → ℕ → ℕ) (g : Geometry) (c : OptU64) → weigh self (chunkSize g) f (chunkList c) ≡ chunkFrom f c (chunkOf (g .inodesize) (g .blocksize))
+chunk-weighs : (f : ℕ → ℕ → ℕ) (g : Geometry) (c : OptU64) → weigh self (chunkLengthOf g) f (chunkList c) ≡ chunkFrom f c (chunkOf (g .inodesize) (g .blocksize))
 unfolding weigh chunkList
 chunk-weighs f g Absent = refl
 chunk-weighs f g (Given c) = add-zero _
@@ -99,14 +99,14 @@ module _ (g : Geometry) (u : List ℕ) (heads : ℕ → List ℕ) (d : LeftHeads
 
     chunk-part : chunkPart f g (heads k) ≡ chunkUse f (siteOf g k) its
     unfolding chunkPart siteOf
-    chunk-part = ap (λ (bs : List ℕ). weigh self (chunkSize g) f bs) (chunks-are g u heads d k i) ∙ chunk-weighs f g (its .chunk)
+    chunk-part = ap (λ (bs : List ℕ). weigh self (chunkLengthOf g) f bs) (chunks-are g u heads d k i) ∙ chunk-weighs f g (its .chunk)
 
     free-part : freePart f g (heads k) ≡ freeUse f its
     unfolding freePart
-    free-part = ap (λ (rs : List AllocRec). weigh startOf countOf f rs) (free-is g u heads d k i)
+    free-part = ap (λ (rs : List AllocRec). weigh allocStart allocCount f rs) (free-is g u heads d k i)
 
     -- every weight of the uses is the same by the bytes and by the plan
-    pub parts-are : allUses (partOf f g (heads 0) (heads k) k) ≡ allParts f (siteOf g k) its
+    pub parts-are : allUses (useWeight f g (heads 0) (heads k) k) ≡ allParts f (siteOf g k) its
     unfolding total
     parts-are =
         let a = head-part in
@@ -130,5 +130,5 @@ module _ (g : Geometry) (u : List ℕ) (heads : ℕ → List ℕ) (d : LeftHeads
 
   -- THE BLOCKS OF ITS USES ARE AS MANY AS THE GROUP HAS
   pub group-blocks : allUses (blocksIn g (heads 0) (heads k) k) ≡ groupBlocks (g .dblocks) (g .agsize) (g .agcount) k
-  unfolding blocksIn blocksOf
-  group-blocks = parts-are blocks ∙ plan-blocks g (d .label) (answer g u heads d) k i (numbered g u heads d k i)
+  unfolding blocksIn usedBlocks
+  group-blocks = parts-are runLength ∙ plan-blocks g (d .label) (answer g u heads d) k i (numbered g u heads d k i)

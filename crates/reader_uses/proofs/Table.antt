@@ -12,16 +12,16 @@ use Rattle.params.specs.declared.OptU64.{OptU64}
 use Rattle.params.specs.declared.OptU64.the-variants.{Absent, Given}
 use Rattle.geometry.specs.declared.Geometry.{Geometry}
 use Rattle.geometry_layout.specs.Places.{chunkOf}
-use Rattle.plan_free.specs.Free.{countOf}
+use Rattle.plan_free.specs.Free.{allocCount}
 use Rattle.plan.specs.declared.AgPlan.{AgPlan}
 use Rattle.plan.specs.Plan.{planned}
 use Rattle.plan_totals.specs.declared.Row.{Row}
 use Rattle.plan_totals.specs.declared.Total.{Total}
-use Rattle.plan_totals.specs.Totals.{sumTo, chunkIn, rowFrom, rowOf, totalOf, closedTotal}
+use Rattle.plan_totals.specs.Totals.{sumTo, chunkBlocksOf, rowFrom, rowOf, totalOf, closedTotal}
 use Rattle.plan_totals.proofs.Sums.{sum-same}
 use Rattle.plan_totals.proofs.Whole.{total-closed}
-use Rattle.reader_decoded.specs.Decoded.{LogRun, agfIn, listIn, freeIn, chunksIn, chunkList, logIn}
-use Rattle.reader_uses.specs.ByUse.{freeTotal, listTotal, chunkTotal, rowIn, totalIn, LeftHeads}
+use Rattle.reader_decoded.specs.Decoded.{LogRun, agfIn, listIn, freeRecordsIn, chunksIn, chunkList, logRunIn}
+use Rattle.reader_uses.specs.ByUse.{freeTotal, listTotal, chunkTotal, rowByBytes, totalIn, LeftHeads}
 use Rattle.reader_uses.proofs.Decodings.{answer, full, numbered, group-is, length-is, entries-are, lengths-are, longest-is, chunks-are, log-is}
 
 abbrev row : ℕ → ℕ → ℕ → ℕ → ℕ → ℕ → ℕ → Row
@@ -37,7 +37,7 @@ sums blocks log list chunk free = record { length = blocks; log = log; list = li
 same-sums : {a b c d e a' b' c' d' e' : ℕ} → a ≡ a' → b ≡ b' → c ≡ c' → d ≡ d' → e ≡ e' → sums a b c d e ≡ sums a' b' c' d' e'
 same-sums p q r s t = cc
 
-chunk-count : (c : OptU64) (n : ℕ) → length (chunkList c) * n ≡ chunkIn c n
+chunk-count : (c : OptU64) (n : ℕ) → length (chunkList c) * n ≡ chunkBlocksOf c n
 unfolding chunkList
 chunk-count Absent n = zero-mul n
 chunk-count (Given c) n = one-mul n
@@ -55,8 +55,8 @@ module _ (g : Geometry) (u : List ℕ) (heads : ℕ → List ℕ) (d : LeftHeads
     planned-row = rw (eq-eqb (planned g k .number) 0 (numbered g u heads d k i))
 
     -- THE ROW OF A GROUP
-    pub row-is : rowIn g (heads 0) (heads k) k ≡ rowOf g k
-    unfolding rowIn
+    pub row-is : rowByBytes g (heads 0) (heads k) k ≡ rowOf g k
+    unfolding rowByBytes
     row-is =
         same-row (group-is g u heads d k i) (length-is g u heads d k i)
         (ap (λ (r : LogRun). choose (eqb k (r .group)) (r .blocks) 0) (log-is g u heads d))
@@ -66,18 +66,18 @@ module _ (g : Geometry) (u : List ℕ) (heads : ℕ → List ℕ) (d : LeftHeads
         ∙ sym planned-row
 
   -- the sum of a number of each row
-  row-sum : (f : ℕ → ℕ) (h : Row → ℕ) → ((k : ℕ) → f k ≡ h (rowIn g (heads 0) (heads k) k)) → sumTo (g .agcount) f ≡ sumTo (g .agcount) (λ k. h (rowOf g k))
+  row-sum : (f : ℕ → ℕ) (h : Row → ℕ) → ((k : ℕ) → f k ≡ h (rowByBytes g (heads 0) (heads k) k)) → sumTo (g .agcount) f ≡ sumTo (g .agcount) (λ k. h (rowOf g k))
   row-sum f h e = sum-same (g .agcount) f (λ k. h (rowOf g k)) (λ k i. e k ∙ ap h (row-is k i))
 
-  log-sum : logIn g (heads 0) .blocks ≡ totalOf g .log
+  log-sum : logRunIn g (heads 0) .blocks ≡ totalOf g .log
   unfolding closedTotal
   log-sum = ap (λ (r : LogRun). r .blocks) (log-is g u heads d) ∙ sym (ap (λ (t : Total). t .log) (total-closed g (d .label) (answer g u heads d) (full g u heads d)))
 
   -- THE LAST LINE
   pub total-is : totalIn g heads ≡ totalOf g
-  unfolding totalIn totalOf listTotal chunkTotal freeTotal rowIn
+  unfolding totalIn totalOf listTotal chunkTotal freeTotal rowByBytes
   total-is =
       same-sums (row-sum (λ k. agfIn g (heads k) .length) (λ r. r .length) (λ k. refl)) log-sum
       (row-sum (λ k. length (listIn g (heads k))) (λ r. r .list) (λ k. refl))
       (row-sum (λ k. length (chunksIn g (heads k)) * size) (λ r. r .chunk) (λ k. refl))
-      (row-sum (λ k. total countOf (freeIn g (heads k))) (λ r. r .free) (λ k. refl))
+      (row-sum (λ k. total allocCount (freeRecordsIn g (heads k))) (λ r. r .free) (λ k. refl))

@@ -14,7 +14,7 @@ use Rattle.geometry.specs.declared.Geometry.{Geometry}
 use Rattle.geometry.specs.Log.{preallocOf}
 use Rattle.geometry_layout.specs.Places.{chunkOf}
 use Rattle.plan_site.specs.Sites.{siteOf}
-use Rattle.plan_free.specs.Free.{countOf}
+use Rattle.plan_free.specs.Free.{allocCount}
 use Rattle.plan.specs.declared.AgPlan.{AgPlan}
 use Rattle.plan.specs.Plan.{planned}
 use Rattle.plan_closed.specs.Closed.{closedAgPlan}
@@ -23,14 +23,14 @@ use Rattle.plan_totals.proofs.Sums.{sum-same, sum-plus, only, sum-only}
 use Rattle.plan_totals.proofs.Whole.{disk-adds}
 use Rattle.plan_same.proofs.Planners.{planned-group}
 use Rattle.plan_summary.proofs.Narrow.{plan-closed}
-use Rattle.reader_decoded.specs.Decoded.{LogRun, listIn, freeIn, chunksIn, chunkList, logIn, countIn}
+use Rattle.reader_decoded.specs.Decoded.{LogRun, listIn, freeRecordsIn, chunksIn, chunkList, logRunIn, countIn}
 use Rattle.reader_uses.specs.ByUse.{freeTotal, listTotal, chunkTotal, restTotal, LeftHeads}
 use Rattle.reader_uses.proofs.Decodings.{answer, full, first-group, numbered, is-plan, entries-are, lengths-are, chunks-are, log-is, count-is}
 
 module _ (g : Geometry) (u : List ℕ) (heads : ℕ → List ℕ) (d : LeftHeads g u heads) where
   -- ---- one group
 
-  free-of : (k : ℕ) → k < g .agcount → total countOf (freeIn g (heads k)) + length (listIn g (heads k)) ≡ freeOfPlan (planned g k .plan)
+  free-of : (k : ℕ) → k < g .agcount → total allocCount (freeRecordsIn g (heads k)) + length (listIn g (heads k)) ≡ freeOfPlan (planned g k .plan)
   free-of k i = let a = lengths-are g u heads d k i in let b = entries-are g u heads d k i in omega arith
 
   abbrev chunk : ℕ
@@ -59,8 +59,8 @@ module _ (g : Geometry) (u : List ℕ) (heads : ℕ → List ℕ) (d : LeftHeads
   pub free-and-list : freeTotal g heads + listTotal g heads ≡ freeCount g
   unfolding freeTotal listTotal freeCount
   free-and-list =
-      sym (sum-plus (g .agcount) (λ k. total countOf (freeIn g (heads k))) (λ k. length (listIn g (heads k))))
-      ∙ sum-same (g .agcount) (λ k. total countOf (freeIn g (heads k)) + length (listIn g (heads k))) (λ k. freeOfPlan (planned g k .plan)) free-of
+      sym (sum-plus (g .agcount) (λ k. total allocCount (freeRecordsIn g (heads k))) (λ k. length (listIn g (heads k))))
+      ∙ sum-same (g .agcount) (λ k. total allocCount (freeRecordsIn g (heads k)) + length (listIn g (heads k))) (λ k. freeOfPlan (planned g k .plan)) free-of
 
   pub chunk-once : chunkTotal g heads ≡ chunk
   unfolding chunkTotal
@@ -72,11 +72,11 @@ module _ (g : Geometry) (u : List ℕ) (heads : ℕ → List ℕ) (d : LeftHeads
   pub free-total : freeTotal g heads + listTotal g heads ≡ countIn (heads 0)
   free-total = free-and-list ∙ sym (count-is g u heads d)
 
-  log-total : logIn g (heads 0) .blocks ≡ g .logblocks
+  log-total : logRunIn g (heads 0) .blocks ≡ g .logblocks
   log-total = ap (λ (r : LogRun). r .blocks) (log-is g u heads d)
 
   -- ALL BLOCKS ARE FREE, ON A FREE LIST, OF THE CHUNK, OF THE LOG OR OF A HEAD
-  pub disk-total : freeTotal g heads + listTotal g heads + chunkTotal g heads + logIn g (heads 0) .blocks + g .agcount * preallocOf (g .features) (g .sectsize) (g .blocksize) ≡ g .dblocks
+  pub disk-total : freeTotal g heads + listTotal g heads + chunkTotal g heads + logRunIn g (heads 0) .blocks + g .agcount * preallocOf (g .features) (g .sectsize) (g .blocksize) ≡ g .dblocks
   disk-total =
       let a = free-and-list in
       let b = chunk-once in

@@ -7,18 +7,18 @@ use Prim.Native.Nat.{ℕ, _+_, _*_, _-_, _≤_, _<_}
 use lib.Dec.{eqb}
 use lib.ListN.{length}
 use Rattle.seqs.specs.Lists.{choose, fold, total}
-use Rattle.seqs.specs.Runs.{weigh, blocks, has}
+use Rattle.seqs.specs.Runs.{weigh, runLength, has}
 use Rattle.geometry.specs.declared.Geometry.{Geometry}
 use Rattle.geometry.specs.Log.{preallocOf}
 use Rattle.geometry_layout.specs.Places.{groupBlocks, chunkOf}
-use Rattle.plan_free.specs.Free.{startOf, countOf}
+use Rattle.plan_free.specs.Free.{allocStart, allocCount}
 use Rattle.plan_totals.specs.declared.Row.{Row}
 use Rattle.plan_totals.specs.declared.Total.{Total}
 use Rattle.plan_totals.specs.Totals.{maxCount, plansNumber, sumTo, rowOf, totalOf}
-use Rattle.plan_summary.specs.Summaries.{summarised, rowIn as rowOfSummary}
+use Rattle.plan_summary.specs.Summaries.{summarised, rowBySummary as rowOfSummary}
 use Rattle.plan_uses.specs.Uses.{self, one}
 use Rattle.list_spec.specs.Listing.{headLeft}
-use Rattle.reader_decoded.specs.Decoded.{agfIn, LogRun, logIn, listIn, chunksIn, freeIn, countIn}
+use Rattle.reader_decoded.specs.Decoded.{agfIn, LogRun, logRunIn, listIn, chunksIn, freeRecordsIn, countIn}
 
 -- ---- what each use of a group weighs, for a weight f of runs: f a c is that of the blocks from a up to, not including, c
 
@@ -32,22 +32,22 @@ logRuns f r k = choose (eqb k (r .group)) (f (r .at) (r .at + r .blocks)) 0
 
 -- as group 0's head sb names it
 unfoldable pub logPart : (ℕ → ℕ → ℕ) → Geometry → List ℕ → ℕ → ℕ
-logPart f g sb k = logRuns f (logIn g sb) k
+logPart f g sb k = logRuns f (logRunIn g sb) k
 
 -- free list: each entry in use of the group's head xs is a run of one block
 unfoldable pub listPart : (ℕ → ℕ → ℕ) → Geometry → List ℕ → ℕ
 listPart f g xs = weigh self one f (listIn g xs)
 
 -- chunk: the blocks of 64 inodes from each first block on
-abbrev pub chunkSize : Geometry → ℕ → ℕ
-chunkSize g b = chunkOf (g .inodesize) (g .blocksize)
+abbrev pub chunkLengthOf : Geometry → ℕ → ℕ
+chunkLengthOf g b = chunkOf (g .inodesize) (g .blocksize)
 
 unfoldable pub chunkPart : (ℕ → ℕ → ℕ) → Geometry → List ℕ → ℕ
-chunkPart f g xs = weigh self (chunkSize g) f (chunksIn g xs)
+chunkPart f g xs = weigh self (chunkLengthOf g) f (chunksIn g xs)
 
 -- free: each record
 unfoldable pub freePart : (ℕ → ℕ → ℕ) → Geometry → List ℕ → ℕ
-freePart f g xs = weigh startOf countOf f (freeIn g xs)
+freePart f g xs = weigh allocStart allocCount f (freeRecordsIn g xs)
 
 -- the five uses
 pub data Use : Type 0 where
@@ -58,20 +58,20 @@ pub data Use : Type 0 where
   free : Use
 
 -- what a use of group k weighs, sb being group 0's head and xs the group's
-abbrev pub partOf : (ℕ → ℕ → ℕ) → Geometry → List ℕ → List ℕ → ℕ → Use → ℕ
-partOf f g sb xs k head = headPart f g
-partOf f g sb xs k log = logPart f g sb k
-partOf f g sb xs k list = listPart f g xs
-partOf f g sb xs k chunk = chunkPart f g xs
-partOf f g sb xs k free = freePart f g xs
+abbrev pub useWeight : (ℕ → ℕ → ℕ) → Geometry → List ℕ → List ℕ → ℕ → Use → ℕ
+useWeight f g sb xs k head = headPart f g
+useWeight f g sb xs k log = logPart f g sb k
+useWeight f g sb xs k list = listPart f g xs
+useWeight f g sb xs k chunk = chunkPart f g xs
+useWeight f g sb xs k free = freePart f g xs
 
 -- how often block b of group k has a use
 unfoldable pub usesIn : Geometry → List ℕ → List ℕ → ℕ → ℕ → Use → ℕ
-usesIn g sb xs k b v = partOf (has b) g sb xs k v
+usesIn g sb xs k b v = useWeight (has b) g sb xs k v
 
 -- the blocks of a use
 unfoldable pub blocksIn : Geometry → List ℕ → List ℕ → ℕ → Use → ℕ
-blocksIn g sb xs k v = partOf blocks g sb xs k v
+blocksIn g sb xs k v = useWeight runLength g sb xs k v
 
 -- a number for each use, added up
 abbrev pub allUses : (Use → ℕ) → ℕ
@@ -87,7 +87,7 @@ pub record Once (n : Use → ℕ) : Type 0 where
 
 -- free blocks: the sum of record lengths
 unfoldable pub freeTotal : Geometry → (ℕ → List ℕ) → ℕ
-freeTotal g heads = sumTo (g .agcount) (λ k. total countOf (freeIn g (heads k)))
+freeTotal g heads = sumTo (g .agcount) (λ k. total allocCount (freeRecordsIn g (heads k)))
 
 -- free-list blocks: the entries in use
 unfoldable pub listTotal : Geometry → (ℕ → List ℕ) → ℕ
@@ -100,22 +100,22 @@ chunkTotal g heads = sumTo (g .agcount) (λ k. length (chunksIn g (heads k)) * c
 -- what is left of all blocks without heads, log and chunks
 unfoldable pub restTotal : Geometry → (ℕ → List ℕ) → ℕ
 restTotal g heads =
-    g .dblocks - g .agcount * preallocOf (g .features) (g .sectsize) (g .blocksize) - logIn g (heads 0) .blocks - chunkTotal g heads
+    g .dblocks - g .agcount * preallocOf (g .features) (g .sectsize) (g .blocksize) - logRunIn g (heads 0) .blocks - chunkTotal g heads
 
 -- ---- planlist's table: a row for each group, and the last line
 
 -- group and length by the AGF, log by the superblock, and the rest by entries and records
-unfoldable pub rowIn : Geometry → List ℕ → List ℕ → ℕ → Row
-rowIn g sb xs k =
+unfoldable pub rowByBytes : Geometry → List ℕ → List ℕ → ℕ → Row
+rowByBytes g sb xs k =
     record {
       number = 0;
       group = agfIn g xs .seqno;
       length = agfIn g xs .length;
-      log = choose (eqb k (logIn g sb .group)) (logIn g sb .blocks) 0;
+      log = choose (eqb k (logRunIn g sb .group)) (logRunIn g sb .blocks) 0;
       list = length (listIn g xs);
       chunk = length (chunksIn g xs) * chunkOf (g .inodesize) (g .blocksize);
-      free = total countOf (freeIn g xs);
-      longest = fold maxCount 0 (freeIn g xs);
+      free = total allocCount (freeRecordsIn g xs);
+      longest = fold maxCount 0 (freeRecordsIn g xs);
     }
 
 -- sums over the groups
@@ -123,7 +123,7 @@ unfoldable pub totalIn : Geometry → (ℕ → List ℕ) → Total
 totalIn g heads =
     record {
       length = sumTo (g .agcount) (λ k. agfIn g (heads k) .length);
-      log = logIn g (heads 0) .blocks;
+      log = logRunIn g (heads 0) .blocks;
       list = listTotal g heads;
       chunk = chunkTotal g heads;
       free = freeTotal g heads;
@@ -146,10 +146,10 @@ pub record Used (g : Geometry) (heads : ℕ → List ℕ) : Type 0 where
   -- which is all blocks less heads, log and chunk
   pub count-total : countIn (heads 0) ≡ restTotal g heads
   -- the table is planlist's
-  pub rows : (k : ℕ) → k < g .agcount → rowIn g (heads 0) (heads k) k ≡ rowOf g k
+  pub rows : (k : ℕ) → k < g .agcount → rowByBytes g (heads 0) (heads k) k ≡ rowOf g k
   pub last-line : totalIn g heads ≡ totalOf g
 
 -- ---- what `summary_of` and `row_at` give of that geometry, which is printed, is what the bytes say
 pub record Printed (g : Geometry) (heads : ℕ → List ℕ) : Type 0 where
-  pub rows : (k : ℕ) → k < g .agcount → rowOfSummary (summarised g .summary) k ≡ rowIn g (heads 0) (heads k) k
+  pub rows : (k : ℕ) → k < g .agcount → rowOfSummary (summarised g .summary) k ≡ rowByBytes g (heads 0) (heads k) k
   pub last-line : summarised g .summary .total ≡ totalIn g heads

@@ -14,7 +14,7 @@ use Rattle.list_spec.specs.Listing.{logBlock, headLeft}
 use Rattle.list_accepted.specs.Accepted.{Source}
 use Rattle.reader_exact.specs.declared.Found.{Found}
 use Rattle.reader_exact.specs.Read.{readGroup0, readGroup, readLog}
-use Rattle.reader_exact.specs.Left.{Octets, Handed, Left, LeftLog}
+use Rattle.reader_exact.specs.Left.{Octets, Handed, HeadLeftBy, LeftLog}
 use Rattle.reader_exact.specs.Disk.{headOn, logOn, formatted}
 use Rattle.reader_exact.proofs.Disk.{head-formatted, log-formatted}
 use Rattle.reader_exact.proofs.First.{accepts-first}
@@ -31,10 +31,10 @@ module _ (g : Geometry) (u xs : List ℕ) where
 
   -- ---- a head
 
-  leaves : (k : ℕ) → Left g u k xs → Leaves g u k xs
+  leaves : (k : ℕ) → HeadLeftBy g u k xs → Leaves g u k xs
   leaves k l = record { run = l .source; group = l .group; bytes = λ old. l .bytes ∙ sym (on-head (l .source) k (l .group) old) }
 
-  left-by : (k : ℕ) → Leaves g u k xs → Left g u k xs
+  left-by : (k : ℕ) → Leaves g u k xs → HeadLeftBy g u k xs
   left-by k w = let old : Device = λ x. 0 in record { source = w .run; group = w .group; bytes = w .bytes old ∙ on-head (w .run) k (w .group) old }
 
   pub other-head : (k : ℕ) → Handed g u → (readGroup g u k xs .number ≡ 0) ↔ Leaves g u k xs

@@ -3,7 +3,7 @@
 use mathlib.Core.Path.{_≡_, refl}
 use mathlib.Core.List.{List, [], _∷_}
 use Prim.Native.Nat.{ℕ, zero, suc}
-use Rattle.refusal_sentences.specs.Sentences.{Row, _says_, sentences, sentenceIn, sentence, bytesOf}
+use Rattle.refusal_sentences.specs.Sentences.{Row, _says_, sentences, sentenceIn, sentence, asciiBytes}
 
 -- the numbers of some rows
 abbrev numbersOf : List Row → List ℕ
@@ -38,6 +38,6 @@ unfolding sentences sentenceIn
 no-sentence = refl
 
 -- `fewer`, byte for byte
-pub bytes-of-fewer : bytesOf "fewer" ≡ 102 ∷ 101 ∷ 119 ∷ 101 ∷ 114 ∷ []
-unfolding bytesOf
+pub bytes-of-fewer : asciiBytes "fewer" ≡ 102 ∷ 101 ∷ 119 ∷ 101 ∷ 114 ∷ []
+unfolding asciiBytes
 bytes-of-fewer = refl

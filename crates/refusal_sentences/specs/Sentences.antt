@@ -64,12 +64,12 @@ sentences =
     ∷ []
 
 -- what is said of any other number
-abbrev pub unknown : String
-unknown = "no such number"
+abbrev pub unknownNumber : String
+unknownNumber = "no such number"
 
 -- the sentence of n in some rows
 unfoldable pub sentenceIn : List Row → ℕ → String
-sentenceIn [] n = unknown
+sentenceIn [] n = unknownNumber
 sentenceIn ((m says text) ∷ rows) n = choose (eqb n m) text (sentenceIn rows n)
 
 -- THE SENTENCE OF A NUMBER
@@ -81,6 +81,6 @@ abbrev pub sentenceFrom : ℕ → ℕ → String
 sentenceFrom k n = sentenceIn (drop k sentences) n
 
 -- the bytes of a text in ASCII
-unfoldable pub bytesOf : String → List ℕ
-bytesOf []ˢ = []
-bytesOf (c ∷ˢ s) = code c ∷ bytesOf s
+unfoldable pub asciiBytes : String → List ℕ
+asciiBytes []ˢ = []
+asciiBytes (c ∷ˢ s) = code c ∷ asciiBytes s

@@ -3,7 +3,7 @@
 ghost use mathlib.Core.Path.{_≡_};
 ghost use lib.ListN.{length};
 ghost use Rattle.table_lines.specs.Lines.{PutLine};
-ghost use Rattle.refusal_sentences.specs.Sentences.{sentence, sentenceFrom, bytesOf};
+ghost use Rattle.refusal_sentences.specs.Sentences.{sentence, sentenceFrom, asciiBytes};
 use refusals::AGCOUNT_UNLIKE;
 use refusals::AGCOUNT_ZERO;
 use refusals::AGSIZE_NO_MULTIPLE;
@@ -67,7 +67,7 @@ fn put(text: &[u8], buf: &mut [u8], at: usize) -> Written
 
 // The sentences from 40 on.
 fn put_from_40(number: u32, buf: &mut [u8], at: usize) -> Written
-    ensures { λ r. ⌜ PutLine at (bytesOf (sentenceFrom 39 number)) (now (buf .entry)) (r .number) (r .end) (now (buf .exit)) ⌝ }
+    ensures { λ r. ⌜ PutLine at (asciiBytes (sentenceFrom 39 number)) (now (buf .entry)) (r .number) (r .end) (now (buf .exit)) ⌝ }
 {
     match number {
         AREA_TOO_SMALL => put(
@@ -84,7 +84,7 @@ fn put_from_40(number: u32, buf: &mut [u8], at: usize) -> Written
 
 // The sentences from 36 on.
 fn put_from_36(number: u32, buf: &mut [u8], at: usize) -> Written
-    ensures { λ r. ⌜ PutLine at (bytesOf (sentenceFrom 35 number)) (now (buf .entry)) (r .number) (r .end) (now (buf .exit)) ⌝ }
+    ensures { λ r. ⌜ PutLine at (asciiBytes (sentenceFrom 35 number)) (now (buf .entry)) (r .number) (r .end) (now (buf .exit)) ⌝ }
 {
     match number {
         BAD_RANGE => put(
@@ -109,7 +109,7 @@ fn put_from_36(number: u32, buf: &mut [u8], at: usize) -> Written
 
 // The sentences from 32 on.
 fn put_from_32(number: u32, buf: &mut [u8], at: usize) -> Written
-    ensures { λ r. ⌜ PutLine at (bytesOf (sentenceFrom 31 number)) (now (buf .entry)) (r .number) (r .end) (now (buf .exit)) ⌝ }
+    ensures { λ r. ⌜ PutLine at (asciiBytes (sentenceFrom 31 number)) (now (buf .entry)) (r .number) (r .end) (now (buf .exit)) ⌝ }
 {
     match number {
         NOT_VALID => put(
@@ -130,7 +130,7 @@ fn put_from_32(number: u32, buf: &mut [u8], at: usize) -> Written
 
 // The sentences from 27 on.
 fn put_from_27(number: u32, buf: &mut [u8], at: usize) -> Written
-    ensures { λ r. ⌜ PutLine at (bytesOf (sentenceFrom 26 number)) (now (buf .entry)) (r .number) (r .end) (now (buf .exit)) ⌝ }
+    ensures { λ r. ⌜ PutLine at (asciiBytes (sentenceFrom 26 number)) (now (buf .entry)) (r .number) (r .end) (now (buf .exit)) ⌝ }
 {
     match number {
         WRONG_LENGTH => put(
@@ -160,7 +160,7 @@ fn put_from_27(number: u32, buf: &mut [u8], at: usize) -> Written
 
 // The sentences from 23 on.
 fn put_from_23(number: u32, buf: &mut [u8], at: usize) -> Written
-    ensures { λ r. ⌜ PutLine at (bytesOf (sentenceFrom 22 number)) (now (buf .entry)) (r .number) (r .end) (now (buf .exit)) ⌝ }
+    ensures { λ r. ⌜ PutLine at (asciiBytes (sentenceFrom 22 number)) (now (buf .entry)) (r .number) (r .end) (now (buf .exit)) ⌝ }
 {
     match number {
         TOO_FEW_GROUPS => put(b"fewer than 2 groups", buf, at),
@@ -181,7 +181,7 @@ fn put_from_23(number: u32, buf: &mut [u8], at: usize) -> Written
 
 // The sentences from 19 on.
 fn put_from_19(number: u32, buf: &mut [u8], at: usize) -> Written
-    ensures { λ r. ⌜ PutLine at (bytesOf (sentenceFrom 18 number)) (now (buf .entry)) (r .number) (r .end) (now (buf .exit)) ⌝ }
+    ensures { λ r. ⌜ PutLine at (asciiBytes (sentenceFrom 18 number)) (now (buf .entry)) (r .number) (r .end) (now (buf .exit)) ⌝ }
 {
     match number {
         IMAXPCT_ABOVE_100 => put(b"imaxpct is above 100", buf, at),
@@ -194,7 +194,7 @@ fn put_from_19(number: u32, buf: &mut [u8], at: usize) -> Written
 
 // The sentences from 14 on.
 fn put_from_14(number: u32, buf: &mut [u8], at: usize) -> Written
-    ensures { λ r. ⌜ PutLine at (bytesOf (sentenceFrom 13 number)) (now (buf .entry)) (r .number) (r .end) (now (buf .exit)) ⌝ }
+    ensures { λ r. ⌜ PutLine at (asciiBytes (sentenceFrom 13 number)) (now (buf .entry)) (r .number) (r .end) (now (buf .exit)) ⌝ }
 {
     match number {
         LAST_GROUP_SHORT => put(
@@ -212,7 +212,7 @@ fn put_from_14(number: u32, buf: &mut [u8], at: usize) -> Written
 
 // The sentences from 9 on.
 fn put_from_9(number: u32, buf: &mut [u8], at: usize) -> Written
-    ensures { λ r. ⌜ PutLine at (bytesOf (sentenceFrom 8 number)) (now (buf .entry)) (r .number) (r .end) (now (buf .exit)) ⌝ }
+    ensures { λ r. ⌜ PutLine at (asciiBytes (sentenceFrom 8 number)) (now (buf .entry)) (r .number) (r .end) (now (buf .exit)) ⌝ }
 {
     match number {
         SIZE_ABOVE_DEVICE => put(b"the size to use is larger than the device", buf, at),
@@ -226,7 +226,7 @@ fn put_from_9(number: u32, buf: &mut [u8], at: usize) -> Written
 
 // The sentences from 5 on.
 fn put_from_5(number: u32, buf: &mut [u8], at: usize) -> Written
-    ensures { λ r. ⌜ PutLine at (bytesOf (sentenceFrom 4 number)) (now (buf .entry)) (r .number) (r .end) (now (buf .exit)) ⌝ }
+    ensures { λ r. ⌜ PutLine at (asciiBytes (sentenceFrom 4 number)) (now (buf .entry)) (r .number) (r .end) (now (buf .exit)) ⌝ }
 {
     match number {
         BAD_SECTOR => put(
@@ -251,7 +251,7 @@ fn put_from_5(number: u32, buf: &mut [u8], at: usize) -> Written
 
 // What a number says; 0 and the numbers above 43 say that they are none.
 pub fn put_sentence(number: u32, buf: &mut [u8], at: usize) -> Written
-    ensures { λ r. ⌜ PutLine at (bytesOf (sentence number)) (now (buf .entry)) (r .number) (r .end) (now (buf .exit)) ⌝ }
+    ensures { λ r. ⌜ PutLine at (asciiBytes (sentence number)) (now (buf .entry)) (r .number) (r .end) (now (buf .exit)) ⌝ }
 {
     match number {
         INOBTCOUNT_ALONE => put(b"inobtcount without finobt", buf, at),

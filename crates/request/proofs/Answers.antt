@@ -10,10 +10,10 @@ use Rattle.endian.specs.Bytes.{beAt}
 use Rattle.params.specs.declared.Params.{Params}
 use Rattle.request_input.specs.Records.{wellFormed}
 use Rattle.request.specs.Options.{paramsOf, profileOf}
-use Rattle.request.specs.Parse.{request, under, refusal, parseDef}
+use Rattle.request.specs.Parse.{request, under, malformedRequest, parseDef}
 use Rattle.request.proofs.Values.{device-inside}
 
-pub refused-is : (xs : List ℕ) → wellFormed xs ≡ false → refusal ≡ parseDef xs
+pub refused-is : (xs : List ℕ) → wellFormed xs ≡ false → malformedRequest ≡ parseDef xs
 unfolding parseDef
 refused-is xs e = rw e refl
 

@@ -11,7 +11,7 @@ use lib.Seq.{getD-set-other}
 use borrow.Author.Tests.{eqb-false, ltb-true, ltb-false, le-ltb, not-true}
 use Rattle.params.specs.Options.{given64}
 use Rattle.request_input.specs.declared.Record.{Record}
-use Rattle.request_input.specs.Records.{option, optionBits, fits, known, more, recordAt, split, records, found, lookup, sound, startsWithDevice, wellFormed}
+use Rattle.request_input.specs.Records.{option, optionBits, optionFits, recordKnown, recordThen, recordAt, splitRecords, records, valueIfFound, valueWith, sound, startsWithDevice, wellFormed}
 use Rattle.request_input.proofs.Marks.{record-all, record-ends}
 use Rattle.request.specs.Parse.{longestInput}
 use Rattle.request.proofs.Values.{first, other, never}
@@ -31,12 +31,12 @@ sum-set (w ∷ ws) zero = omega arith
 sum-set (w ∷ ws) (suc k) = let e = sum-set ws k in omega arith
 
 -- a key that no record has counts for nothing
-total-set : (ws : List ℕ) (k : ℕ) (rs : List Record) → given64 (lookup k rs) ≡ false → total ws rs ≡ total (set ws k 0) rs
-unfolding lookup
+total-set : (ws : List ℕ) (k : ℕ) (rs : List Record) → given64 (valueWith k rs) ≡ false → total ws rs ≡ total (set ws k 0) rs
+unfolding valueWith
 total-set ws k [] e = refl
 total-set ws k (r ∷ rs) e = go (eqb k (r .key)) refl e (total-set ws k rs)
   where
-    go : (t : Bool) → eqb k (r .key) ≡ t → given64 (found t (r .value) (lookup k rs)) ≡ false → (given64 (lookup k rs) ≡ false → total ws rs ≡ total (set ws k 0) rs) → getD ws (r .key) 0 + total ws rs ≡ getD (set ws k 0) (r .key) 0 + total (set ws k 0) rs
+    go : (t : Bool) → eqb k (r .key) ≡ t → given64 (valueIfFound t (r .value) (valueWith k rs)) ≡ false → (given64 (valueWith k rs) ≡ false → total ws rs ≡ total (set ws k 0) rs) → getD ws (r .key) 0 + total ws rs ≡ getD (set ws k 0) (r .key) 0 + total (set ws k 0) rs
     go true d e f = absurd (never (sym e))
     go false d e f =
         let s = getD-set-other ws k (r .key) 0 0 (λ x. eqb-false k (r .key) d (sym x)) in
@@ -47,9 +47,9 @@ unfolding sound
 total-most ws [] e = omega arith
 total-most ws (r ∷ rs) e =
     let k = r .key in
-    let l = other (known k (r .value)) (not (given64 (lookup k rs)) && sound rs) e in
-    let n = not-true (given64 (lookup k rs)) (first (not (given64 (lookup k rs))) (sound rs) l) in
-    let h = total-most (set ws k 0) rs (other (not (given64 (lookup k rs))) (sound rs) l) in
+    let l = other (recordKnown k (r .value)) (not (given64 (valueWith k rs)) && sound rs) e in
+    let n = not-true (given64 (valueWith k rs)) (first (not (given64 (valueWith k rs))) (sound rs) l) in
+    let h = total-most (set ws k 0) rs (other (not (given64 (valueWith k rs))) (sound rs) l) in
     omega (arith, sum-set ws k, total-set ws k rs n)
 
 -- ---- the greatest length of each key's record
@@ -61,14 +61,14 @@ abbrev most : List ℕ
 most = 18 ∷ 258 ∷ 18 ∷ map optionBytes optionBits
 
 abbrev Bounded : ℕ → Record → Type 0
-Bounded at r = known (r .key) (r .value) ≡ true → r .next ≤ at + getD most (r .key) 0
+Bounded at r = recordKnown (r .key) (r .value) ≡ true → r .next ≤ at + getD most (r .key) 0
 
 some-bytes : (b : ℕ) → 0 < b → optionBytes b ≡ 11
 some-bytes zero h = omega arith
 some-bytes (suc b) h = refl
 
-option-most : (at c v : ℕ) → known (option c) v ≡ true → at + 11 ≤ at + getD most (option c) 0
-unfolding fits
+option-most : (at c v : ℕ) → recordKnown (option c) v ≡ true → at + 11 ≤ at + getD most (option c) 0
+unfolding optionFits
 option-most at c v e =
     let s : 3 + c - 3 ≡ c = omega arith in
     let p = ltb-true 0 (getD optionBits c 0) (first (ltb 0 (getD optionBits c 0)) _ (rw (le-ltb (3 + c) 3 (let g : 3 ≤ 3 + c = omega arith in g), s) at e)) in
@@ -78,32 +78,32 @@ option-most at c v e =
 
 -- a record of a well-formed input is no longer
 bounded : (at : ℕ) (xs : List ℕ) → ((i : ℕ) → getD xs i 0 < 256) → Bounded at (recordAt at xs)
-unfolding fits optionBits
+unfolding optionFits optionBits
 bounded at xs bytes =
     record-all (Bounded at) at xs (λ e. absurd (never e))
     (λ l e. omega arith) (λ l e. option-most at (getD xs (at + 2) 0) _ e) (λ l e. let b = bytes (at + 2) in omega arith) (λ l e. omega arith)
 
-split-length : (xs : List ℕ) → ((i : ℕ) → getD xs i 0 < 256) → (n at : ℕ) → length xs - at ≤ n → sound (split n at xs) ≡ true → length xs ≤ at + total most (split n at xs)
-unfolding split sound
+split-length : (xs : List ℕ) → ((i : ℕ) → getD xs i 0 < 256) → (n at : ℕ) → length xs - at ≤ n → sound (splitRecords n at xs) ≡ true → length xs ≤ at + total most (splitRecords n at xs)
+unfolding splitRecords sound
 split-length xs bytes zero at h e = omega arith
 split-length xs bytes (suc n) at h e = go (ltb at (length xs)) refl e (split-length xs bytes n (recordAt at xs .next))
   where
-    go : (t : Bool) → ltb at (length xs) ≡ t → sound (more t (recordAt at xs) (split n (recordAt at xs .next) xs)) ≡ true
-        → (length xs - recordAt at xs .next ≤ n → sound (split n (recordAt at xs .next) xs) ≡ true → length xs ≤ recordAt at xs .next + total most (split n (recordAt at xs .next) xs))
-        → length xs ≤ at + total most (more t (recordAt at xs) (split n (recordAt at xs .next) xs))
+    go : (t : Bool) → ltb at (length xs) ≡ t → sound (recordThen t (recordAt at xs) (splitRecords n (recordAt at xs .next) xs)) ≡ true
+        → (length xs - recordAt at xs .next ≤ n → sound (splitRecords n (recordAt at xs .next) xs) ≡ true → length xs ≤ recordAt at xs .next + total most (splitRecords n (recordAt at xs .next) xs))
+        → length xs ≤ at + total most (recordThen t (recordAt at xs) (splitRecords n (recordAt at xs .next) xs))
     go true d e f =
         let r = recordAt at xs in
-        let l = other (known (r .key) (r .value)) (not (given64 (lookup (r .key) (split n (r .next) xs))) && sound (split n (r .next) xs)) e in
+        let l = other (recordKnown (r .key) (r .value)) (not (given64 (valueWith (r .key) (splitRecords n (r .next) xs))) && sound (splitRecords n (r .next) xs)) e in
         let g = record-ends at xs (ltb-true at (length xs) d) in
-        let b = bounded at xs bytes (first (known (r .key) (r .value)) _ e) in
-        let t = f (omega arith) (other (not (given64 (lookup (r .key) (split n (r .next) xs)))) (sound (split n (r .next) xs)) l) in
+        let b = bounded at xs bytes (first (recordKnown (r .key) (r .value)) _ e) in
+        let t = f (omega arith) (other (not (given64 (valueWith (r .key) (splitRecords n (r .next) xs)))) (sound (splitRecords n (r .next) xs)) l) in
         omega arith
     go false d e f = let g = ltb-false at (length xs) d in omega arith
 
 pub longest : (xs : List ℕ) → ((i : ℕ) → getD xs i 0 < 256) → wellFormed xs ≡ true → length xs ≤ longestInput
 unfolding wellFormed records optionBits
 longest xs bytes e =
-    let s = other (startsWithDevice (split (length xs - 0) 0 xs)) _ e in
+    let s = other (startsWithDevice (splitRecords (length xs - 0) 0 xs)) _ e in
     let a = split-length xs bytes (length xs - 0) 0 (omega arith) s in
-    let b = total-most most (split (length xs - 0) 0 xs) s in
+    let b = total-most most (splitRecords (length xs - 0) 0 xs) s in
     omega (arith, a, b)

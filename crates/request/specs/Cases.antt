@@ -9,9 +9,9 @@ use Rattle.refusals.specs.Numbers.{malformed}
 use Rattle.endian.specs.Bytes.{beBytes}
 use Rattle.request.specs.Parse.{parseDef}
 
-abbrev pub joined : List (List ℕ) → List ℕ
-joined [] = []
-joined (x ∷ xs) = x ++ joined xs
+abbrev pub inputJoined : List (List ℕ) → List ℕ
+inputJoined [] = []
+inputJoined (x ∷ xs) = x ++ inputJoined xs
 
 -- the records
 unfoldable pub dv : ℕ → ℕ → ℕ → List ℕ
@@ -33,7 +33,7 @@ disk = dv 1_073_741_824 512 512
 -- every record at its longest
 unfoldable pub full : List ℕ
 full =
-    joined
+    inputJoined
     (disk
     ∷ op 1 (2 ^ 64 - 1)
     ∷ op 2 (2 ^ 32 - 1)
@@ -53,49 +53,49 @@ full =
     ∷ [])
 
 -- an input and its number
-pub record Case : Type 0 where
+pub record InputCase : Type 0 where
   pub input : List ℕ
   pub number : ℕ
 
-abbrev pub case : List ℕ → ℕ → Case
-case input number = record { input = input; number = number }
+abbrev pub inputCase : List ℕ → ℕ → InputCase
+inputCase input number = record { input = input; number = number }
 
-abbrev pub all : List Case → Bool
-all [] = true
-all (c ∷ cs) = eqb (parseDef (c .input) .number) (c .number) && all cs
+abbrev pub allCases : List InputCase → Bool
+allCases [] = true
+allCases (c ∷ cs) = eqb (parseDef (c .input) .number) (c .number) && allCases cs
 
-unfoldable pub cases : List Case
+unfoldable pub cases : List InputCase
 cases =
-    case disk 0
-    ∷ case full 0
-    ∷ case (disk ++ (op 11 5 ++ op 10 0)) 0  -- options in any order
-    ∷ case (disk ++ lb []) 0
-    ∷ case (disk ++ op 12 0) 0
-    ∷ case (disk ++ op 12 1) 0
-    ∷ case (disk ++ op 13 0) 0
-    ∷ case (disk ++ op 13 1) 0
-    ∷ case [] malformed  -- no device
-    ∷ case (op 2 4096) malformed
-    ∷ case (op 2 4096 ++ disk) malformed  -- the device is not first
-    ∷ case (disk ++ disk) malformed  -- twice
-    ∷ case (disk ++ (op 2 4096 ++ op 2 4096)) malformed
-    ∷ case (disk ++ (lb [] ++ lb (65 ∷ []))) malformed
-    ∷ case (disk ++ (id (replicate 16 0) ++ id (replicate 16 0))) malformed
-    ∷ case (take 17 disk) malformed  -- cut
-    ∷ case (disk ++ (68 ∷ [])) malformed
-    ∷ case (disk ++ beBytes 2 0x4f50) malformed
-    ∷ case (disk ++ take 10 (op 1 0)) malformed
-    ∷ case (disk ++ take 6 (lb (65 ∷ 66 ∷ 67 ∷ 68 ∷ []))) malformed
-    ∷ case (disk ++ id (replicate 15 0)) malformed
-    ∷ case (disk ++ beBytes 2 0x5858) malformed  -- unknown mark, codes and feature bit
-    ∷ case (disk ++ op 0 0) malformed
-    ∷ case (disk ++ op 14 0) malformed
-    ∷ case (disk ++ op 12 2) malformed  -- neither sizing
-    ∷ case (disk ++ op 13 2) malformed  -- neither under the profile nor not
-    ∷ case (disk ++ (op 13 1 ++ op 13 1)) malformed
-    ∷ case (disk ++ op 255 0) malformed
-    ∷ case (disk ++ op 9 128) malformed
-    ∷ case (disk ++ op 2 (2 ^ 32)) malformed  -- too large for its type
-    ∷ case (disk ++ op 7 256) malformed
-    ∷ case (disk ++ op 11 (2 ^ 32)) malformed
+    inputCase disk 0
+    ∷ inputCase full 0
+    ∷ inputCase (disk ++ (op 11 5 ++ op 10 0)) 0  -- options in any order
+    ∷ inputCase (disk ++ lb []) 0
+    ∷ inputCase (disk ++ op 12 0) 0
+    ∷ inputCase (disk ++ op 12 1) 0
+    ∷ inputCase (disk ++ op 13 0) 0
+    ∷ inputCase (disk ++ op 13 1) 0
+    ∷ inputCase [] malformed  -- no device
+    ∷ inputCase (op 2 4096) malformed
+    ∷ inputCase (op 2 4096 ++ disk) malformed  -- the device is not first
+    ∷ inputCase (disk ++ disk) malformed  -- twice
+    ∷ inputCase (disk ++ (op 2 4096 ++ op 2 4096)) malformed
+    ∷ inputCase (disk ++ (lb [] ++ lb (65 ∷ []))) malformed
+    ∷ inputCase (disk ++ (id (replicate 16 0) ++ id (replicate 16 0))) malformed
+    ∷ inputCase (take 17 disk) malformed  -- cut
+    ∷ inputCase (disk ++ (68 ∷ [])) malformed
+    ∷ inputCase (disk ++ beBytes 2 0x4f50) malformed
+    ∷ inputCase (disk ++ take 10 (op 1 0)) malformed
+    ∷ inputCase (disk ++ take 6 (lb (65 ∷ 66 ∷ 67 ∷ 68 ∷ []))) malformed
+    ∷ inputCase (disk ++ id (replicate 15 0)) malformed
+    ∷ inputCase (disk ++ beBytes 2 0x5858) malformed  -- unknown mark, codes and feature bit
+    ∷ inputCase (disk ++ op 0 0) malformed
+    ∷ inputCase (disk ++ op 14 0) malformed
+    ∷ inputCase (disk ++ op 12 2) malformed  -- neither sizing
+    ∷ inputCase (disk ++ op 13 2) malformed  -- neither under the profile nor not
+    ∷ inputCase (disk ++ (op 13 1 ++ op 13 1)) malformed
+    ∷ inputCase (disk ++ op 255 0) malformed
+    ∷ inputCase (disk ++ op 9 128) malformed
+    ∷ inputCase (disk ++ op 2 (2 ^ 32)) malformed  -- too large for its type
+    ∷ inputCase (disk ++ op 7 256) malformed
+    ∷ inputCase (disk ++ op 11 (2 ^ 32)) malformed
     ∷ []

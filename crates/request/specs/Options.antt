@@ -22,7 +22,7 @@ use Rattle.params.specs.declared.Features.{Features}
 use Rattle.params.specs.declared.Params.{Params}
 use Rattle.params.specs.Params.{allFeatures, options, noLabel, noUuid}
 use Rattle.request_input.specs.declared.Record.{Record}
-use Rattle.request_input.specs.Records.{label, uuid, option, lookup, records}
+use Rattle.request_input.specs.Records.{label, uuid, option, valueWith, records}
 
 -- what holds of an option's number, if it is given
 abbrev pub holds : (ℕ → Type 0) → OptU64 → Type 0
@@ -30,8 +30,8 @@ holds P Absent = Unit {0}
 holds P (Given n) = P n
 
 -- it is below `m`; the label whose length stands there lies inside the input; so does the UUID that begins there
-abbrev pub below : ℕ → OptU64 → Type 0
-below m = holds (λ (n : ℕ). n < m)
+abbrev pub optBelow : ℕ → OptU64 → Type 0
+optBelow m = holds (λ (n : ℕ). n < m)
 
 abbrev pub labelInside : List ℕ → OptU64 → Type 0
 labelInside xs = holds (λ (p : ℕ). p + 1 + getD xs p 0 ≤ length xs)
@@ -100,23 +100,23 @@ uuidGiven (Given p) xs = record { presence = Yes; bytes = part p 16 xs }
 abbrev pub optionsIn : List Record → List ℕ → Params
 optionsIn rs xs =
     options
-    (lookup (option 1) rs)
-    (short32 (lookup (option 2) rs))
-    (short32 (lookup (option 3) rs))
-    (short32 (lookup (option 4) rs))
-    (lookup (option 5) rs)
-    (lookup (option 6) rs)
-    (short8 (lookup (option 7) rs))
-    (labelGiven (lookup label rs) xs)
-    (uuidGiven (lookup uuid rs) xs)
-    (timeGiven (lookup (option 10) rs) (lookup (option 11) rs))
-    (lookup (option 8) rs)
-    (featuresGiven (lookup (option 9) rs))
-    (turnedOn (lookup (option 12) rs))
+    (valueWith (option 1) rs)
+    (short32 (valueWith (option 2) rs))
+    (short32 (valueWith (option 3) rs))
+    (short32 (valueWith (option 4) rs))
+    (valueWith (option 5) rs)
+    (valueWith (option 6) rs)
+    (short8 (valueWith (option 7) rs))
+    (labelGiven (valueWith label rs) xs)
+    (uuidGiven (valueWith uuid rs) xs)
+    (timeGiven (valueWith (option 10) rs) (valueWith (option 11) rs))
+    (valueWith (option 8) rs)
+    (featuresGiven (valueWith (option 9) rs))
+    (turnedOn (valueWith (option 12) rs))
 
 unfoldable pub paramsOf : List ℕ → Params
 paramsOf xs = optionsIn (records 0 xs) xs
 
 -- the run is under the scan station profile; this is no option of the geometry step
 unfoldable pub profileOf : List ℕ → Bool
-profileOf xs = turnedOn (lookup (option 13) (records 0 xs))
+profileOf xs = turnedOn (valueWith (option 13) (records 0 xs))

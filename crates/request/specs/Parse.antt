@@ -22,20 +22,20 @@ under on r =
     record { number = r .number; params = r .params; device = r .device; logical = r .logical; physical = r .physical; profile = on }
 
 -- no option, and a device of zeros
-abbrev pub refusal : Request
-refusal = request malformed noOptions 0 0 0
+abbrev pub malformedRequest : Request
+malformedRequest = request malformed noOptions 0 0 0
 
 -- bytes of the longest well-formed input: each record at most once, the label of 255 bytes
 abbrev pub longestInput : ℕ
 longestInput = 437
 
 -- `DV` stands first: the device's size in 8 bytes, the logical and the physical sector in 4 each
-abbrev pub accepted : List ℕ → Request
-accepted xs = under (profileOf xs) (request 0 (paramsOf xs) (beAt 8 2 xs) (beAt 4 10 xs) (beAt 4 14 xs))
+abbrev pub readRequest : List ℕ → Request
+readRequest xs = under (profileOf xs) (request 0 (paramsOf xs) (beAt 8 2 xs) (beAt 4 10 xs) (beAt 4 14 xs))
 
-abbrev pub answer : Bool → List ℕ → Request
-answer true xs = accepted xs
-answer false xs = refusal
+abbrev pub parsedIf : Bool → List ℕ → Request
+parsedIf true xs = readRequest xs
+parsedIf false xs = malformedRequest
 
 unfoldable pub parseDef : List ℕ → Request
-parseDef xs = answer (wellFormed xs) xs
+parseDef xs = parsedIf (wellFormed xs) xs

@@ -5,7 +5,7 @@ pub mod defaults; // what stands for an absent UUID, time and seed
 ghost use mathlib.Core.Path.{_≡_};
 ghost use Prim.Native.Nat.{suc};
 ghost use lib.ListN.{length};
-ghost use Rattle.request.specs.Parse.{longestInput, parseDef, refusal};
+ghost use Rattle.request.specs.Parse.{longestInput, parseDef, malformedRequest};
 use params::Params;
 
 // The options and the device; `number` is 0, or 28 beside no options and zeros.
@@ -19,7 +19,7 @@ pub struct Request {
 }
 
 fn malformed() -> Request
-    ensures { λ r. ⌜ r ≡ refusal ⌝ }
+    ensures { λ r. ⌜ r ≡ malformedRequest ⌝ }
 {
     let params = Params::new();
     Request {

@@ -4,8 +4,8 @@ ghost use mathlib.Core.Bool.{true};
 ghost use Prim.Native.Nat.{_+_, _≤_, _<_};
 ghost use lib.ListN.{length, getD};
 ghost use Rattle.endian.specs.Fields.{part};
-ghost use Rattle.request_input.specs.Records.{optionBits, records, lookup, wellFormed};
-ghost use Rattle.request.specs.Options.{below, labelInside, uuidInside, short32, short8, signed, givenTime, timeGiven, on, featuresIn, featuresGiven, turnedOn, labelAt, labelGiven, uuidGiven, paramsOf, profileOf};
+ghost use Rattle.request_input.specs.Records.{optionBits, records, valueWith, wellFormed};
+ghost use Rattle.request.specs.Options.{optBelow, labelInside, uuidInside, short32, short8, signed, givenTime, timeGiven, on, featuresIn, featuresGiven, turnedOn, labelAt, labelGiven, uuidGiven, paramsOf, profileOf};
 use params::Features;
 use params::Label;
 use params::OptTime;
@@ -52,7 +52,7 @@ const PROFILE: usize = 13;
 const HALF: u64 = 0x8000_0000_0000_0000;
 
 fn short(option: OptU64) -> OptU32
-    requires { ⌜ below 4294967296 option ⌝ }
+    requires { ⌜ optBelow 4294967296 option ⌝ }
     ensures { λ r. ⌜ r ≡ short32 option ⌝ }
 {
     match option {
@@ -62,7 +62,7 @@ fn short(option: OptU64) -> OptU32
 }
 
 fn byte(option: OptU64) -> OptU8
-    requires { ⌜ below 256 option ⌝ }
+    requires { ⌜ optBelow 256 option ⌝ }
     ensures { λ r. ⌜ r ≡ short8 option ⌝ }
 {
     match option {
@@ -94,7 +94,7 @@ fn given_time(secs: u64, nsecs: u64) -> OptTime
 }
 
 fn time_of(secs: OptU64, nsecs: OptU64) -> OptTime
-    requires { ⌜ below 4294967296 nsecs ⌝ }
+    requires { ⌜ optBelow 4294967296 nsecs ⌝ }
     ensures { λ r. ⌜ r ≡ timeGiven secs nsecs ⌝ }
 {
     match secs {
@@ -228,40 +228,40 @@ fn uuid_of(input: &[u8], place: OptU64) -> OptUuid
 
 fn option(input: &[u8], code: usize) -> OptU64
     requires { ⌜ code < 256 ⌝ }
-    ensures { λ r. ⌜ r ≡ lookup (3 + code) (records 0 (now (input .entry))) ⌝ }
+    ensures { λ r. ⌜ r ≡ valueWith (3 + code) (records 0 (now (input .entry))) ⌝ }
 {
     value_of(input, 0, OPTION + code)
 }
 
 fn short_option(input: &[u8], code: usize) -> OptU32
     requires { ⌜ (wellFormed (now input) ≡ true) × (code < 256) × (getD optionBits code 0 ≡ 32) ⌝ }
-    ensures { λ r. ⌜ r ≡ short32 (lookup (3 + code) (records 0 (now (input .entry)))) ⌝ }
+    ensures { λ r. ⌜ r ≡ short32 (valueWith (3 + code) (records 0 (now (input .entry)))) ⌝ }
 {
     short(option(input, code))
 }
 
 fn imaxpct(input: &[u8]) -> OptU8
     requires { ⌜ wellFormed (now input) ≡ true ⌝ }
-    ensures { λ r. ⌜ r ≡ short8 (lookup (3 + 7) (records 0 (now (input .entry)))) ⌝ }
+    ensures { λ r. ⌜ r ≡ short8 (valueWith (3 + 7) (records 0 (now (input .entry)))) ⌝ }
 {
     byte(option(input, IMAXPCT))
 }
 
 fn label_in(input: &[u8]) -> Label
-    ensures { λ r. ⌜ r ≡ labelGiven (lookup 1 (records 0 (now (input .entry)))) (now (input .entry)) ⌝ }
+    ensures { λ r. ⌜ r ≡ labelGiven (valueWith 1 (records 0 (now (input .entry)))) (now (input .entry)) ⌝ }
 {
     label_of(input, value_of(input, 0, LABEL))
 }
 
 fn uuid_in(input: &[u8]) -> OptUuid
-    ensures { λ r. ⌜ r ≡ uuidGiven (lookup 2 (records 0 (now (input .entry)))) (now (input .entry)) ⌝ }
+    ensures { λ r. ⌜ r ≡ uuidGiven (valueWith 2 (records 0 (now (input .entry)))) (now (input .entry)) ⌝ }
 {
     uuid_of(input, value_of(input, 0, UUID))
 }
 
 fn time_in(input: &[u8]) -> OptTime
     requires { ⌜ wellFormed (now input) ≡ true ⌝ }
-    ensures { λ r. ⌜ r ≡ timeGiven (lookup (3 + 10) (records 0 (now (input .entry)))) (lookup (3 + 11) (records 0 (now (input .entry)))) ⌝ }
+    ensures { λ r. ⌜ r ≡ timeGiven (valueWith (3 + 10) (records 0 (now (input .entry)))) (valueWith (3 + 11) (records 0 (now (input .entry)))) ⌝ }
 {
     let seconds = option(input, SECONDS);
     time_of(seconds, option(input, NANOSECONDS))

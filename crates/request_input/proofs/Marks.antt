@@ -10,18 +10,18 @@ use lib.ListN.{length, getD}
 use borrow.Author.Tests.{le-leb, lt-leb, eq-eqb, ne-eqb, leb-true}
 use Rattle.endian.specs.Bytes.{beAt}
 use Rattle.request_input.specs.declared.Record.{Record}
-use Rattle.request_input.specs.Records.{device, label, uuid, option, entry, choose, none, whole, recordAt}
+use Rattle.request_input.specs.Records.{device, label, uuid, option, entry, choose, noRecord, wholeRecord, recordAt}
 
 -- ---- a record of a known length
 module _ (len key value next : ℕ) where
-  pub cut : len < next → none len ≡ whole len key value next
+  pub cut : len < next → noRecord len ≡ wholeRecord len key value next
   cut h = rw (lt-leb next len h) refl
 
-  pub held : next ≤ len → entry key value next ≡ whole len key value next
+  pub held : next ≤ len → entry key value next ≡ wholeRecord len key value next
   held h = rw (le-leb next len h) refl
 
 -- an option's record, as it was read
-pub option-held : (len b v next : ℕ) → next ≤ len → {c w : ℕ} → b ≡ c → v ≡ w → entry (3 + b) v next ≡ whole len (3 + c) w next
+pub option-held : (len b v next : ℕ) → next ≤ len → {c w : ℕ} → b ≡ c → v ≡ w → entry (3 + b) v next ≡ wholeRecord len (3 + c) w next
 option-held len b v next h {c} {w} d e = rw (d, e) (held len (3 + c) w next h)
 
 -- ---- what holds of every record
@@ -30,9 +30,9 @@ choose-all P true r s f e = f refl
 choose-all P false r s f e = e
 
 -- `P` holds of a record at `at` if it holds of each kind of record that ends inside the input, and where there is none
-module _ (P : Record → Type 0) (at : ℕ) (xs : List ℕ) (no : P (none (length xs))) where
-  whole-all : (key value next : ℕ) → (next ≤ length xs → P (entry key value next)) → P (whole (length xs) key value next)
-  whole-all key value next f = choose-all P (leb next (length xs)) (entry key value next) (none (length xs)) (λ t. f (leb-true next (length xs) t)) no
+module _ (P : Record → Type 0) (at : ℕ) (xs : List ℕ) (no : P (noRecord (length xs))) where
+  whole-all : (key value next : ℕ) → (next ≤ length xs → P (entry key value next)) → P (wholeRecord (length xs) key value next)
+  whole-all key value next f = choose-all P (leb next (length xs)) (entry key value next) (noRecord (length xs)) (λ t. f (leb-true next (length xs) t)) no
 
   pub record-all : (at + 18 ≤ length xs → P (entry device (at + 2) (at + 18)))
       → (at + 11 ≤ length xs → P (entry (option (getD xs (at + 2) 0)) (beAt 8 (at + 3) xs) (at + 11)))
@@ -78,29 +78,29 @@ answered at xs r h e = let d = record-ends at xs h in (e, rw e (d .0), rw e (d .
 
 -- ---- by the mark
 module _ (at : ℕ) (xs : List ℕ) where
-  pub no-room : length xs < at + 3 → none (length xs) ≡ recordAt at xs
+  pub no-room : length xs < at + 3 → noRecord (length xs) ≡ recordAt at xs
   unfolding recordAt
   no-room h = rw (lt-leb (at + 3) (length xs) h) refl
 
   module _ (m : ℕ) (room : at + 3 ≤ length xs) (mark : m ≡ beAt 2 at xs) where
-    pub device-at : m ≡ 0x4456 → whole (length xs) device (at + 2) (at + 18) ≡ recordAt at xs
+    pub device-at : m ≡ 0x4456 → wholeRecord (length xs) device (at + 2) (at + 18) ≡ recordAt at xs
     unfolding recordAt
     device-at e = rw (le-leb (at + 3) (length xs) room, ← mark, eq-eqb m 0x4456 e) refl
 
-    pub option-at : m ≡ 0x4f50 → whole (length xs) (option (getD xs (at + 2) 0)) (beAt 8 (at + 3) xs) (at + 11) ≡ recordAt at xs
+    pub option-at : m ≡ 0x4f50 → wholeRecord (length xs) (option (getD xs (at + 2) 0)) (beAt 8 (at + 3) xs) (at + 11) ≡ recordAt at xs
     unfolding recordAt
     option-at e = rw (le-leb (at + 3) (length xs) room, ← mark, e) refl
 
-    pub label-at : (b : ℕ) → b ≡ getD xs (at + 2) 0 → m ≡ 0x4c42 → whole (length xs) label (at + 2) (at + (3 + b)) ≡ recordAt at xs
+    pub label-at : (b : ℕ) → b ≡ getD xs (at + 2) 0 → m ≡ 0x4c42 → wholeRecord (length xs) label (at + 2) (at + (3 + b)) ≡ recordAt at xs
     unfolding recordAt
     label-at b d e =
         let s : at + (3 + b) ≡ at + 3 + b = omega arith in
         rw (le-leb (at + 3) (length xs) room, ← mark, e, s, d) refl
 
-    pub uuid-at : m ≡ 0x4944 → whole (length xs) uuid (at + 2) (at + 18) ≡ recordAt at xs
+    pub uuid-at : m ≡ 0x4944 → wholeRecord (length xs) uuid (at + 2) (at + 18) ≡ recordAt at xs
     unfolding recordAt
     uuid-at e = rw (le-leb (at + 3) (length xs) room, ← mark, e) refl
 
-    pub none-at : (m ≡ 0x4456 → ⊥) → (m ≡ 0x4f50 → ⊥) → (m ≡ 0x4c42 → ⊥) → (m ≡ 0x4944 → ⊥) → none (length xs) ≡ recordAt at xs
+    pub none-at : (m ≡ 0x4456 → ⊥) → (m ≡ 0x4f50 → ⊥) → (m ≡ 0x4c42 → ⊥) → (m ≡ 0x4944 → ⊥) → noRecord (length xs) ≡ recordAt at xs
     unfolding recordAt
     none-at a b c d = rw (le-leb (at + 3) (length xs) room, ← mark, ne-eqb m 0x4456 a, ne-eqb m 0x4f50 b, ne-eqb m 0x4c42 c, ne-eqb m 0x4944 d) refl

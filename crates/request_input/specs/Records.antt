@@ -33,8 +33,8 @@ optionBits =
     ∷ []
 
 -- the code is known, and the number fits the option's type
-unfoldable pub fits : ℕ → ℕ → Bool
-fits code n = ltb 0 (getD optionBits code 0) && ltb n (2 ^ getD optionBits code 0)
+unfoldable pub optionFits : ℕ → ℕ → Bool
+optionFits code n = ltb 0 (getD optionBits code 0) && ltb n (2 ^ getD optionBits code 0)
 
 -- ---- one record
 
@@ -60,56 +60,56 @@ choose true r s = r
 choose false r s = s
 
 -- no record, in an input of `len` bytes: it has the key of no option, and nothing is read behind it
-abbrev pub none : ℕ → Record
-none len = entry (option 0) 0 len
+abbrev pub noRecord : ℕ → Record
+noRecord len = entry (option 0) 0 len
 
 -- a record that ends inside the input; a cut one is none
-abbrev pub whole : ℕ → ℕ → ℕ → ℕ → Record
-whole len key value next = choose (leb next len) (entry key value next) (none len)
+abbrev pub wholeRecord : ℕ → ℕ → ℕ → ℕ → Record
+wholeRecord len key value next = choose (leb next len) (entry key value next) (noRecord len)
 
 -- The record at an offset, by its mark: `DV`, `OP`, `LB`, `ID`. Each has three bytes or more.
-abbrev pub byMark : ℕ → ℕ → List ℕ → Record
-byMark mark at xs =
-    choose (eqb mark 0x4456) (whole (length xs) device (at + 2) (at + 18))
-    (choose (eqb mark 0x4f50) (whole (length xs) (option (getD xs (at + 2) 0)) (beAt 8 (at + 3) xs) (at + 11))
-    (choose (eqb mark 0x4c42) (whole (length xs) label (at + 2) (at + 3 + getD xs (at + 2) 0))
-    (choose (eqb mark 0x4944) (whole (length xs) uuid (at + 2) (at + 18)) (none (length xs)))))
+abbrev pub recordByMark : ℕ → ℕ → List ℕ → Record
+recordByMark mark at xs =
+    choose (eqb mark 0x4456) (wholeRecord (length xs) device (at + 2) (at + 18))
+    (choose (eqb mark 0x4f50) (wholeRecord (length xs) (option (getD xs (at + 2) 0)) (beAt 8 (at + 3) xs) (at + 11))
+    (choose (eqb mark 0x4c42) (wholeRecord (length xs) label (at + 2) (at + 3 + getD xs (at + 2) 0))
+    (choose (eqb mark 0x4944) (wholeRecord (length xs) uuid (at + 2) (at + 18)) (noRecord (length xs)))))
 
 unfoldable pub recordAt : ℕ → List ℕ → Record
-recordAt at xs = choose (leb (at + 3) (length xs)) (byMark (beAt 2 at xs) at xs) (none (length xs))
+recordAt at xs = choose (leb (at + 3) (length xs)) (recordByMark (beAt 2 at xs) at xs) (noRecord (length xs))
 
 -- its mark and its code are known, it isn't cut, and its number fits
-abbrev pub known : ℕ → ℕ → Bool
-known key value = ltb key 3 || fits (key - 3) value
+abbrev pub recordKnown : ℕ → ℕ → Bool
+recordKnown key value = ltb key 3 || optionFits (key - 3) value
 
 -- ---- all records
 
-abbrev pub more : Bool → Record → List Record → List Record
-more true r rs = r ∷ rs
-more false r rs = []
+abbrev pub recordThen : Bool → Record → List Record → List Record
+recordThen true r rs = r ∷ rs
+recordThen false r rs = []
 
 -- at most `n` records, from `at` on
-unfoldable pub split : ℕ → ℕ → List ℕ → List Record
-split zero at xs = []
-split (suc n) at xs = more (ltb at (length xs)) (recordAt at xs) (split n (recordAt at xs .next) xs)
+unfoldable pub splitRecords : ℕ → ℕ → List ℕ → List Record
+splitRecords zero at xs = []
+splitRecords (suc n) at xs = recordThen (ltb at (length xs)) (recordAt at xs) (splitRecords n (recordAt at xs .next) xs)
 
 -- the records from `at` on; each has a byte or more
 unfoldable pub records : ℕ → List ℕ → List Record
-records at xs = split (length xs - at) at xs
+records at xs = splitRecords (length xs - at) at xs
 
-abbrev pub found : Bool → ℕ → OptU64 → OptU64
-found true v rest = Given v
-found false v rest = rest
+abbrev pub valueIfFound : Bool → ℕ → OptU64 → OptU64
+valueIfFound true v rest = Given v
+valueIfFound false v rest = rest
 
 -- the value of the first record with the key
-unfoldable pub lookup : ℕ → List Record → OptU64
-lookup key [] = Absent
-lookup key (r ∷ rs) = found (eqb key (r .key)) (r .value) (lookup key rs)
+unfoldable pub valueWith : ℕ → List Record → OptU64
+valueWith key [] = Absent
+valueWith key (r ∷ rs) = valueIfFound (eqb key (r .key)) (r .value) (valueWith key rs)
 
 -- every record is known, and none has the key of a later one
 unfoldable pub sound : List Record → Bool
 sound [] = true
-sound (r ∷ rs) = known (r .key) (r .value) && (not (given64 (lookup (r .key) rs)) && sound rs)
+sound (r ∷ rs) = recordKnown (r .key) (r .value) && (not (given64 (valueWith (r .key) rs)) && sound rs)
 
 -- the first is the device's
 unfoldable pub startsWithDevice : List Record → Bool

@@ -2,7 +2,7 @@
 ghost use mathlib.Core.Path.{_≡_};
 ghost use Prim.Native.Nat.{_+_, _≤_, _<_};
 ghost use lib.ListN.{length, getD};
-ghost use Rattle.request_input.specs.Records.{optionBits, fits, known, whole, none, recordAt, records, lookup, sound, wellFormed};
+ghost use Rattle.request_input.specs.Records.{optionBits, optionFits, recordKnown, wholeRecord, noRecord, recordAt, records, valueWith, sound, wellFormed};
 ghost use Rattle.endian.specs.Bytes.{beAt};
 ghost use Rattle.params.specs.Options.{given64};
 use params::OptU64;
@@ -55,7 +55,7 @@ fn option_bits(code: usize) -> u8
 
 // Whether there is an option with the code, and the number fits its type.
 fn number_fits(code: usize, n: u64) -> bool
-    ensures { λ r. ⌜ r ≡ fits code n ⌝ }
+    ensures { λ r. ⌜ r ≡ optionFits code n ⌝ }
 {
     let bits = option_bits(code);
     if bits == 0 {
@@ -68,7 +68,7 @@ fn number_fits(code: usize, n: u64) -> bool
 }
 
 fn is_known(key: usize, value: u64) -> bool
-    ensures { λ r. ⌜ r ≡ known key value ⌝ }
+    ensures { λ r. ⌜ r ≡ recordKnown key value ⌝ }
 {
     if key < OPTION {
         return true;
@@ -78,7 +78,7 @@ fn is_known(key: usize, value: u64) -> bool
 
 // No record: nothing is read behind it.
 fn no_record(len: usize) -> Record
-    ensures { λ r. ⌜ r ≡ none len ⌝ }
+    ensures { λ r. ⌜ r ≡ noRecord len ⌝ }
 {
     Record {
         key: OPTION,
@@ -90,7 +90,7 @@ fn no_record(len: usize) -> Record
 // The record of `size` bytes at `at`, unless it is cut.
 fn whole_record(len: usize, key: usize, value: u64, at: usize, size: usize) -> Record
     requires { ⌜ at ≤ len ⌝ }
-    ensures { λ r. ⌜ r ≡ whole len key value (at + size) ⌝ }
+    ensures { λ r. ⌜ r ≡ wholeRecord len key value (at + size) ⌝ }
 {
     if len - at < size {
         return no_record(len);
@@ -104,7 +104,7 @@ fn whole_record(len: usize, key: usize, value: u64, at: usize, size: usize) -> R
 
 fn option_record(input: &[u8], at: usize) -> Record
     requires { ⌜ at + 3 ≤ length (now input) ⌝ }
-    ensures { λ r. ⌜ r ≡ whole (length (now (input .entry))) (3 + getD (now (input .entry)) (at + 2) 0) (beAt 8 (at + 3) (now (input .entry))) (at + 11) ⌝ }
+    ensures { λ r. ⌜ r ≡ wholeRecord (length (now (input .entry))) (3 + getD (now (input .entry)) (at + 2) 0) (beAt 8 (at + 3) (now (input .entry))) (at + 11) ⌝ }
 {
     if input.len() - at < 11 {
         return no_record(input.len());
@@ -145,7 +145,7 @@ fn record_at(input: &[u8], at: usize) -> Record
 
 // The value of the first record with the key, from `from` on.
 pub fn value_of(input: &[u8], from: usize, key: usize) -> OptU64
-    ensures { λ r. ⌜ r ≡ lookup key (records from (now (input .entry))) ⌝ }
+    ensures { λ r. ⌜ r ≡ valueWith key (records from (now (input .entry))) ⌝ }
 {
     let mut at = from;
     while at < input.len() {

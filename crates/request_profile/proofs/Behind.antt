@@ -15,7 +15,7 @@ use Rattle.params.specs.Options.{given64}
 use Rattle.params.specs.declared.OptU64.{OptU64}
 use Rattle.params.specs.declared.OptU64.the-variants.{Absent, Given}
 use Rattle.request_input.specs.declared.Record.{Record}
-use Rattle.request_input.specs.Records.{label, uuid, option, optionBits, fits, known, entry, records, found, lookup, sound, startsWithDevice, wellFormed}
+use Rattle.request_input.specs.Records.{label, uuid, option, optionBits, optionFits, recordKnown, entry, records, valueIfFound, valueWith, sound, startsWithDevice, wellFormed}
 use Rattle.request.specs.Options.{labelInside, uuidInside, labelAt, labelGiven, uuidGiven, turnedOn, paramsOf, profileOf}
 use Rattle.request.specs.Parse.{under, parseDef}
 use Rattle.request.specs.Cases.{op}
@@ -28,37 +28,37 @@ use Rattle.request_profile.proofs.Fronts.{getD-front, at-front, part-fr
 -- ---- one more record
 
 module _ (s : Record) where
-  not-last : (key : ℕ) (rs : List Record) → (key ≡ s .key → ⊥) → lookup key (rs ++ (s ∷ [])) ≡ lookup key rs
-  unfolding lookup
+  not-last : (key : ℕ) (rs : List Record) → (key ≡ s .key → ⊥) → valueWith key (rs ++ (s ∷ [])) ≡ valueWith key rs
+  unfolding valueWith
   not-last key [] n = rw (ne-eqb key (s .key) n) refl
-  not-last key (r ∷ rs) n = ap (found (eqb key (r .key)) (r .value)) (not-last key rs n)
+  not-last key (r ∷ rs) n = ap (valueIfFound (eqb key (r .key)) (r .value)) (not-last key rs n)
 
-  absent-first : (r : Record) (rs : List Record) → lookup (s .key) (r ∷ rs) ≡ Absent → (eqb (s .key) (r .key) ≡ false) × (lookup (s .key) rs ≡ Absent)
-  unfolding lookup
+  absent-first : (r : Record) (rs : List Record) → valueWith (s .key) (r ∷ rs) ≡ Absent → (eqb (s .key) (r .key) ≡ false) × (valueWith (s .key) rs ≡ Absent)
+  unfolding valueWith
   absent-first r rs e = go (eqb (s .key) (r .key)) refl e
     where
-      go : (t : Bool) → eqb (s .key) (r .key) ≡ t → found t (r .value) (lookup (s .key) rs) ≡ Absent → (eqb (s .key) (r .key) ≡ false) × (lookup (s .key) rs ≡ Absent)
+      go : (t : Bool) → eqb (s .key) (r .key) ≡ t → valueIfFound t (r .value) (valueWith (s .key) rs) ≡ Absent → (eqb (s .key) (r .key) ≡ false) × (valueWith (s .key) rs ≡ Absent)
       go true d f = never (sym (ap given64 f))
       go false d f = (d, f)
 
-  the-last : (rs : List Record) → lookup (s .key) rs ≡ Absent → lookup (s .key) (rs ++ (s ∷ [])) ≡ Given (s .value)
-  unfolding lookup
+  the-last : (rs : List Record) → valueWith (s .key) rs ≡ Absent → valueWith (s .key) (rs ++ (s ∷ [])) ≡ Given (s .value)
+  unfolding valueWith
   the-last [] e = rw (eq-eqb (s .key) (s .key) refl) refl
   the-last (r ∷ rs) e =
       let a = absent-first r rs e in
       rw (a .0) (the-last rs (a .1))
 
-  still-sound : (rs : List Record) → known (s .key) (s .value) ≡ true → lookup (s .key) rs ≡ Absent → sound rs ≡ true → sound (rs ++ (s ∷ [])) ≡ true
-  unfolding sound lookup
+  still-sound : (rs : List Record) → recordKnown (s .key) (s .value) ≡ true → valueWith (s .key) rs ≡ Absent → sound rs ≡ true → sound (rs ++ (s ∷ [])) ≡ true
+  unfolding sound valueWith
   still-sound [] k e h = rw k refl
   still-sound (r ∷ rs) k e h =
       let a = absent-first r rs e in
-      let g = not (given64 (lookup (r .key) rs)) in
-      let n = right-true (known (r .key) (r .value)) (g && sound rs) h in
+      let g = not (given64 (valueWith (r .key) rs)) in
+      let n = right-true (recordKnown (r .key) (r .value)) (g && sound rs) h in
       let d = not-last (r .key) rs (λ q. eqb-false (s .key) (r .key) (a .0) (sym q)) in
-      both-true (known (r .key) (r .value)) (not (given64 (lookup (r .key) (rs ++ (s ∷ [])))) && sound (rs ++ (s ∷ [])))
-      (left-true (known (r .key) (r .value)) (g && sound rs) h)
-      (both-true (not (given64 (lookup (r .key) (rs ++ (s ∷ []))))) (sound (rs ++ (s ∷ [])))
+      both-true (recordKnown (r .key) (r .value)) (not (given64 (valueWith (r .key) (rs ++ (s ∷ [])))) && sound (rs ++ (s ∷ [])))
+      (left-true (recordKnown (r .key) (r .value)) (g && sound rs) h)
+      (both-true (not (given64 (valueWith (r .key) (rs ++ (s ∷ []))))) (sound (rs ++ (s ∷ [])))
       (ap (λ (o : OptU64). not (given64 o)) d ∙ left-true g (sound rs) n)
       (still-sound rs k (a .1) (right-true g (sound rs) n)))
 
@@ -81,7 +81,7 @@ uuid-same xs ys (Given p) h = rw (part-front p 16 xs ys h) refl
 
 -- ---- the input
 
-module _ (xs : List ℕ) (well : wellFormed xs ≡ true) (free : lookup (option 13) (records 0 xs) ≡ Absent) (v : ℕ) (bit : v < 2) where
+module _ (xs : List ℕ) (well : wellFormed xs ≡ true) (free : valueWith (option 13) (records 0 xs) ≡ Absent) (v : ℕ) (bit : v < 2) where
   abbrev zs : List ℕ
   zs = xs ++ op 13 v
 
@@ -101,8 +101,8 @@ module _ (xs : List ℕ) (well : wellFormed xs ≡ true) (free : lookup (option 
   all-records : records 0 zs ≡ records 0 xs ++ (last ∷ [])
   all-records = records-front xs (op 13 v) (sound-each (records 0 xs) (parts .1)) ∙ ap (λ (rs : List Record). records 0 xs ++ rs) behind
 
-  fits-13 : known (option 13) v ≡ true
-  unfolding fits optionBits
+  fits-13 : recordKnown (option 13) v ≡ true
+  unfolding optionFits optionBits
   fits-13 = rw (lt-ltb v (2 ^ 1) (omega arith)) refl
 
   well-behind : wellFormed zs ≡ true
@@ -113,8 +113,8 @@ module _ (xs : List ℕ) (well : wellFormed xs ≡ true) (free : lookup (option 
       (still-first (records 0 xs) (last ∷ []) (parts .0))
       (still-sound last (records 0 xs) fits-13 free (parts .1)))
 
-  same : (key : ℕ) → (key ≡ option 13 → ⊥) → lookup key (records 0 zs) ≡ lookup key (records 0 xs)
-  same key n = ap (lookup key) all-records ∙ not-last last key (records 0 xs) n
+  same : (key : ℕ) → (key ≡ option 13 → ⊥) → valueWith key (records 0 zs) ≡ valueWith key (records 0 xs)
+  same key n = ap (valueWith key) all-records ∙ not-last last key (records 0 xs) n
 
   options-same : paramsOf zs ≡ paramsOf xs
   unfolding paramsOf
@@ -134,14 +134,14 @@ module _ (xs : List ℕ) (well : wellFormed xs ≡ true) (free : lookup (option 
         same (option 12) (λ e. omega (arith, e)),
         same label (λ e. omega (arith, e)),
         same uuid (λ e. omega (arith, e)),
-        label-same xs (op 13 v) (lookup label (records 0 xs)) (label-inside xs),
-        uuid-same xs (op 13 v) (lookup uuid (records 0 xs)) (uuid-inside xs),
+        label-same xs (op 13 v) (valueWith label (records 0 xs)) (label-inside xs),
+        uuid-same xs (op 13 v) (valueWith uuid (records 0 xs)) (uuid-inside xs),
       )
       refl
 
   turned : profileOf zs ≡ eqb v 1
   unfolding profileOf
-  turned = ap turnedOn (ap (lookup (option 13)) all-records ∙ the-last last (records 0 xs) free)
+  turned = ap turnedOn (ap (valueWith (option 13)) all-records ∙ the-last last (records 0 xs) free)
 
   not-turned : profileOf xs ≡ false
   unfolding profileOf
@@ -172,6 +172,6 @@ module _ (xs : List ℕ) (well : wellFormed xs ≡ true) (free : lookup (option 
   own-under = rw (well, not-turned) refl
 
 -- 0 is as absent
-pub zero-behind : (xs : List ℕ) → wellFormed xs ≡ true → lookup (option 13) (records 0 xs) ≡ Absent → accepted (xs ++ op 13 0) ≡ accepted xs
+pub zero-behind : (xs : List ℕ) → wellFormed xs ≡ true → valueWith (option 13) (records 0 xs) ≡ Absent → accepted (xs ++ op 13 0) ≡ accepted xs
 unfolding accepted
 zero-behind xs well free = ap runOf (code-behind xs well free 0 (lit< tt) ∙ own-under xs well free 0 (lit< tt))

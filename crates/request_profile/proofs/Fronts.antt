@@ -13,7 +13,7 @@ use Rattle.seqs.proofs.Laws.{never}
 use Rattle.endian.specs.Bytes.{beAt}
 use Rattle.endian.specs.Fields.{part}
 use Rattle.request_input.specs.declared.Record.{Record}
-use Rattle.request_input.specs.Records.{device, label, uuid, option, optionBits, fits, known, choose, none, whole, byMark, recordAt, records}
+use Rattle.request_input.specs.Records.{device, label, uuid, option, optionBits, optionFits, recordKnown, choose, noRecord, wholeRecord, recordByMark, recordAt, records}
 use Rattle.request_input.proofs.Marks.{record-ends}
 use Rattle.request_input.proofs.Splitting.{records-end, records-more}
 use Rattle.request.proofs.Values.{Each}
@@ -38,13 +38,13 @@ part-front off n xs ys h =
 -- ---- a record that is known
 
 abbrev pub Known : Record → Type 0
-Known r = known (r .key) (r .value) ≡ true
+Known r = recordKnown (r .key) (r .value) ≡ true
 
-unknown : known (option 0) 0 ≡ false
-unfolding fits optionBits
+unknown : recordKnown (option 0) 0 ≡ false
+unfolding optionFits optionBits
 unknown = refl
 
-no-record : {X : Type 0} → known (option 0) 0 ≡ true → X
+no-record : {X : Type 0} → recordKnown (option 0) 0 ≡ true → X
 no-record k = never (sym unknown ∙ k)
 
 pick : (t : Bool) (a b c d : Record) → (Known a → b ≡ a) → (Known c → d ≡ c) → Known (choose t a c) → choose t b d ≡ choose t a c
@@ -58,20 +58,20 @@ module _ (at : ℕ) (xs ys : List ℕ) where
   longer : (n : ℕ) → n ≤ length xs → leb n (length (xs ++ ys)) ≡ true
   longer n h = let l = length-append xs ys in le-leb n (length (xs ++ ys)) (omega arith)
 
-  whole-same : (key value next : ℕ) → Known (whole (length xs) key value next) → whole (length zs) key value next ≡ whole (length xs) key value next
+  whole-same : (key value next : ℕ) → Known (wholeRecord (length xs) key value next) → wholeRecord (length zs) key value next ≡ wholeRecord (length xs) key value next
   whole-same key value next = go (leb next (length xs)) refl
     where
-      go : (t : Bool) → leb next (length xs) ≡ t → Known (choose t (record { key = key; value = value; next = next }) (none (length xs)))
-          → whole (length zs) key value next ≡ choose t (record { key = key; value = value; next = next }) (none (length xs))
+      go : (t : Bool) → leb next (length xs) ≡ t → Known (choose t (record { key = key; value = value; next = next }) (noRecord (length xs)))
+          → wholeRecord (length zs) key value next ≡ choose t (record { key = key; value = value; next = next }) (noRecord (length xs))
       go true e k = rw (longer next (leb-true next (length xs) e)) refl
       go false e k = no-record k
 
-  option-same : (c : ℕ) → Known (whole (length xs) (option c) (beAt 8 (at + 3) xs) (at + 11))
-      → whole (length zs) (option c) (beAt 8 (at + 3) zs) (at + 11) ≡ whole (length xs) (option c) (beAt 8 (at + 3) xs) (at + 11)
+  option-same : (c : ℕ) → Known (wholeRecord (length xs) (option c) (beAt 8 (at + 3) xs) (at + 11))
+      → wholeRecord (length zs) (option c) (beAt 8 (at + 3) zs) (at + 11) ≡ wholeRecord (length xs) (option c) (beAt 8 (at + 3) xs) (at + 11)
   option-same c = go (leb (at + 11) (length xs)) refl
     where
-      go : (t : Bool) → leb (at + 11) (length xs) ≡ t → Known (choose t (record { key = option c; value = beAt 8 (at + 3) xs; next = at + 11 }) (none (length xs)))
-          → whole (length zs) (option c) (beAt 8 (at + 3) zs) (at + 11) ≡ choose t (record { key = option c; value = beAt 8 (at + 3) xs; next = at + 11 }) (none (length xs))
+      go : (t : Bool) → leb (at + 11) (length xs) ≡ t → Known (choose t (record { key = option c; value = beAt 8 (at + 3) xs; next = at + 11 }) (noRecord (length xs)))
+          → wholeRecord (length zs) (option c) (beAt 8 (at + 3) zs) (at + 11) ≡ choose t (record { key = option c; value = beAt 8 (at + 3) xs; next = at + 11 }) (noRecord (length xs))
       go true e k = let h = leb-true (at + 11) (length xs) e in rw (longer (at + 11) h, at-front 8 (at + 3) xs ys (omega arith)) refl
       go false e k = no-record k
 
@@ -79,25 +79,25 @@ module _ (at : ℕ) (xs ys : List ℕ) where
     first : getD zs (at + 2) 0 ≡ getD xs (at + 2) 0
     first = getD-front xs ys (at + 2) (omega arith)
 
-    mark-same : Known (byMark m at xs) → byMark m at zs ≡ byMark m at xs
+    mark-same : Known (recordByMark m at xs) → recordByMark m at zs ≡ recordByMark m at xs
     mark-same =
         pick (eqb m 0x4456) _ _ _ _ (whole-same device (at + 2) (at + 18))
         (pick (eqb m 0x4f50) _ _ _ _
-        (λ k. ap (λ (c : ℕ). whole (length zs) (option c) (beAt 8 (at + 3) zs) (at + 11)) first ∙ option-same (getD xs (at + 2) 0) k)
+        (λ k. ap (λ (c : ℕ). wholeRecord (length zs) (option c) (beAt 8 (at + 3) zs) (at + 11)) first ∙ option-same (getD xs (at + 2) 0) k)
         (pick (eqb m 0x4c42) _ _ _ _
-        (λ k. ap (λ (c : ℕ). whole (length zs) label (at + 2) (at + 3 + c)) first ∙ whole-same label (at + 2) (at + 3 + getD xs (at + 2) 0) k)
+        (λ k. ap (λ (c : ℕ). wholeRecord (length zs) label (at + 2) (at + 3 + c)) first ∙ whole-same label (at + 2) (at + 3 + getD xs (at + 2) 0) k)
         (pick (eqb m 0x4944) _ _ _ _ (whole-same uuid (at + 2) (at + 18)) (λ k. no-record k))))
 
   record-same : Known (recordAt at xs) → recordAt at zs ≡ recordAt at xs
   unfolding recordAt
   record-same = go (leb (at + 3) (length xs)) refl
     where
-      go : (t : Bool) → leb (at + 3) (length xs) ≡ t → Known (choose t (byMark (beAt 2 at xs) at xs) (none (length xs)))
-          → choose (leb (at + 3) (length zs)) (byMark (beAt 2 at zs) at zs) (none (length zs)) ≡ choose t (byMark (beAt 2 at xs) at xs) (none (length xs))
+      go : (t : Bool) → leb (at + 3) (length xs) ≡ t → Known (choose t (recordByMark (beAt 2 at xs) at xs) (noRecord (length xs)))
+          → choose (leb (at + 3) (length zs)) (recordByMark (beAt 2 at zs) at zs) (noRecord (length zs)) ≡ choose t (recordByMark (beAt 2 at xs) at xs) (noRecord (length xs))
       go true e k =
           let h = leb-true (at + 3) (length xs) e in
-          ap (λ (t : Bool). choose t (byMark (beAt 2 at zs) at zs) (none (length zs))) (longer (at + 3) h)
-          ∙ ap (λ (m : ℕ). byMark m at zs) (at-front 2 at xs ys (omega arith))
+          ap (λ (t : Bool). choose t (recordByMark (beAt 2 at zs) at zs) (noRecord (length zs))) (longer (at + 3) h)
+          ∙ ap (λ (m : ℕ). recordByMark m at zs) (at-front 2 at xs ys (omega arith))
           ∙ mark-same (beAt 2 at xs) h k
       go false e k = no-record k
 
@@ -105,7 +105,7 @@ module _ (at : ℕ) (xs ys : List ℕ) where
 
 module _ (xs ys : List ℕ) where
   abbrev AllKnown : List Record → Type 0
-  AllKnown rs = Each (λ (key value : ℕ). known key value ≡ true) rs
+  AllKnown rs = Each (λ (key value : ℕ). recordKnown key value ≡ true) rs
 
   at-end : (at : ℕ) → at ≡ length xs → records at (xs ++ ys) ≡ records at xs ++ records (length xs) (xs ++ ys)
   at-end at e = ap (λ (k : ℕ). records k (xs ++ ys)) e ∙ ap (λ (rs : List Record). rs ++ records (length xs) (xs ++ ys)) (sym (records-end xs at (omega arith)))

@@ -13,7 +13,7 @@ use Rattle.endian.proofs.Fields.{at-written}
 use Rattle.request.specs.Cases.{dv, op, lb, id}
 use Rattle.request.specs.Options.{labelAt}
 use Rattle.request_input.specs.declared.Record.{Record}
-use Rattle.request_input.specs.Records.{entry, whole, option, recordAt, records}
+use Rattle.request_input.specs.Records.{entry, wholeRecord, option, recordAt, records}
 use Rattle.request_input.proofs.Marks.{held, device-at, option-at, label-at, uuid-at}
 use Rattle.request_input.proofs.Splitting.{records-end, records-more}
 
@@ -101,8 +101,8 @@ option-reads c v h = record {
       let e : beAt 8 (length pre + 3) xs ≡ v = field-at 8 v 3 pre (79 ∷ 80 ∷ c ∷ []) post refl h in
       let n = length pre + 11 in
       sym (held (length xs) (3 + c) v n (omega arith)
-      ∙ ap (λ (k : ℕ). whole (length xs) (3 + k) v n) (sym d)
-      ∙ ap (λ (w : ℕ). whole (length xs) (3 + getD xs (length pre + 2) 0) w n) (sym e)
+      ∙ ap (λ (k : ℕ). wholeRecord (length xs) (3 + k) v n) (sym d)
+      ∙ ap (λ (w : ℕ). wholeRecord (length xs) (3 + getD xs (length pre + 2) 0) w n) (sym e)
       ∙ option-at (length pre) xs 0x4f50 (omega arith) (mark-at 0x4f50 pre (c ∷ (beBytes 8 v ++ post)) (omega arith)) refl);
   some = omega arith;
 }

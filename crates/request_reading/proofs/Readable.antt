@@ -19,11 +19,11 @@ use Rattle.params.specs.Params.{noLabel, noUuid}
 use Rattle.params.specs.Options.{given64}
 use Rattle.params.specs.declared.OptU64.{OptU64}
 use Rattle.params.specs.declared.OptU64.the-variants.{Absent, Given}
-use Rattle.request_input.specs.Records.{optionBits, fits, known, lookup as lookupRecord, sound, startsWithDevice, records, wellFormed}
+use Rattle.request_input.specs.Records.{optionBits, optionFits, recordKnown, valueWith as lookupRecord, sound, startsWithDevice, records, wellFormed}
 use Rattle.request_words.specs.declared.Word.{Word}
-use Rattle.request_words.specs.Values.{largest}
-use Rattle.request_words.specs.Words.{lookup, given, wordsFrom}
-use Rattle.request_words.specs.Asked.{pairs, deviceRecord, optionRecord, optionRecords, labelText, labelRecord, uuidRecord, wordsRequest}
+use Rattle.request_words.specs.Values.{largestValues}
+use Rattle.request_words.specs.Words.{wordWith, given, wordsFrom}
+use Rattle.request_words.specs.Asked.{pairs, deviceRecord, optionRecord, optionRecords, labelWordText, labelRecord, uuidRecord, wordsRequest}
 use Rattle.request_words.proofs.Writing.{found-small, length-pairs}
 use Rattle.request_reading.proofs.Pieces.{field-at, Piece, Reads, All, joined, entries, records-are, device-piece, option-piece, label-piece, uuid-piece, device-reads, option-reads, label-reads, uuid-reads, label-there, uuid-there}
 use Rattle.request_reading.specs.Reading.{Readable, optionAsked, OptionsReadBack, DeviceReadBack, labelAsked, uuidAsked, LabelReadBack, UuidReadBack}
@@ -35,7 +35,7 @@ Fresh key (p ∷ ps) = (p .key ≡ key → ⊥) × Fresh key ps
 
 abbrev Good : List Piece → Type 0
 Good [] = Unit {0}
-Good (p ∷ ps) = ((at : ℕ) → known (p .key) (p .value at) ≡ true) × Fresh (p .key) ps × Good ps
+Good (p ∷ ps) = ((at : ℕ) → recordKnown (p .key) (p .value at) ≡ true) × Fresh (p .key) ps × Good ps
 
 fresh-lookup : (key at : ℕ) (ps : List Piece) → Fresh key ps → lookupRecord key (entries at ps) ≡ Absent
 unfolding lookupRecord entries
@@ -64,7 +64,7 @@ kept-fresh : (key : ℕ) (b : Bool) (p : Piece) (ps : List Piece) → (p .key �
 kept-fresh key true p ps ne f = (ne, f)
 kept-fresh key false p ps ne f = f
 
-kept-good : (b : Bool) (p : Piece) (ps : List Piece) → (b ≡ true → (at : ℕ) → known (p .key) (p .value at) ≡ true) → Fresh (p .key) ps → Good ps → Good (kept b p ps)
+kept-good : (b : Bool) (p : Piece) (ps : List Piece) → (b ≡ true → (at : ℕ) → recordKnown (p .key) (p .value at) ≡ true) → Fresh (p .key) ps → Good ps → Good (kept b p ps)
 kept-good true p ps k f g = (k refl, f, g)
 kept-good false p ps k f g = g
 
@@ -128,8 +128,8 @@ uuid-given true pre bytes post h = ap (λ (u : List ℕ). record { presence = Ye
 uuid-given false pre bytes post h = refl
 
 -- ---- numbers fit their options
-fits-code : (code v : ℕ) → 1 ≤ code → code ≤ 12 → v ≤ getD largest code 0 → fits code v ≡ true
-unfolding fits optionBits largest
+fits-code : (code v : ℕ) → 1 ≤ code → code ≤ 12 → v ≤ getD largestValues code 0 → optionFits code v ≡ true
+unfolding optionFits optionBits largestValues
 fits-code zero v a b h = absurd (omega arith)
 fits-code (suc zero) v a b h = lt-ltb v (2 ^ 64) (omega arith)
 fits-code (suc (suc zero)) v a b h = lt-ltb v (2 ^ 32) (omega arith)
@@ -145,8 +145,8 @@ fits-code (suc (suc (suc (suc (suc (suc (suc (suc (suc (suc (suc zero)))))))))))
 fits-code (suc (suc (suc (suc (suc (suc (suc (suc (suc (suc (suc (suc zero)))))))))))) v a b h = lt-ltb v (2 ^ 1) (omega arith)
 fits-code (suc (suc (suc (suc (suc (suc (suc (suc (suc (suc (suc (suc (suc n))))))))))))) v a b h = absurd (omega arith)
 
-below-64 : (code v : ℕ) → code ≤ 12 → v ≤ getD largest code 0 → v < 2 ^ 64
-unfolding largest
+below-64 : (code v : ℕ) → code ≤ 12 → v ≤ getD largestValues code 0 → v < 2 ^ 64
+unfolding largestValues
 below-64 zero v b h = omega arith
 below-64 (suc zero) v b h = omega arith
 below-64 (suc (suc zero)) v b h = omega arith
@@ -165,11 +165,11 @@ below-64 (suc (suc (suc (suc (suc (suc (suc (suc (suc (suc (suc (suc (suc n)))))
 -- ---- the words' pieces
 module _ (xs : List ℕ) where
   value-of : ℕ → ℕ
-  value-of code = lookup code (wordsFrom 0 xs) .value
+  value-of code = wordWith code (wordsFrom 0 xs) .value
 
-  value-small : (code : ℕ) → given code (wordsFrom 0 xs) ≡ true → value-of code ≤ getD largest code 0
+  value-small : (code : ℕ) → given code (wordsFrom 0 xs) ≡ true → value-of code ≤ getD largestValues code 0
   unfolding value-of
-  value-small code g = rw (eqb-true (lookup code (wordsFrom 0 xs) .key) code g) at (found-small xs code)
+  value-small code g = rw (eqb-true (wordWith code (wordsFrom 0 xs) .key) code g) at (found-small xs code)
 
   option-pieces : ℕ → ℕ → List Piece → List Piece
   option-pieces zero code rest = rest
@@ -197,7 +197,7 @@ module _ (xs : List ℕ) where
       kept-fresh key (given code (wordsFrom 0 xs)) (option-piece code (value-of code)) (option-pieces n (code + 1) rest)
       (λ e. omega arith) (options-fresh key n (code + 1) rest (omega arith) f)
 
-  option-known : (code v : ℕ) → fits code v ≡ true → known (3 + code) v ≡ true
+  option-known : (code v : ℕ) → optionFits code v ≡ true → recordKnown (3 + code) v ≡ true
   option-known code v f =
       let e : 3 + code - 3 ≡ code = omega arith in
       rw (le-ltb (3 + code) 3 (omega arith), e, f)
@@ -212,16 +212,16 @@ module _ (xs : List ℕ) where
       (options-good n (code + 1) rest (omega arith) (omega arith) f g)
 
   uuid-text : List ℕ
-  uuid-text = pairs 16 0 (lookup 16 (wordsFrom 0 xs) .from) xs
+  uuid-text = pairs 16 0 (wordWith 16 (wordsFrom 0 xs) .from) xs
 
   label-flag : Bool
   label-flag = given 0 (wordsFrom 0 xs)
 
   uuid-flag : Bool
-  uuid-flag = eqb (lookup 16 (wordsFrom 0 xs) .value) 1
+  uuid-flag = eqb (wordWith 16 (wordsFrom 0 xs) .value) 1
 
   names : List Piece
-  names = kept label-flag (label-piece (labelText (lookup 0 (wordsFrom 0 xs)) xs)) (kept uuid-flag (uuid-piece uuid-text) [])
+  names = kept label-flag (label-piece (labelWordText (wordWith 0 (wordsFrom 0 xs)) xs)) (kept uuid-flag (uuid-piece uuid-text) [])
 
   device : Piece
   device = device-piece (value-of 13) (value-of 14) (value-of 15)
@@ -232,7 +232,7 @@ module _ (xs : List ℕ) where
   names-joined : joined names ≡ labelRecord (wordsFrom 0 xs) xs ++ uuidRecord (wordsFrom 0 xs) xs
   unfolding names label-flag uuid-flag uuid-text labelRecord uuidRecord joined
   names-joined =
-      kept-joined label-flag (label-piece (labelText (lookup 0 (wordsFrom 0 xs)) xs)) (kept uuid-flag (uuid-piece uuid-text) [])
+      kept-joined label-flag (label-piece (labelWordText (wordWith 0 (wordsFrom 0 xs)) xs)) (kept uuid-flag (uuid-piece uuid-text) [])
       ∙ ap (λ (l : List ℕ). labelRecord (wordsFrom 0 xs) xs ++ l) (kept-joined uuid-flag (uuid-piece uuid-text) [] ∙ append-nil (uuidRecord (wordsFrom 0 xs) xs))
 
   all-joined : joined pieces ≡ wordsRequest xs
@@ -242,20 +242,20 @@ module _ (xs : List ℕ) where
   names-all : All names
   unfolding names uuid-text
   names-all =
-      kept-all label-flag (label-piece (labelText (lookup 0 (wordsFrom 0 xs)) xs)) (kept uuid-flag (uuid-piece uuid-text) [])
-      (λ e. label-reads (labelText (lookup 0 (wordsFrom 0 xs)) xs))
-      (kept-all uuid-flag (uuid-piece uuid-text) [] (λ e. uuid-reads uuid-text (length-pairs 16 0 (lookup 16 (wordsFrom 0 xs) .from) xs)) tt)
+      kept-all label-flag (label-piece (labelWordText (wordWith 0 (wordsFrom 0 xs)) xs)) (kept uuid-flag (uuid-piece uuid-text) [])
+      (λ e. label-reads (labelWordText (wordWith 0 (wordsFrom 0 xs)) xs))
+      (kept-all uuid-flag (uuid-piece uuid-text) [] (λ e. uuid-reads uuid-text (length-pairs 16 0 (wordWith 16 (wordsFrom 0 xs) .from) xs)) tt)
 
   names-fresh : (key : ℕ) → 3 ≤ key → Fresh key names
   unfolding names
   names-fresh key h =
-      kept-fresh key label-flag (label-piece (labelText (lookup 0 (wordsFrom 0 xs)) xs)) (kept uuid-flag (uuid-piece uuid-text) []) (λ e. omega arith)
+      kept-fresh key label-flag (label-piece (labelWordText (wordWith 0 (wordsFrom 0 xs)) xs)) (kept uuid-flag (uuid-piece uuid-text) []) (λ e. omega arith)
       (kept-fresh key uuid-flag (uuid-piece uuid-text) [] (λ e. omega arith) tt)
 
   names-good : Good names
   unfolding names
   names-good =
-      kept-good label-flag (label-piece (labelText (lookup 0 (wordsFrom 0 xs)) xs)) (kept uuid-flag (uuid-piece uuid-text) []) (λ e at. refl)
+      kept-good label-flag (label-piece (labelWordText (wordWith 0 (wordsFrom 0 xs)) xs)) (kept uuid-flag (uuid-piece uuid-text) []) (λ e at. refl)
       (kept-fresh 1 uuid-flag (uuid-piece uuid-text) [] (λ e. omega arith) tt)
       (kept-good uuid-flag (uuid-piece uuid-text) [] (λ e at. refl) tt tt)
 
@@ -266,7 +266,7 @@ module _ (xs : List ℕ) where
   zero-fresh : Fresh 0 names
   unfolding names
   zero-fresh =
-      kept-fresh 0 label-flag (label-piece (labelText (lookup 0 (wordsFrom 0 xs)) xs)) (kept uuid-flag (uuid-piece uuid-text) []) (λ e. omega arith)
+      kept-fresh 0 label-flag (label-piece (labelWordText (wordWith 0 (wordsFrom 0 xs)) xs)) (kept uuid-flag (uuid-piece uuid-text) []) (λ e. omega arith)
       (kept-fresh 0 uuid-flag (uuid-piece uuid-text) [] (λ e. omega arith) tt)
 
   all-good : Good pieces
@@ -332,7 +332,7 @@ module _ (xs : List ℕ) where
       (options-passed key 12 1 names (omega arith) (0 + d) ∙ ap (λ (k : ℕ). lookupRecord key (entries k names)) l)
 
   label-text : List ℕ
-  label-text = labelText (lookup 0 (wordsFrom 0 xs)) xs
+  label-text = labelWordText (wordWith 0 (wordsFrom 0 xs)) xs
 
   label-short : length label-text ≤ 12
   unfolding label-text
@@ -356,7 +356,7 @@ module _ (xs : List ℕ) where
       (names-found 2 (omega arith) (omega arith) ∙ uuid-found label-flag uuid-flag label-text uuid-text (length before)
       ∙ ap (λ (k : ℕ). choose uuid-flag (Given (k + 2)) Absent) l)
       ∙ ap (uuidGiven (choose uuid-flag (Given (length pre + 2)) Absent)) w
-      ∙ uuid-given uuid-flag pre uuid-text [] (length-pairs 16 0 (lookup 16 ws .from) xs)
+      ∙ uuid-given uuid-flag pre uuid-text [] (length-pairs 16 0 (wordWith 16 ws .from) xs)
 
   found-asked : (k : ℕ) → 1 ≤ k → k ≤ 12 → lookupRecord (3 + k) (records 0 (wordsRequest xs)) ≡ optionAsked k (wordsFrom 0 xs)
   unfolding asked value-of
@@ -364,12 +364,12 @@ module _ (xs : List ℕ) where
 
   device-read : given 13 (wordsFrom 0 xs) ≡ true → given 14 (wordsFrom 0 xs) ≡ true → given 15 (wordsFrom 0 xs) ≡ true
       → (beAt 8 2 (wordsRequest xs) ≡ value-of 13) × (beAt 4 10 (wordsRequest xs) ≡ value-of 14) × (beAt 4 14 (wordsRequest xs) ≡ value-of 15)
-  unfolding wordsRequest deviceRecord dv beBytes value-of largest
+  unfolding wordsRequest deviceRecord dv beBytes value-of largestValues
   device-read a b c =
       let ws = wordsFrom 0 xs in
-      let size = lookup 13 ws .value in
-      let logical = lookup 14 ws .value in
-      let physical = lookup 15 ws .value in
+      let size = wordWith 13 ws .value in
+      let logical = wordWith 14 ws .value in
+      let physical = wordWith 15 ws .value in
       let rest = optionRecords 12 1 ws ++ (labelRecord ws xs ++ uuidRecord ws xs) in
       let h = value-small 13 a in
       let i = value-small 14 b in

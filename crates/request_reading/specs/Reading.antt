@@ -14,11 +14,11 @@ use Rattle.params.specs.declared.Label.{Label}
 use Rattle.params.specs.declared.OptUuid.{OptUuid}
 use Rattle.params.specs.declared.Presence.the-variants.{Given as Yes}
 use Rattle.params.specs.Params.{noLabel, noUuid}
-use Rattle.request_input.specs.Records.{wellFormed, label, uuid, option, records, lookup as lookupRecord}
+use Rattle.request_input.specs.Records.{wellFormed, label, uuid, option, records, valueWith as lookupRecord}
 use Rattle.request.specs.Options.{labelGiven, uuidGiven}
 use Rattle.request_words.specs.declared.Word.{Word}
-use Rattle.request_words.specs.Words.{lookup, given, wordsFrom}
-use Rattle.request_words.specs.Asked.{pairs, labelText, wordsRequest}
+use Rattle.request_words.specs.Words.{wordWith, given, wordsFrom}
+use Rattle.request_words.specs.Asked.{pairs, labelWordText, wordsRequest}
 
 -- `parse` never answers 28 to what words ask for
 unfoldable pub Readable : Type 0
@@ -26,7 +26,7 @@ Readable = (xs : List ℕ) → wellFormed (wordsRequest xs) ≡ true
 
 -- the option that a word gives, by its code
 abbrev pub optionAsked : ℕ → List Word → OptU64
-optionAsked code ws = choose (given code ws) (Given (lookup code ws .value)) Absent
+optionAsked code ws = choose (given code ws) (Given (wordWith code ws .value)) Absent
 
 -- each option that is read back is the word's, and absent where there is no word
 unfoldable pub OptionsReadBack : Type 0
@@ -35,18 +35,18 @@ OptionsReadBack = (xs : List ℕ) (code : ℕ) → 1 ≤ code → code ≤ 12 �
 -- so are the device's size and sectors, which no accepted words lack
 unfoldable pub DeviceReadBack : Type 0
 DeviceReadBack = (xs : List ℕ) → given 13 (wordsFrom 0 xs) ≡ true → given 14 (wordsFrom 0 xs) ≡ true → given 15 (wordsFrom 0 xs) ≡ true
-    → (beAt 8 2 (wordsRequest xs) ≡ lookup 13 (wordsFrom 0 xs) .value) × (beAt 4 10 (wordsRequest xs) ≡ lookup 14 (wordsFrom 0 xs) .value)
-    × (beAt 4 14 (wordsRequest xs) ≡ lookup 15 (wordsFrom 0 xs) .value)
+    → (beAt 8 2 (wordsRequest xs) ≡ wordWith 13 (wordsFrom 0 xs) .value) × (beAt 4 10 (wordsRequest xs) ≡ wordWith 14 (wordsFrom 0 xs) .value)
+    × (beAt 4 14 (wordsRequest xs) ≡ wordWith 15 (wordsFrom 0 xs) .value)
 
 -- the label that a word gives: its length, and its bytes filled up with zeros
 abbrev pub labelAsked : List Word → List ℕ → Label
 labelAsked ws xs =
-    let text = labelText (lookup 0 ws) xs in
+    let text = labelWordText (wordWith 0 ws) xs in
     choose (given 0 ws) (record { length = length text; bytes = text ++ replicate (12 - length text) 0 }) noLabel
 
 -- the UUID that a word gives: the bytes that its pairs of digits are
 abbrev pub uuidAsked : List Word → List ℕ → OptUuid
-uuidAsked ws xs = choose (eqb (lookup 16 ws .value) 1) (record { presence = Yes; bytes = pairs 16 0 (lookup 16 ws .from) xs }) noUuid
+uuidAsked ws xs = choose (eqb (wordWith 16 ws .value) 1) (record { presence = Yes; bytes = pairs 16 0 (wordWith 16 ws .from) xs }) noUuid
 
 -- the label that is read back is the word's, and there is none where there is no word
 unfoldable pub LabelReadBack : Type 0

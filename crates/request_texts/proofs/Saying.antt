@@ -14,7 +14,7 @@ use borrow.Author.Tests.{lt-ltb, le-ltb, le-leb, lt-leb, eq-eqb, ne-eqb, ltb-tru
 use Rattle.seqs.specs.Lists.{choose, firstIndex, fold}
 use Rattle.table_lines.specs.Decimal.{valueAfter}
 use Rattle.request_texts.specs.declared.Value.{Value}
-use Rattle.request_texts.specs.Texts.{said, good, malformed, tooLarge, within, letter, notName, named, packed, isDigit, leading, suffix, factor, numberIn}
+use Rattle.request_texts.specs.Texts.{said, goodValue, malformedValue, tooLarge, within, letter, notName, named, packedName, isDigit, leading, suffix, factor, numberText}
 
 -- ---- the rest of a list, from index i on
 module _ {A : Type 0} (xs : List A) (z : A) (i : ℕ) where
@@ -124,7 +124,7 @@ module _ (v : ℕ) (xs : List ℕ) (i : ℕ) where
 pub within-over : (n : ℕ) → 2 ^ 64 ≤ n → tooLarge ≡ within n
 within-over n h = rw (le-ltb n (2 ^ 64) h)
 
-pub within-is : (n v : ℕ) → v < 2 ^ 64 → v ≡ n → good v ≡ within n
+pub within-is : (n v : ℕ) → v < 2 ^ 64 → v ≡ n → goodValue v ≡ within n
 within-is n v h e = rw (← e, lt-ltb v (2 ^ 64) h)
 
 -- ---- what stands behind the digits
@@ -148,11 +148,11 @@ module _ (xs : List ℕ) (n : ℕ) where
 
 -- ---- a number that is within 64 bits, or isn't
 module _ (n : ℕ) (v : Value) where
-  over-at : (t : Bool) → ltb n (2 ^ 64) ≡ t → v ≡ choose t (good n) tooLarge → (v .number ≡ 0 → ⊥) → 2 ^ 64 ≤ n
+  over-at : (t : Bool) → ltb n (2 ^ 64) ≡ t → v ≡ choose t (goodValue n) tooLarge → (v .number ≡ 0 → ⊥) → 2 ^ 64 ≤ n
   over-at true h e ne = absurd (ne (ap (λ (w : Value). w .number) e))
   over-at false h e ne = ltb-false n (2 ^ 64) h
 
-  good-at : (t : Bool) → ltb n (2 ^ 64) ≡ t → v ≡ choose t (good n) tooLarge → v .number ≡ 0 → v .value ≡ n
+  good-at : (t : Bool) → ltb n (2 ^ 64) ≡ t → v ≡ choose t (goodValue n) tooLarge → v .number ≡ 0 → v .value ≡ n
   good-at true h e z = ap (λ (w : Value). w .value) e
   good-at false h e z = let k : v .number ≡ 4 = ap (λ (w : Value). w .number) e in absurd (omega arith)
 
@@ -162,32 +162,32 @@ at-least n (suc m) h ne = let e : n * suc m ≡ n * m + n = mul-suc n m in omega
 
 -- ---- a number
 module _ (text : List ℕ) (n : ℕ) (at : n ≡ leading text) where
-  pub number-none : n ≡ 0 → malformed ≡ numberIn text
-  unfolding numberIn
+  pub number-none : n ≡ 0 → malformedValue ≡ numberText text
+  unfolding numberText
   number-none e = rw (← at, eq-eqb n 0 e)
 
   module _ (m : ℕ) (by : m ≡ factor (drop n text)) (some : n ≡ 0 → ⊥) where
-    pub number-behind : m ≡ 0 → malformed ≡ numberIn text
-    unfolding numberIn
+    pub number-behind : m ≡ 0 → malformedValue ≡ numberText text
+    unfolding numberText
     number-behind e = rw (← at, ne-eqb n 0 some, ← by, eq-eqb m 0 e)
 
-    pub number-is : (m ≡ 0 → ⊥) → within (valueAfter 0 (take n text) * m) ≡ numberIn text
-    unfolding numberIn
+    pub number-is : (m ≡ 0 → ⊥) → within (valueAfter 0 (take n text) * m) ≡ numberText text
+    unfolding numberText
     number-is ne = rw (← at, ne-eqb n 0 some, ← by, ne-eqb m 0 ne)
 
     -- the digits' number is `v`, or too large by itself
     module _ (v : Value) (digits : v ≡ within (valueAfter 0 (take n text))) (ne : m ≡ 0 → ⊥) where
-      pub number-over : (v .number ≡ 0 → ⊥) → tooLarge ≡ numberIn text
+      pub number-over : (v .number ≡ 0 → ⊥) → tooLarge ≡ numberText text
       number-over z =
           let d = valueAfter 0 (take n text) in
           within-over (d * m) (at-least d m (over-at d v (ltb d (2 ^ 64)) refl digits z) ne) ∙ number-is ne
 
-      pub number-fits : v .number ≡ 0 → ltb (v .value * m) (2 ^ 64) ≡ true → good (v .value * m) ≡ numberIn text
+      pub number-fits : v .number ≡ 0 → ltb (v .value * m) (2 ^ 64) ≡ true → goodValue (v .value * m) ≡ numberText text
       number-fits z t =
           let d = valueAfter 0 (take n text) in
           within-is (d * m) (v .value * m) (ltb-true (v .value * m) (2 ^ 64) t) (ap (λ (x : ℕ). x * m) (good-at d v (ltb d (2 ^ 64)) refl digits z)) ∙ number-is ne
 
-      pub number-passes : v .number ≡ 0 → ltb (v .value * m) (2 ^ 64) ≡ false → tooLarge ≡ numberIn text
+      pub number-passes : v .number ≡ 0 → ltb (v .value * m) (2 ^ 64) ≡ false → tooLarge ≡ numberText text
       number-passes z t =
           let d = valueAfter 0 (take n text) in
           let e : v .value ≡ d = good-at d v (ltb d (2 ^ 64)) refl digits z in

@@ -15,18 +15,18 @@ use Rattle.request_texts.specs.declared.Value.{Value}
 abbrev pub said : ℕ → ℕ → Value
 said number value = record { number = number; value = value }
 
-abbrev pub good : ℕ → Value
-good n = said 0 n
+abbrev pub goodValue : ℕ → Value
+goodValue n = said 0 n
 
-abbrev pub malformed : Value
-malformed = said 3 0
+abbrev pub malformedValue : Value
+malformedValue = said 3 0
 
 abbrev pub tooLarge : Value
 tooLarge = said 4 0
 
 -- a number, where it has 64 bits or fewer
 abbrev pub within : ℕ → Value
-within n = choose (ltb n (2 ^ 64)) (good n) tooLarge
+within n = choose (ltb n (2 ^ 64)) (goodValue n) tooLarge
 
 -- ---- names
 
@@ -42,8 +42,8 @@ unfoldable pub named : ℕ → ℕ → ℕ
 named v b = choose (ltb v (2 ^ 58) && ltb 0 (letter b)) (v * 37 + letter b) notName
 
 -- a name as a number in base 37; no digit is 0, so two names have two numbers
-unfoldable pub packed : List ℕ → ℕ
-packed = fold named 0
+unfoldable pub packedName : List ℕ → ℕ
+packedName = fold named 0
 
 -- ---- numbers
 
@@ -71,8 +71,8 @@ factor (b ∷ []) = suffix b
 factor (b ∷ c ∷ bs) = 0
 
 -- digits, one at least, and a suffix or none
-unfoldable pub numberIn : List ℕ → Value
-numberIn text =
-    choose (eqb (leading text) 0) malformed
-    (choose (eqb (factor (drop (leading text) text)) 0) malformed
+unfoldable pub numberText : List ℕ → Value
+numberText text =
+    choose (eqb (leading text) 0) malformedValue
+    (choose (eqb (factor (drop (leading text) text)) 0) malformedValue
     (within (valueAfter 0 (take (leading text) text) * factor (drop (leading text) text))))

@@ -3,7 +3,7 @@ ghost use mathlib.Core.Path.{_≡_};
 ghost use Prim.Native.Nat.{_+_, _-_, _≤_, _<_, _^_};
 ghost use lib.ListN.{length, drop};
 ghost use Rattle.table_lines.specs.Decimal.{valueAfter};
-ghost use Rattle.request_texts.specs.Texts.{said, within, letter as letterDef, named, packed, leading as leadingDef, suffix as suffixDef, factor as factorDef, numberIn};
+ghost use Rattle.request_texts.specs.Texts.{said, within, letter as letterDef, named, packedName, leading as leadingDef, suffix as suffixDef, factor as factorDef, numberText};
 
 // What a text gives; `number` is 0, or says what is wrong beside the value 0.
 pub struct Value {
@@ -66,7 +66,7 @@ pub fn push(v: u64, b: u8) -> u64
 
 // A name as a number.
 pub fn pack(name: &[u8]) -> u64
-    ensures { λ r. ⌜ r ≡ packed (now (name .entry)) ⌝ }
+    ensures { λ r. ⌜ r ≡ packedName (now (name .entry)) ⌝ }
 {
     let mut v = 0;
     let mut i = 0;
@@ -144,7 +144,7 @@ fn factor(text: &[u8], n: usize) -> u64
 
 // A number with a suffix or none.
 pub fn number(text: &[u8]) -> Value
-    ensures { λ r. ⌜ r ≡ numberIn (now (text .entry)) ⌝ }
+    ensures { λ r. ⌜ r ≡ numberText (now (text .entry)) ⌝ }
 {
     let n = leading(text);
     if n == 0 {

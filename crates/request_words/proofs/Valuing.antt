@@ -13,8 +13,8 @@ use Rattle.arith.specs.Choice.{when}
 use Rattle.seqs.specs.Lists.{choose}
 use Rattle.request_texts.specs.declared.Value.{Value}
 use Rattle.request_words.specs.declared.Names.{Names}
-use Rattle.request_texts.specs.Texts.{good, malformed, tooLarge, named, packed, numberIn}
-use Rattle.request_words.specs.Values.{indexIn, names, largest, featureNames, weights, noFeatures, turned, read, finished, nextByte, listed, none, all, featuresIn, sizings, sizingIn, hex, isDash, fitsAt, shaped, uuidIn, valueIn, limited}
+use Rattle.request_texts.specs.Texts.{goodValue, malformedValue, tooLarge, named, packedName, numberText}
+use Rattle.request_words.specs.Values.{indexIn, names, largestValues, featureNames, weights, noFeatureList, turned, featuresRead, lastFeature, nextByte, featureMask, noneName, allName, featuresText, sizings, sizingIn, hex, isDash, fitsAt, shaped, uuidIn, valueIn, limited}
 use Rattle.request_texts.proofs.Saying.{rest-cons, rest-nil}
 
 -- ---- tables
@@ -33,63 +33,63 @@ weight-small (suc (suc (suc (suc (suc zero))))) = omega arith
 weight-small (suc (suc (suc (suc (suc (suc zero)))))) = omega arith
 weight-small (suc (suc (suc (suc (suc (suc (suc n))))))) = omega arith
 
-pub no-largest : (key : ℕ) → 17 ≤ key → 0 ≡ getD largest key 0
-unfolding largest
-no-largest key h = sym (List·getD-eq-default largest 0 h)
+pub no-largest : (key : ℕ) → 17 ≤ key → 0 ≡ getD largestValues key 0
+unfolding largestValues
+no-largest key h = sym (List·getD-eq-default largestValues 0 h)
 
 -- ---- features
 module _ (mask sign w : ℕ) where
-  pub turned-no-list : noFeatures ≤ mask → noFeatures ≡ turned mask sign w
+  pub turned-no-list : noFeatureList ≤ mask → noFeatureList ≡ turned mask sign w
   unfolding turned when
-  turned-no-list h = rw (le-leb noFeatures mask h)
+  turned-no-list h = rw (le-leb noFeatureList mask h)
 
-  pub turned-no-name : mask < noFeatures → w ≡ 0 → noFeatures ≡ turned mask sign w
+  pub turned-no-name : mask < noFeatureList → w ≡ 0 → noFeatureList ≡ turned mask sign w
   unfolding turned when
-  turned-no-name g h = rw (lt-leb noFeatures mask g, eq-eqb w 0 h)
+  turned-no-name g h = rw (lt-leb noFeatureList mask g, eq-eqb w 0 h)
 
-  pub turned-by : mask < noFeatures → (w ≡ 0 → ⊥)
-      → when (eqb sign 43) (when (eqb (mask / w % 2) 1) mask (mask + w)) (when (eqb sign 45) (when (eqb (mask / w % 2) 1) (mask - w) mask) noFeatures) ≡ turned mask sign w
+  pub turned-by : mask < noFeatureList → (w ≡ 0 → ⊥)
+      → when (eqb sign 43) (when (eqb (mask / w % 2) 1) mask (mask + w)) (when (eqb sign 45) (when (eqb (mask / w % 2) 1) (mask - w) mask) noFeatureList) ≡ turned mask sign w
   unfolding turned when
-  turned-by g ne = rw (lt-leb noFeatures mask g, ne-eqb w 0 ne)
+  turned-by g ne = rw (lt-leb noFeatureList mask g, ne-eqb w 0 ne)
 
 module _ (s : Names) (b : ℕ) where
-  pub byte-comma : (mask : ℕ) → mask ≡ finished s → b ≡ 44 → read mask 0 0 ≡ nextByte s b
+  pub byte-comma : (mask : ℕ) → mask ≡ lastFeature s → b ≡ 44 → featuresRead mask 0 0 ≡ nextByte s b
   unfolding nextByte
   byte-comma mask e h = rw (eq-eqb b 44 h, e)
 
-  pub byte-sign : (b ≡ 44 → ⊥) → s .sign ≡ 0 → read (s .mask) b 0 ≡ nextByte s b
+  pub byte-sign : (b ≡ 44 → ⊥) → s .sign ≡ 0 → featuresRead (s .mask) b 0 ≡ nextByte s b
   unfolding nextByte
   byte-sign ne h = rw (ne-eqb b 44 ne, eq-eqb (s .sign) 0 h)
 
-  pub byte-name : (b ≡ 44 → ⊥) → (s .sign ≡ 0 → ⊥) → (name : ℕ) → name ≡ named (s .name) b → read (s .mask) (s .sign) name ≡ nextByte s b
+  pub byte-name : (b ≡ 44 → ⊥) → (s .sign ≡ 0 → ⊥) → (name : ℕ) → name ≡ named (s .name) b → featuresRead (s .mask) (s .sign) name ≡ nextByte s b
   unfolding nextByte
   byte-name ne nz name e = rw (ne-eqb b 44 ne, ne-eqb (s .sign) 0 nz, e)
 
-module _ (text : List ℕ) (name : ℕ) (is : name ≡ packed text) where
-  pub features-none : name ≡ none → good 0 ≡ featuresIn text
-  unfolding featuresIn
-  features-none h = rw (← is, eq-eqb name none h)
+module _ (text : List ℕ) (name : ℕ) (is : name ≡ packedName text) where
+  pub features-none : name ≡ noneName → goodValue 0 ≡ featuresText text
+  unfolding featuresText
+  features-none h = rw (← is, eq-eqb name noneName h)
 
-  pub features-all : (name ≡ none → ⊥) → name ≡ all → good 127 ≡ featuresIn text
-  unfolding featuresIn
-  features-all ne h = rw (← is, ne-eqb name none ne, eq-eqb name all h)
+  pub features-all : (name ≡ noneName → ⊥) → name ≡ allName → goodValue 127 ≡ featuresText text
+  unfolding featuresText
+  features-all ne h = rw (← is, ne-eqb name noneName ne, eq-eqb name allName h)
 
-  module _ (ne : name ≡ none → ⊥) (nor : name ≡ all → ⊥) (mask : ℕ) (of : mask ≡ listed text) where
-    pub features-listed : mask < noFeatures → good mask ≡ featuresIn text
-    unfolding featuresIn
-    features-listed h = rw (← is, ne-eqb name none ne, ne-eqb name all nor, ← of, lt-ltb mask noFeatures h)
+  module _ (ne : name ≡ noneName → ⊥) (nor : name ≡ allName → ⊥) (mask : ℕ) (of : mask ≡ featureMask text) where
+    pub features-listed : mask < noFeatureList → goodValue mask ≡ featuresText text
+    unfolding featuresText
+    features-listed h = rw (← is, ne-eqb name noneName ne, ne-eqb name allName nor, ← of, lt-ltb mask noFeatureList h)
 
-    pub features-bad : noFeatures ≤ mask → malformed ≡ featuresIn text
-    unfolding featuresIn
-    features-bad h = rw (← is, ne-eqb name none ne, ne-eqb name all nor, ← of, le-ltb mask noFeatures h)
+    pub features-bad : noFeatureList ≤ mask → malformedValue ≡ featuresText text
+    unfolding featuresText
+    features-bad h = rw (← is, ne-eqb name noneName ne, ne-eqb name allName nor, ← of, le-ltb mask noFeatureList h)
 
 -- ---- sizing
-module _ (text : List ℕ) (i : ℕ) (at : i ≡ indexIn sizings (packed text)) where
-  pub sizing-is : i < 2 → good i ≡ sizingIn text
+module _ (text : List ℕ) (i : ℕ) (at : i ≡ indexIn sizings (packedName text)) where
+  pub sizing-is : i < 2 → goodValue i ≡ sizingIn text
   unfolding sizingIn
   sizing-is h = rw (← at, lt-ltb i 2 h)
 
-  pub sizing-bad : 2 ≤ i → malformed ≡ sizingIn text
+  pub sizing-bad : 2 ≤ i → malformedValue ≡ sizingIn text
   unfolding sizingIn
   sizing-bad h = rw (← at, le-ltb i 2 h)
 
@@ -178,31 +178,31 @@ module _ (xs : List ℕ) (i : ℕ) where
   unfolding shaped
   shaped-end h = rw (rest-nil xs i h)
 
-module _ (text : List ℕ) (name : ℕ) (is : name ≡ packed text) where
-  pub uuid-none : name ≡ none → good 0 ≡ uuidIn text
+module _ (text : List ℕ) (name : ℕ) (is : name ≡ packedName text) where
+  pub uuid-none : name ≡ noneName → goodValue 0 ≡ uuidIn text
   unfolding uuidIn
-  uuid-none h = rw (← is, eq-eqb name none h)
+  uuid-none h = rw (← is, eq-eqb name noneName h)
 
-  module _ (ne : name ≡ none → ⊥) where
-    pub uuid-is : length text ≡ 36 → shaped 0 text ≡ true → good 1 ≡ uuidIn text
+  module _ (ne : name ≡ noneName → ⊥) where
+    pub uuid-is : length text ≡ 36 → shaped 0 text ≡ true → goodValue 1 ≡ uuidIn text
     unfolding uuidIn
-    uuid-is l h = rw (← is, ne-eqb name none ne, eq-eqb (length text) 36 l, h)
+    uuid-is l h = rw (← is, ne-eqb name noneName ne, eq-eqb (length text) 36 l, h)
 
-    pub uuid-shape : length text ≡ 36 → shaped 0 text ≡ false → malformed ≡ uuidIn text
+    pub uuid-shape : length text ≡ 36 → shaped 0 text ≡ false → malformedValue ≡ uuidIn text
     unfolding uuidIn
-    uuid-shape l h = rw (← is, ne-eqb name none ne, eq-eqb (length text) 36 l, h)
+    uuid-shape l h = rw (← is, ne-eqb name noneName ne, eq-eqb (length text) 36 l, h)
 
-    pub uuid-length : (length text ≡ 36 → ⊥) → malformed ≡ uuidIn text
+    pub uuid-length : (length text ≡ 36 → ⊥) → malformedValue ≡ uuidIn text
     unfolding uuidIn
-    uuid-length l = rw (← is, ne-eqb name none ne, ne-eqb (length text) 36 l)
+    uuid-length l = rw (← is, ne-eqb name noneName ne, ne-eqb (length text) 36 l)
 
 -- ---- by the key
 module _ (key : ℕ) (text : List ℕ) where
-  pub of-label : key ≡ 0 → good (length text) ≡ valueIn key text
+  pub of-label : key ≡ 0 → goodValue (length text) ≡ valueIn key text
   unfolding valueIn
   of-label e = rw (eq-eqb key 0 e)
 
-  pub of-features : key ≡ 9 → featuresIn text ≡ valueIn key text
+  pub of-features : key ≡ 9 → featuresText text ≡ valueIn key text
   unfolding valueIn
   of-features e = rw e
 
@@ -214,11 +214,11 @@ module _ (key : ℕ) (text : List ℕ) where
   unfolding valueIn
   of-uuid e = rw e
 
-  pub of-number : (key ≡ 0 → ⊥) → (key ≡ 9 → ⊥) → (key ≡ 12 → ⊥) → (key ≡ 16 → ⊥) → numberIn text ≡ valueIn key text
+  pub of-number : (key ≡ 0 → ⊥) → (key ≡ 9 → ⊥) → (key ≡ 12 → ⊥) → (key ≡ 16 → ⊥) → numberText text ≡ valueIn key text
   unfolding valueIn
   of-number a b c d = rw (ne-eqb key 0 a, ne-eqb key 9 b, ne-eqb key 12 c, ne-eqb key 16 d)
 
-module _ (key : ℕ) (v w : Value) (e : v ≡ w) (m : ℕ) (of : m ≡ getD largest key 0) where
+module _ (key : ℕ) (v w : Value) (e : v ≡ w) (m : ℕ) (of : m ≡ getD largestValues key 0) where
   pub limited-is : v .value ≤ m → v ≡ limited key w
   unfolding limited
   limited-is h = rw (← of, ← e, le-leb (v .value) m h)

@@ -14,9 +14,9 @@ use Rattle.seqs.proofs.Laws.{choose-elim}
 use Rattle.request_texts.specs.declared.Value.{Value}
 use Rattle.request_words.specs.declared.Word.{Word}
 use Rattle.request_words.specs.declared.Verdict.{Verdict}
-use Rattle.request_texts.specs.Texts.{packed}
+use Rattle.request_texts.specs.Texts.{packedName}
 use Rattle.request_words.specs.Values.{indexIn, names, valueIn, limited}
-use Rattle.request_words.specs.Words.{unknown, twice, missing, noKey, placeOf, word, noWord, withValue, meant, wordBy, wordAt, more, split, wordsFrom, lookup, given, verdict, judged, complete, verdictOf}
+use Rattle.request_words.specs.Words.{unknownName, twice, missing, noKey, placeOfByte, word, noWord, withValue, meant, wordBy, wordAt, wordThen, splitWords, wordsFrom, wordWith, given, verdict, judged, complete, wordsVerdict}
 
 -- ---- one word
 module _ (key from end next : ℕ) (xs : List ℕ) where
@@ -24,7 +24,7 @@ module _ (key from end next : ℕ) (xs : List ℕ) where
   unfolding meant
   meant-known h v e = rw (lt-ltb key 17 h, e)
 
-  pub meant-unknown : 17 ≤ key → word unknown noKey 0 from end next ≡ meant key from end next xs
+  pub meant-unknown : 17 ≤ key → word unknownName noKey 0 from end next ≡ meant key from end next xs
   unfolding meant
   meant-unknown h = rw (le-ltb key 17 h)
 
@@ -37,10 +37,10 @@ module _ (at : ℕ) (xs : List ℕ) (h : at < length xs) where
   unfolding wordBy
   next-by end eq =
       choose-elim (λ (w : Word). w .next ≡ min (end + 1) (length xs)) (ltb eq end) _ _
-      (λ e. meant-next (indexIn names (packed (part at (eq - at) xs))) (eq + 1) end (min (end + 1) (length xs)) xs) (λ e. refl)
+      (λ e. meant-next (indexIn names (packedName (part at (eq - at) xs))) (eq + 1) end (min (end + 1) (length xs)) xs) (λ e. refl)
 
   pub word-ends : (at < wordAt at xs .next) × (wordAt at xs .next ≤ length xs)
-  unfolding wordAt placeOf
+  unfolding wordAt placeOfByte
   word-ends =
       let e = next-by (at + firstIndex (λ c. eqb c 0) (drop at xs)) (at + firstIndex (λ c. eqb c 61) (drop at xs)) in
       (omega arith, omega arith)
@@ -49,33 +49,33 @@ module _ (at : ℕ) (xs : List ℕ) (h : at < length xs) where
     pub answered : w ≡ wordAt at xs → (w ≡ wordAt at xs) × (at < w .next) × (w .next ≤ length xs)
     answered e = let d = word-ends in (e, rw e (d .0), rw e (d .1))
 
-module _ (at : ℕ) (xs : List ℕ) (end eq next : ℕ) (e : end ≡ placeOf 0 at xs) (q : eq ≡ placeOf 61 at xs) (n : next ≡ min (end + 1) (length xs)) where
-  pub word-named : eq < end → (key : ℕ) → key ≡ indexIn names (packed (part at (eq - at) xs)) → meant key (eq + 1) end next xs ≡ wordAt at xs
+module _ (at : ℕ) (xs : List ℕ) (end eq next : ℕ) (e : end ≡ placeOfByte 0 at xs) (q : eq ≡ placeOfByte 61 at xs) (n : next ≡ min (end + 1) (length xs)) where
+  pub word-named : eq < end → (key : ℕ) → key ≡ indexIn names (packedName (part at (eq - at) xs)) → meant key (eq + 1) end next xs ≡ wordAt at xs
   unfolding wordAt wordBy
   word-named h key k = rw (← e, ← q, lt-ltb eq end h, ← k, ← n)
 
-  pub word-unnamed : end ≤ eq → word unknown noKey 0 at end next ≡ wordAt at xs
+  pub word-unnamed : end ≤ eq → word unknownName noKey 0 at end next ≡ wordAt at xs
   unfolding wordAt wordBy
   word-unnamed h = rw (← e, ← q, le-ltb eq end h, ← n)
 
 -- ---- the words from an offset on
-same-more : (t : Bool) (w : Word) (ws vs : List Word) → (t ≡ true → ws ≡ vs) → more t w ws ≡ more t w vs
+same-more : (t : Bool) (w : Word) (ws vs : List Word) → (t ≡ true → ws ≡ vs) → wordThen t w ws ≡ wordThen t w vs
 same-more true w ws vs f = ap (λ (l : List Word). w ∷ l) (f refl)
 same-more false w ws vs f = refl
 
 module _ (xs : List ℕ) where
-  split-end : (n at : ℕ) → length xs ≤ at → split n at xs ≡ []
-  unfolding split
+  split-end : (n at : ℕ) → length xs ≤ at → splitWords n at xs ≡ []
+  unfolding splitWords
   split-end zero at h = refl
   split-end (suc n) at h = rw (le-ltb at (length xs) h) refl
 
   -- as many turns as bytes are left are enough
-  enough : (n m at : ℕ) → length xs - at ≤ n → length xs - at ≤ m → split n at xs ≡ split m at xs
-  unfolding split
+  enough : (n m at : ℕ) → length xs - at ≤ n → length xs - at ≤ m → splitWords n at xs ≡ splitWords m at xs
+  unfolding splitWords
   enough zero m at h k = sym (split-end m at (omega arith))
   enough (suc n) zero at h k = split-end (suc n) at (omega arith)
   enough (suc n) (suc m) at h k =
-      same-more (ltb at (length xs)) (wordAt at xs) (split n (wordAt at xs .next) xs) (split m (wordAt at xs .next) xs)
+      same-more (ltb at (length xs)) (wordAt at xs) (splitWords n (wordAt at xs .next) xs) (splitWords m (wordAt at xs .next) xs)
       (λ e. let d = word-ends at xs (ltb-true at (length xs) e) in enough n m (wordAt at xs .next) (omega arith) (omega arith))
 
   pub words-end : (at : ℕ) → length xs ≤ at → wordsFrom at xs ≡ []
@@ -83,11 +83,11 @@ module _ (xs : List ℕ) where
   words-end at h = split-end (length xs - at) at h
 
   pub words-more : (at : ℕ) → at < length xs → wordsFrom at xs ≡ wordAt at xs ∷ wordsFrom (wordAt at xs .next) xs
-  unfolding wordsFrom split
+  unfolding wordsFrom splitWords
   words-more at h =
       let d = word-ends at xs h in
       let e : length xs - at ≡ suc (length xs - suc at) = omega arith in
-      ap (λ (n : ℕ). split n at xs) e
+      ap (λ (n : ℕ). splitWords n at xs) e
       ∙ rw (lt-ltb at (length xs) h) (ap (λ (ws : List Word). wordAt at xs ∷ ws) (enough (length xs - suc at) (length xs - wordAt at xs .next) (wordAt at xs .next) (omega arith) (omega arith)))
 
 -- ---- a turn of each loop: `w` is the word at `at`
@@ -96,12 +96,12 @@ module _ (at : ℕ) (xs : List ℕ) (w : Word) (here : w ≡ wordAt at xs) (h : 
   this = rw here (words-more xs at h)
 
   module _ (key : ℕ) where
-    pub lookup-here : w .key ≡ key → lookup key (wordsFrom at xs) ≡ w
-    unfolding lookup
+    pub lookup-here : w .key ≡ key → wordWith key (wordsFrom at xs) ≡ w
+    unfolding wordWith
     lookup-here e = rw (this, eq-eqb (w .key) key e) refl
 
-    pub lookup-later : (w .key ≡ key → ⊥) → lookup key (wordsFrom at xs) ≡ lookup key (wordsFrom (w .next) xs)
-    unfolding lookup
+    pub lookup-later : (w .key ≡ key → ⊥) → wordWith key (wordsFrom at xs) ≡ wordWith key (wordsFrom (w .next) xs)
+    unfolding wordWith
     lookup-later ne = rw (this, ne-eqb (w .key) key ne) refl
 
   module _ (i : ℕ) where
@@ -109,7 +109,7 @@ module _ (at : ℕ) (xs : List ℕ) (w : Word) (here : w ≡ wordAt at xs) (h : 
     unfolding judged
     judged-wrong ne = rw (this, ne-eqb (w .number) 0 ne) refl
 
-    module _ (again : Word) (found : again ≡ lookup (w .key) (wordsFrom (w .next) xs)) (z : w .number ≡ 0) where
+    module _ (again : Word) (found : again ≡ wordWith (w .key) (wordsFrom (w .next) xs)) (z : w .number ≡ 0) where
       pub judged-twice : again .key ≡ w .key → judged i (wordsFrom at xs) ≡ verdict twice i
       unfolding judged
       judged-twice e = rw (this, eq-eqb (w .number) 0 z, ← found, eq-eqb (again .key) (w .key) e) refl
@@ -118,8 +118,8 @@ module _ (at : ℕ) (xs : List ℕ) (w : Word) (here : w ≡ wordAt at xs) (h : 
       unfolding judged
       judged-later ne = rw (this, eq-eqb (w .number) 0 z, ← found, ne-eqb (again .key) (w .key) ne) refl
 
-pub lookup-end : (key at : ℕ) (xs : List ℕ) → length xs ≤ at → lookup key (wordsFrom at xs) ≡ noWord
-unfolding lookup
+pub lookup-end : (key at : ℕ) (xs : List ℕ) → length xs ≤ at → wordWith key (wordsFrom at xs) ≡ noWord
+unfolding wordWith
 lookup-end key at xs h = rw (words-end xs at h) refl
 
 pub judged-end : (i at : ℕ) (xs : List ℕ) → length xs ≤ at → judged i (wordsFrom at xs) ≡ verdict 0 0
@@ -128,12 +128,12 @@ judged-end i at xs h = rw (words-end xs at h) refl
 
 -- ---- the verdict
 module _ (xs : List ℕ) (v : Verdict) (by : v ≡ judged 0 (wordsFrom 0 xs)) where
-  pub verdict-wrong : (v .number ≡ 0 → ⊥) → v ≡ verdictOf xs
-  unfolding verdictOf
+  pub verdict-wrong : (v .number ≡ 0 → ⊥) → v ≡ wordsVerdict xs
+  unfolding wordsVerdict
   verdict-wrong ne = rw (← by, ne-eqb (v .number) 0 ne)
 
-  pub verdict-good : v .number ≡ 0 → complete (wordsFrom 0 xs) ≡ verdictOf xs
-  unfolding verdictOf
+  pub verdict-good : v .number ≡ 0 → complete (wordsFrom 0 xs) ≡ wordsVerdict xs
+  unfolding wordsVerdict
   verdict-good z = rw (← by, eq-eqb (v .number) 0 z)
 
 module _ (ws : List Word) where

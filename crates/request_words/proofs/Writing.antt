@@ -14,7 +14,7 @@ use Rattle.arith.specs.Choice.{when}
 use Rattle.seqs.specs.Lists.{choose, firstIndex}
 use Rattle.seqs.proofs.Laws.{choose-elim, index-le}
 use Rattle.endian.specs.Bytes.{beBytes, patch}
-use Rattle.endian.specs.Fields.{part, run, write, table}
+use Rattle.endian.specs.Fields.{part, byteRun, writeFields, table}
 use Rattle.endian.proofs.Laws.{patch-append, length-be, length-patch}
 use Rattle.endian.proofs.Order.{trade}
 use Rattle.request.specs.Cases.{dv, op, lb, id}
@@ -22,10 +22,10 @@ use Rattle.request_texts.specs.declared.Value.{Value}
 use Rattle.request_words.specs.declared.Word.{Word}
 use Rattle.request_words.specs.declared.Verdict.{Verdict}
 use Rattle.request_words.specs.declared.Made.{Made}
-use Rattle.request_texts.specs.Texts.{packed}
-use Rattle.request_words.specs.Values.{indexIn, names, largest, valueIn, limited}
-use Rattle.request_words.specs.Words.{noWord, placeOf, meant, wordBy, wordAt, more, split, wordsFrom, lookup, given, verdictOf}
-use Rattle.request_words.specs.Asked.{digitsAt, pairAt, pairs, deviceRecord, optionRecord, optionRecords, labelText, labelRecord, uuidRecord, recordsOf, wordsRequest, made, Puts, Makes}
+use Rattle.request_texts.specs.Texts.{packedName}
+use Rattle.request_words.specs.Values.{indexIn, names, largestValues, valueIn, limited}
+use Rattle.request_words.specs.Words.{noWord, placeOfByte, meant, wordBy, wordAt, wordThen, splitWords, wordsFrom, wordWith, given, wordsVerdict}
+use Rattle.request_words.specs.Asked.{digitsAt, pairAt, pairs, deviceRecord, optionRecord, optionRecords, labelWordText, labelRecord, uuidRecord, wordsRecords, wordsRequest, madeAs, Puts, Makes}
 
 -- ---- bytes written behind others
 or-right : (a b : Bool) → b ≡ true → T (a || b)
@@ -34,7 +34,7 @@ or-right false b e = rw e tt
 
 pub patch-then : (o : ℕ) (ps bs xs : List ℕ) → patch (o + length ps) bs (patch o ps xs) ≡ patch o (ps ++ bs) xs
 patch-then o ps bs xs =
-    trade (run (o + length ps) bs) (run o ps) xs (or-right (leb (o + length ps + length bs) o) (leb (o + length ps) (o + length ps)) (le-leb (o + length ps) (o + length ps) (omega arith)))
+    trade (byteRun (o + length ps) bs) (byteRun o ps) xs (or-right (leb (o + length ps + length bs) o) (leb (o + length ps) (o + length ps)) (le-leb (o + length ps) (o + length ps) (omega arith)))
     ∙ sym (patch-append o ps bs xs)
 
 module _ (at : ℕ) (ps bs : List ℕ) (m n : ℕ) (old mid left : List ℕ) (e f : ℕ) where
@@ -53,28 +53,28 @@ puts-none at most old = record { ends = sym (add-zero at); fits = omega arith; l
 
 -- ---- what holds of every word holds of the one that is found
 module _ (xs : List ℕ) (P : Word → Type 0) (no-word : P noWord) (here : (at : ℕ) → at < length xs → P (wordAt at xs)) where
-  more-all : (key n at : ℕ) (t : Bool) → ltb at (length xs) ≡ t → P (lookup key (split n (wordAt at xs .next) xs))
-      → P (lookup key (more t (wordAt at xs) (split n (wordAt at xs .next) xs)))
-  unfolding lookup
+  more-all : (key n at : ℕ) (t : Bool) → ltb at (length xs) ≡ t → P (wordWith key (splitWords n (wordAt at xs .next) xs))
+      → P (wordWith key (wordThen t (wordAt at xs) (splitWords n (wordAt at xs .next) xs)))
+  unfolding wordWith
   more-all key n at true e i = choose-elim P (eqb (wordAt at xs .key) key) _ _ (λ f. here at (ltb-true at (length xs) e)) (λ f. i)
   more-all key n at false e i = no-word
 
-  split-all : (key n at : ℕ) → P (lookup key (split n at xs))
-  unfolding split lookup
+  split-all : (key n at : ℕ) → P (wordWith key (splitWords n at xs))
+  unfolding splitWords wordWith
   split-all key zero at = no-word
   split-all key (suc n) at = more-all key n at (ltb at (length xs)) refl (split-all key n (wordAt at xs .next))
 
-  pub lookup-all : (key at : ℕ) → P (lookup key (wordsFrom at xs))
+  pub lookup-all : (key at : ℕ) → P (wordWith key (wordsFrom at xs))
   unfolding wordsFrom
   lookup-all key at = split-all key (length xs - at) at
 
 -- ---- its value isn't larger than its key allows
 abbrev Small : Word → Type 0
-Small w = w .value ≤ getD largest (w .key) 0
+Small w = w .value ≤ getD largestValues (w .key) 0
 
-limited-small : (key : ℕ) (v : Value) → limited key v .value ≤ getD largest key 0
+limited-small : (key : ℕ) (v : Value) → limited key v .value ≤ getD largestValues key 0
 unfolding limited
-limited-small key v = choose-elim (λ (w : Value). w .value ≤ getD largest key 0) (leb (v .value) (getD largest key 0)) _ _ (λ e. leb-true (v .value) (getD largest key 0) e) (λ e. omega arith)
+limited-small key v = choose-elim (λ (w : Value). w .value ≤ getD largestValues key 0) (leb (v .value) (getD largestValues key 0)) _ _ (λ e. leb-true (v .value) (getD largestValues key 0) e) (λ e. omega arith)
 
 meant-small : (key from end next : ℕ) (xs : List ℕ) → Small (meant key from end next xs)
 unfolding meant
@@ -85,13 +85,13 @@ by-small : (at end eq : ℕ) (xs : List ℕ) → Small (wordBy at end eq xs)
 unfolding wordBy
 by-small at end eq xs =
     choose-elim Small (ltb eq end) _ _
-    (λ e. meant-small (indexIn names (packed (part at (eq - at) xs))) (eq + 1) end (min (end + 1) (length xs)) xs) (λ e. omega arith)
+    (λ e. meant-small (indexIn names (packedName (part at (eq - at) xs))) (eq + 1) end (min (end + 1) (length xs)) xs) (λ e. omega arith)
 
 at-small : (xs : List ℕ) (at : ℕ) → Small (wordAt at xs)
 unfolding wordAt
-at-small xs at = by-small at (placeOf 0 at xs) (placeOf 61 at xs) xs
+at-small xs at = by-small at (placeOfByte 0 at xs) (placeOfByte 61 at xs) xs
 
-pub found-small : (xs : List ℕ) (key : ℕ) → lookup key (wordsFrom 0 xs) .value ≤ getD largest (lookup key (wordsFrom 0 xs) .key) 0
+pub found-small : (xs : List ℕ) (key : ℕ) → wordWith key (wordsFrom 0 xs) .value ≤ getD largestValues (wordWith key (wordsFrom 0 xs) .key) 0
 found-small xs key = lookup-all xs Small (omega arith) (λ at h. at-small xs at) key 0
 
 -- ---- where a word's text stands
@@ -107,17 +107,17 @@ module _ (xs : List ℕ) where
   unfolding wordBy
   by-inside at end eq h k =
       choose-elim (Inside xs) (ltb eq end) _ _
-      (λ e. meant-inside (indexIn names (packed (part at (eq - at) xs))) (eq + 1) end (min (end + 1) (length xs)) (let l = ltb-true eq end e in omega arith) k)
+      (λ e. meant-inside (indexIn names (packedName (part at (eq - at) xs))) (eq + 1) end (min (end + 1) (length xs)) (let l = ltb-true eq end e in omega arith) k)
       (λ e. (h, k))
 
   at-inside : (at : ℕ) → at < length xs → Inside xs (wordAt at xs)
-  unfolding wordAt placeOf
+  unfolding wordAt placeOfByte
   at-inside at h =
       let l = index-le (λ c. eqb c 0) (drop at xs) in
       let d = length-drop at xs in
       by-inside at (at + firstIndex (λ c. eqb c 0) (drop at xs)) (at + firstIndex (λ c. eqb c 61) (drop at xs)) (omega arith) (omega arith)
 
-  pub found-inside : (w : Word) (key at : ℕ) → w ≡ lookup key (wordsFrom at xs) → (w .from ≤ w .end) × (w .end ≤ length xs)
+  pub found-inside : (w : Word) (key at : ℕ) → w ≡ wordWith key (wordsFrom at xs) → (w .from ≤ w .end) × (w .end ≤ length xs)
   found-inside w key at e = let i = lookup-all xs (Inside xs) (omega arith, omega arith) at-inside key at in (rw e (i .0), rw e (i .1))
 
 -- ---- the UUID's bytes
@@ -167,7 +167,7 @@ length-pairs zero j from xs = refl
 length-pairs (suc n) j from xs = ap suc (length-pairs n (j + 1) from xs)
 
 -- ---- each record
-pub option-bytes : (code value : ℕ) → code < 256 → write (table (0 ∷ 2 ∷ 2 ∷ 1 ∷ 3 ∷ 8 ∷ []) (0x4f50 ∷ code ∷ value ∷ [])) (replicate 11 0) ≡ op code value
+pub option-bytes : (code value : ℕ) → code < 256 → writeFields (table (0 ∷ 2 ∷ 2 ∷ 1 ∷ 3 ∷ 8 ∷ []) (0x4f50 ∷ code ∷ value ∷ [])) (replicate 11 0) ≡ op code value
 unfolding op beBytes patch
 option-bytes code value h =
     let e : code / 256 ^ 0 % 256 ≡ code = omega arith in
@@ -177,7 +177,7 @@ pub put-here : (at : ℕ) (bytes : List ℕ) (most : ℕ) (old left : List ℕ) 
     → Puts at bytes most old end left
 put-here at bytes most old left end e f l = record { ends = e; fits = f; left-is = l }
 
-module _ (code at : ℕ) (ws : List Word) (w : Word) (found : w ≡ lookup code ws) (old : List ℕ) where
+module _ (code at : ℕ) (ws : List Word) (w : Word) (found : w ≡ wordWith code ws) (old : List ℕ) where
   pub option-put : w .key ≡ code → (bs left : List ℕ) → bs ≡ op code (w .value) → left ≡ patch at bs old → Puts at (optionRecord code ws) 11 old (at + 11) left
   unfolding optionRecord op beBytes
   option-put e bs left b l =
@@ -235,7 +235,7 @@ options-ended ws code h =
     let e : 13 - code ≡ 0 = omega arith in
     rw e refl
 
-module _ (at : ℕ) (ws : List Word) (xs : List ℕ) (w : Word) (found : w ≡ lookup 0 ws) (old : List ℕ) where
+module _ (at : ℕ) (ws : List Word) (xs : List ℕ) (w : Word) (found : w ≡ wordWith 0 ws) (old : List ℕ) where
   pub label-put : w .key ≡ 0 → (n : ℕ) → n ≡ min (w .end - w .from) 12 → w .from ≤ w .end → w .end ≤ length xs → (mid left : List ℕ)
       → mid ≡ patch at (76 ∷ 66 ∷ n ∷ []) old → left ≡ patch (at + 3) (part (w .from) (w .from + n - w .from) xs) mid → Puts at (labelRecord ws xs) 15 old (at + 3 + n) left
   unfolding labelRecord lb beBytes
@@ -251,7 +251,7 @@ module _ (at : ℕ) (ws : List Word) (xs : List ℕ) (w : Word) (found : w ≡ l
   unfolding labelRecord
   label-skip ne = rw (← found, ne-eqb (w .key) 0 ne) (puts-none at 15 old)
 
-module _ (at : ℕ) (ws : List Word) (xs : List ℕ) (w : Word) (found : w ≡ lookup 16 ws) (old : List ℕ) where
+module _ (at : ℕ) (ws : List Word) (xs : List ℕ) (w : Word) (found : w ≡ wordWith 16 ws) (old : List ℕ) where
   pub uuid-put : w .value ≡ 1 → (mid left : List ℕ) → mid ≡ patch at (73 ∷ 68 ∷ []) old → left ≡ patch (at + 2) (pairs 16 0 (w .from) xs) mid → Puts at (uuidRecord ws xs) 18 old (at + 18) left
   unfolding uuidRecord id beBytes
   uuid-put e mid left i l =
@@ -264,7 +264,7 @@ module _ (at : ℕ) (ws : List Word) (xs : List ℕ) (w : Word) (found : w ≡ l
   unfolding uuidRecord
   uuid-skip ne = rw (← found, ne-eqb (w .value) 1 ne) (puts-none at 18 old)
 
-pub device-put : (ws : List Word) (a b c : Word) → a ≡ lookup 13 ws → b ≡ lookup 14 ws → c ≡ lookup 15 ws → (bs old left : List ℕ) → bs ≡ dv (a .value) (b .value) (c .value)
+pub device-put : (ws : List Word) (a b c : Word) → a ≡ wordWith 13 ws → b ≡ wordWith 14 ws → c ≡ wordWith 15 ws → (bs old left : List ℕ) → bs ≡ dv (a .value) (b .value) (c .value)
     → left ≡ patch 0 bs old → left ≡ patch 0 (deviceRecord ws) old
 unfolding deviceRecord
 device-put ws a b c d e f bs old left g l = l ∙ rw (g, d, e, f) refl
@@ -286,14 +286,14 @@ records-put xs old a b c left e f g d o l u =
 
 -- ---- the answer
 module _ (xs old : List ℕ) where
-  pub makes-short : length old < 183 → Makes xs old (made 27 0 0) old
+  pub makes-short : length old < 183 → Makes xs old (madeAs 27 0 0) old
   makes-short h = record { answer = rw (lt-leb 183 (length old) h) refl; bytes = rw (lt-leb 183 (length old) h) refl }
 
-  module _ (h : 183 ≤ length old) (v : Verdict) (by : v ≡ verdictOf xs) where
-    pub makes-wrong : (v .number ≡ 0 → ⊥) → Makes xs old (made (v .number) (v .index) 0) old
+  module _ (h : 183 ≤ length old) (v : Verdict) (by : v ≡ wordsVerdict xs) where
+    pub makes-wrong : (v .number ≡ 0 → ⊥) → Makes xs old (madeAs (v .number) (v .index) 0) old
     makes-wrong ne =
         record { answer = rw (le-leb 183 (length old) h, ← by, ne-eqb (v .number) 0 ne) refl; bytes = rw (le-leb 183 (length old) h, ← by, ne-eqb (v .number) 0 ne) refl }
 
-    pub makes-records : v .number ≡ 0 → (n : ℕ) → n ≡ length (wordsRequest xs) → (left : List ℕ) → left ≡ patch 0 (wordsRequest xs) old → Makes xs old (made 0 0 n) left
+    pub makes-records : v .number ≡ 0 → (n : ℕ) → n ≡ length (wordsRequest xs) → (left : List ℕ) → left ≡ patch 0 (wordsRequest xs) old → Makes xs old (madeAs 0 0 n) left
     makes-records z n e left l =
         record { answer = rw (le-leb 183 (length old) h, ← by, eq-eqb (v .number) 0 z, e) refl; bytes = rw (le-leb 183 (length old) h, ← by, eq-eqb (v .number) 0 z) l }

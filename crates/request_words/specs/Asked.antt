@@ -13,7 +13,7 @@ use Rattle.endian.specs.Bytes.{patch}
 use Rattle.endian.specs.Fields.{part}
 use Rattle.request.specs.Cases.{dv, op, lb, id}
 use Rattle.request_words.specs.Values.{hex}
-use Rattle.request_words.specs.Words.{lookup, given, wordsFrom, verdictOf, verdict}
+use Rattle.request_words.specs.Words.{wordWith, given, wordsFrom, wordsVerdict, verdict}
 use Rattle.request_words.specs.declared.Word.{Word}
 use Rattle.request_words.specs.declared.Made.{Made}
 use Rattle.request_words.specs.declared.Verdict.{Verdict}
@@ -35,10 +35,10 @@ pairs (suc n) j from xs = pairAt from j xs ∷ pairs n (j + 1) from xs
 -- ---- the records
 
 unfoldable pub deviceRecord : List Word → List ℕ
-deviceRecord ws = dv (lookup 13 ws .value) (lookup 14 ws .value) (lookup 15 ws .value)
+deviceRecord ws = dv (wordWith 13 ws .value) (wordWith 14 ws .value) (wordWith 15 ws .value)
 
 unfoldable pub optionRecord : ℕ → List Word → List ℕ
-optionRecord code ws = choose (given code ws) (op code (lookup code ws .value)) []
+optionRecord code ws = choose (given code ws) (op code (wordWith code ws .value)) []
 
 -- n options, from a code on
 unfoldable pub optionRecords : ℕ → ℕ → List Word → List ℕ
@@ -46,28 +46,28 @@ optionRecords zero code ws = []
 optionRecords (suc n) code ws = optionRecord code ws ++ optionRecords n (code + 1) ws
 
 -- the bytes of the label's text; a text of more than 12 bytes is refused
-abbrev pub labelText : Word → List ℕ → List ℕ
-labelText w xs = part (w .from) (min (w .end - w .from) 12) xs
+abbrev pub labelWordText : Word → List ℕ → List ℕ
+labelWordText w xs = part (w .from) (min (w .end - w .from) 12) xs
 
 unfoldable pub labelRecord : List Word → List ℕ → List ℕ
-labelRecord ws xs = choose (given 0 ws) (lb (labelText (lookup 0 ws) xs)) []
+labelRecord ws xs = choose (given 0 ws) (lb (labelWordText (wordWith 0 ws) xs)) []
 
 unfoldable pub uuidRecord : List Word → List ℕ → List ℕ
-uuidRecord ws xs = choose (eqb (lookup 16 ws .value) 1) (id (pairs 16 0 (lookup 16 ws .from) xs)) []
+uuidRecord ws xs = choose (eqb (wordWith 16 ws .value) 1) (id (pairs 16 0 (wordWith 16 ws .from) xs)) []
 
-abbrev pub recordsOf : List Word → List ℕ → List ℕ
-recordsOf ws xs = deviceRecord ws ++ (optionRecords 12 1 ws ++ (labelRecord ws xs ++ uuidRecord ws xs))
+abbrev pub wordsRecords : List Word → List ℕ → List ℕ
+wordsRecords ws xs = deviceRecord ws ++ (optionRecords 12 1 ws ++ (labelRecord ws xs ++ uuidRecord ws xs))
 
 -- what the words ask for
 unfoldable pub wordsRequest : List ℕ → List ℕ
-wordsRequest xs = recordsOf (wordsFrom 0 xs) xs
+wordsRequest xs = wordsRecords (wordsFrom 0 xs) xs
 
 -- the label's and the UUID's record by the words' bytes
-abbrev pub labelOf : List ℕ → List ℕ
-labelOf xs = labelRecord (wordsFrom 0 xs) xs
+abbrev pub labelRecordOf : List ℕ → List ℕ
+labelRecordOf xs = labelRecord (wordsFrom 0 xs) xs
 
-abbrev pub uuidOf : List ℕ → List ℕ
-uuidOf xs = uuidRecord (wordsFrom 0 xs) xs
+abbrev pub uuidRecordOf : List ℕ → List ℕ
+uuidRecordOf xs = uuidRecord (wordsFrom 0 xs) xs
 
 -- the records of every word at its longest: the device's 18 bytes, 12 options of 11, a label of 15, a UUID of 18
 abbrev pub longest : ℕ
@@ -75,22 +75,22 @@ longest = 183
 
 -- ---- the answer
 
-abbrev pub made : ℕ → ℕ → ℕ → Made
-made number index length = record { number = number; index = index; length = length }
+abbrev pub madeAs : ℕ → ℕ → ℕ → Made
+madeAs number index length = record { number = number; index = index; length = length }
 
 -- number 0 and the records' length; or 27 for a buffer of fewer than `longest` bytes, or what is wrong, and then no byte of the buffer has changed
-abbrev pub answerOf : Verdict → List ℕ → List ℕ → Made
-answerOf v xs old =
+abbrev pub madeOf : Verdict → List ℕ → List ℕ → Made
+madeOf v xs old =
     choose (leb longest (length old))
-    (choose (eqb (v .number) 0) (made 0 0 (length (wordsRequest xs))) (made (v .number) (v .index) 0))
-    (made wrongLength 0 0)
+    (choose (eqb (v .number) 0) (madeAs 0 0 (length (wordsRequest xs))) (madeAs (v .number) (v .index) 0))
+    (madeAs wrongLength 0 0)
 
 abbrev pub leftOf : Verdict → List ℕ → List ℕ → List ℕ
 leftOf v xs old = choose (leb longest (length old)) (choose (eqb (v .number) 0) (patch 0 (wordsRequest xs) old) old) old
 
 pub record Makes (xs old : List ℕ) (r : Made) (left : List ℕ) : Type 0 where
-  pub answer : r ≡ answerOf (verdictOf xs) xs old
-  pub bytes : left ≡ leftOf (verdictOf xs) xs old
+  pub answer : r ≡ madeOf (wordsVerdict xs) xs old
+  pub bytes : left ≡ leftOf (wordsVerdict xs) xs old
 
 -- a write of bytes at `at`, at most `most` of them: where they end, and what the buffer holds then
 pub record Puts (at : ℕ) (bytes : List ℕ) (most : ℕ) (old : List ℕ) (end : ℕ) (left : List ℕ) : Type 0 where

@@ -7,7 +7,7 @@ use lib.Dec.{leb, ltb, eqb}
 use lib.ListN.{length, getD}
 use Rattle.arith.specs.Choice.{when}
 use Rattle.seqs.specs.Lists.{choose, firstIndex, fold}
-use Rattle.request_texts.specs.Texts.{good, malformed, tooLarge, named, packed, numberIn}
+use Rattle.request_texts.specs.Texts.{goodValue, malformedValue, tooLarge, named, packedName, numberText}
 use Rattle.request_texts.specs.declared.Value.{Value}
 use Rattle.request_words.specs.declared.Names.{Names}
 
@@ -20,28 +20,28 @@ indexIn table name = firstIndex (λ n. eqb n name) table
 -- The words' names. The key of a word is its name's index: 1 to 12 are the codes of the options.
 unfoldable pub names : List ℕ
 names =
-    packed (108 ∷ 97 ∷ 98 ∷ 101 ∷ 108 ∷ [])  -- 0 label
-    ∷ packed (117 ∷ 115 ∷ 101 ∷ [])  -- 1 use
-    ∷ packed (98 ∷ 108 ∷ 111 ∷ 99 ∷ 107 ∷ [])  -- 2 block
-    ∷ packed (115 ∷ 101 ∷ 99 ∷ 116 ∷ 111 ∷ 114 ∷ [])  -- 3 sector
-    ∷ packed (105 ∷ 110 ∷ 111 ∷ 100 ∷ 101 ∷ [])  -- 4 inode
-    ∷ packed (97 ∷ 103 ∷ 99 ∷ 111 ∷ 117 ∷ 110 ∷ 116 ∷ [])  -- 5 agcount
-    ∷ packed (97 ∷ 103 ∷ 115 ∷ 105 ∷ 122 ∷ 101 ∷ [])  -- 6 agsize
-    ∷ packed (105 ∷ 109 ∷ 97 ∷ 120 ∷ 112 ∷ 99 ∷ 116 ∷ [])  -- 7 imaxpct
-    ∷ packed (115 ∷ 101 ∷ 101 ∷ 100 ∷ [])  -- 8 seed
-    ∷ packed (102 ∷ 101 ∷ 97 ∷ 116 ∷ 117 ∷ 114 ∷ 101 ∷ 115 ∷ [])  -- 9 features
-    ∷ packed (116 ∷ 105 ∷ 109 ∷ 101 ∷ [])  -- 10 time
-    ∷ packed (110 ∷ 97 ∷ 110 ∷ 111 ∷ 115 ∷ 101 ∷ 99 ∷ 111 ∷ 110 ∷ 100 ∷ 115 ∷ [])  -- 11 nanoseconds
-    ∷ packed (115 ∷ 105 ∷ 122 ∷ 105 ∷ 110 ∷ 103 ∷ [])  -- 12 sizing
-    ∷ packed (115 ∷ 105 ∷ 122 ∷ 101 ∷ [])  -- 13 size
-    ∷ packed (108 ∷ 111 ∷ 103 ∷ 105 ∷ 99 ∷ 97 ∷ 108 ∷ [])  -- 14 logical
-    ∷ packed (112 ∷ 104 ∷ 121 ∷ 115 ∷ 105 ∷ 99 ∷ 97 ∷ 108 ∷ [])  -- 15 physical
-    ∷ packed (117 ∷ 117 ∷ 105 ∷ 100 ∷ [])  -- 16 uuid
+    packedName (108 ∷ 97 ∷ 98 ∷ 101 ∷ 108 ∷ [])  -- 0 label
+    ∷ packedName (117 ∷ 115 ∷ 101 ∷ [])  -- 1 use
+    ∷ packedName (98 ∷ 108 ∷ 111 ∷ 99 ∷ 107 ∷ [])  -- 2 block
+    ∷ packedName (115 ∷ 101 ∷ 99 ∷ 116 ∷ 111 ∷ 114 ∷ [])  -- 3 sector
+    ∷ packedName (105 ∷ 110 ∷ 111 ∷ 100 ∷ 101 ∷ [])  -- 4 inode
+    ∷ packedName (97 ∷ 103 ∷ 99 ∷ 111 ∷ 117 ∷ 110 ∷ 116 ∷ [])  -- 5 agcount
+    ∷ packedName (97 ∷ 103 ∷ 115 ∷ 105 ∷ 122 ∷ 101 ∷ [])  -- 6 agsize
+    ∷ packedName (105 ∷ 109 ∷ 97 ∷ 120 ∷ 112 ∷ 99 ∷ 116 ∷ [])  -- 7 imaxpct
+    ∷ packedName (115 ∷ 101 ∷ 101 ∷ 100 ∷ [])  -- 8 seed
+    ∷ packedName (102 ∷ 101 ∷ 97 ∷ 116 ∷ 117 ∷ 114 ∷ 101 ∷ 115 ∷ [])  -- 9 features
+    ∷ packedName (116 ∷ 105 ∷ 109 ∷ 101 ∷ [])  -- 10 time
+    ∷ packedName (110 ∷ 97 ∷ 110 ∷ 111 ∷ 115 ∷ 101 ∷ 99 ∷ 111 ∷ 110 ∷ 100 ∷ 115 ∷ [])  -- 11 nanoseconds
+    ∷ packedName (115 ∷ 105 ∷ 122 ∷ 105 ∷ 110 ∷ 103 ∷ [])  -- 12 sizing
+    ∷ packedName (115 ∷ 105 ∷ 122 ∷ 101 ∷ [])  -- 13 size
+    ∷ packedName (108 ∷ 111 ∷ 103 ∷ 105 ∷ 99 ∷ 97 ∷ 108 ∷ [])  -- 14 logical
+    ∷ packedName (112 ∷ 104 ∷ 121 ∷ 115 ∷ 105 ∷ 99 ∷ 97 ∷ 108 ∷ [])  -- 15 physical
+    ∷ packedName (117 ∷ 117 ∷ 105 ∷ 100 ∷ [])  -- 16 uuid
     ∷ []
 
 -- the largest value of each key; of a label it is the length
-unfoldable pub largest : List ℕ
-largest =
+unfoldable pub largestValues : List ℕ
+largestValues =
     12
     ∷ (2 ^ 64 - 1)
     ∷ (2 ^ 32 - 1)
@@ -66,13 +66,13 @@ largest =
 -- the features by their bits
 unfoldable pub featureNames : List ℕ
 featureNames =
-    packed (102 ∷ 105 ∷ 110 ∷ 111 ∷ 98 ∷ 116 ∷ [])  -- 0 finobt
-    ∷ packed (114 ∷ 109 ∷ 97 ∷ 112 ∷ 98 ∷ 116 ∷ [])  -- 1 rmapbt
-    ∷ packed (114 ∷ 101 ∷ 102 ∷ 108 ∷ 105 ∷ 110 ∷ 107 ∷ [])  -- 2 reflink
-    ∷ packed (105 ∷ 110 ∷ 111 ∷ 98 ∷ 116 ∷ 99 ∷ 111 ∷ 117 ∷ 110 ∷ 116 ∷ [])  -- 3 inobtcount
-    ∷ packed (98 ∷ 105 ∷ 103 ∷ 116 ∷ 105 ∷ 109 ∷ 101 ∷ [])  -- 4 bigtime
-    ∷ packed (110 ∷ 114 ∷ 101 ∷ 120 ∷ 116 ∷ 54 ∷ 52 ∷ [])  -- 5 nrext64
-    ∷ packed (115 ∷ 112 ∷ 97 ∷ 114 ∷ 115 ∷ 101 ∷ [])  -- 6 sparse
+    packedName (102 ∷ 105 ∷ 110 ∷ 111 ∷ 98 ∷ 116 ∷ [])  -- 0 finobt
+    ∷ packedName (114 ∷ 109 ∷ 97 ∷ 112 ∷ 98 ∷ 116 ∷ [])  -- 1 rmapbt
+    ∷ packedName (114 ∷ 101 ∷ 102 ∷ 108 ∷ 105 ∷ 110 ∷ 107 ∷ [])  -- 2 reflink
+    ∷ packedName (105 ∷ 110 ∷ 111 ∷ 98 ∷ 116 ∷ 99 ∷ 111 ∷ 117 ∷ 110 ∷ 116 ∷ [])  -- 3 inobtcount
+    ∷ packedName (98 ∷ 105 ∷ 103 ∷ 116 ∷ 105 ∷ 109 ∷ 101 ∷ [])  -- 4 bigtime
+    ∷ packedName (110 ∷ 114 ∷ 101 ∷ 120 ∷ 116 ∷ 54 ∷ 52 ∷ [])  -- 5 nrext64
+    ∷ packedName (115 ∷ 112 ∷ 97 ∷ 114 ∷ 115 ∷ 101 ∷ [])  -- 6 sparse
     ∷ []
 
 -- what each bit weighs
@@ -80,57 +80,57 @@ unfoldable pub weights : List ℕ
 weights = 1 ∷ 2 ∷ 4 ∷ 8 ∷ 16 ∷ 32 ∷ 64 ∷ []
 
 -- no features: of a text that is no list
-abbrev pub noFeatures : ℕ
-noFeatures = 128
+abbrev pub noFeatureList : ℕ
+noFeatureList = 128
 
 -- a feature of weight w turned on (`+`) or off (`-`)
 unfoldable pub turned : ℕ → ℕ → ℕ → ℕ
 turned mask sign w =
-    when (leb noFeatures mask) noFeatures
-    (when (eqb w 0) noFeatures
+    when (leb noFeatureList mask) noFeatureList
+    (when (eqb w 0) noFeatureList
     (when (eqb sign 43) (when (eqb (mask / w % 2) 1) mask (mask + w))
-    (when (eqb sign 45) (when (eqb (mask / w % 2) 1) (mask - w) mask) noFeatures)))
+    (when (eqb sign 45) (when (eqb (mask / w % 2) 1) (mask - w) mask) noFeatureList)))
 
 -- what was read of a list: the features so far, the sign and the name of the one that is being read (0: none yet)
-abbrev pub read : ℕ → ℕ → ℕ → Names
-read mask sign name = record { mask = mask; sign = sign; name = name }
+abbrev pub featuresRead : ℕ → ℕ → ℕ → Names
+featuresRead mask sign name = record { mask = mask; sign = sign; name = name }
 
 -- the features with the one that was read last
-unfoldable pub finished : Names → ℕ
-finished s = turned (s .mask) (s .sign) (getD weights (indexIn featureNames (s .name)) 0)
+unfoldable pub lastFeature : Names → ℕ
+lastFeature s = turned (s .mask) (s .sign) (getD weights (indexIn featureNames (s .name)) 0)
 
 -- one byte of the list more: a comma ends a feature, a sign begins it
 unfoldable pub nextByte : Names → ℕ → Names
 nextByte s b =
-    choose (eqb b 44) (read (finished s) 0 0)
-    (choose (eqb (s .sign) 0) (read (s .mask) b 0)
-    (read (s .mask) (s .sign) (named (s .name) b)))
+    choose (eqb b 44) (featuresRead (lastFeature s) 0 0)
+    (choose (eqb (s .sign) 0) (featuresRead (s .mask) b 0)
+    (featuresRead (s .mask) (s .sign) (named (s .name) b)))
 
 -- a list of features, each with its sign, commas between: all but those that it turns off
-unfoldable pub listed : List ℕ → ℕ
-listed text = finished (fold nextByte (read 127 0 0) text)
+unfoldable pub featureMask : List ℕ → ℕ
+featureMask text = lastFeature (fold nextByte (featuresRead 127 0 0) text)
 
-abbrev pub none : ℕ
-none = packed (110 ∷ 111 ∷ 110 ∷ 101 ∷ [])
+abbrev pub noneName : ℕ
+noneName = packedName (110 ∷ 111 ∷ 110 ∷ 101 ∷ [])
 
-abbrev pub all : ℕ
-all = packed (97 ∷ 108 ∷ 108 ∷ [])
+abbrev pub allName : ℕ
+allName = packedName (97 ∷ 108 ∷ 108 ∷ [])
 
--- `none`, `all`, or a list
-unfoldable pub featuresIn : List ℕ → Value
-featuresIn text =
-    choose (eqb (packed text) none) (good 0)
-    (choose (eqb (packed text) all) (good 127)
-    (choose (ltb (listed text) noFeatures) (good (listed text)) malformed))
+-- `noneName`, `allName`, or a list
+unfoldable pub featuresText : List ℕ → Value
+featuresText text =
+    choose (eqb (packedName text) noneName) (goodValue 0)
+    (choose (eqb (packedName text) allName) (goodValue 127)
+    (choose (ltb (featureMask text) noFeatureList) (goodValue (featureMask text)) malformedValue))
 
 -- ---- the log's sizing: `plain` or `roomy`
 unfoldable pub sizings : List ℕ
-sizings = packed (112 ∷ 108 ∷ 97 ∷ 105 ∷ 110 ∷ []) ∷ packed (114 ∷ 111 ∷ 111 ∷ 109 ∷ 121 ∷ []) ∷ []
+sizings = packedName (112 ∷ 108 ∷ 97 ∷ 105 ∷ 110 ∷ []) ∷ packedName (114 ∷ 111 ∷ 111 ∷ 109 ∷ 121 ∷ []) ∷ []
 
 unfoldable pub sizingIn : List ℕ → Value
-sizingIn text = choose (ltb (indexIn sizings (packed text)) 2) (good (indexIn sizings (packed text))) malformed
+sizingIn text = choose (ltb (indexIn sizings (packedName text)) 2) (goodValue (indexIn sizings (packedName text))) malformedValue
 
--- ---- the UUID: 36 characters, hexadecimal but for four dashes; or `none`
+-- ---- the UUID: 36 characters, hexadecimal but for four dashes; or `noneName`
 
 -- the value of a hexadecimal digit; 16 of any other byte
 unfoldable pub hex : ℕ → ℕ
@@ -156,19 +156,19 @@ shaped i (b ∷ bs) = fitsAt i b && shaped (suc i) bs
 -- 1 where there is a UUID, 0 where none is wanted
 unfoldable pub uuidIn : List ℕ → Value
 uuidIn text =
-    choose (eqb (packed text) none) (good 0)
-    (choose (eqb (length text) 36 && shaped 0 text) (good 1) malformed)
+    choose (eqb (packedName text) noneName) (goodValue 0)
+    (choose (eqb (length text) 36 && shaped 0 text) (goodValue 1) malformedValue)
 
 -- ---- by the key
 
 -- the text's value, before its size is asked for; of a label it is the length
 unfoldable pub valueIn : ℕ → List ℕ → Value
 valueIn key text =
-    choose (eqb key 0) (good (length text))
-    (choose (eqb key 9) (featuresIn text)
+    choose (eqb key 0) (goodValue (length text))
+    (choose (eqb key 9) (featuresText text)
     (choose (eqb key 12) (sizingIn text)
-    (choose (eqb key 16) (uuidIn text) (numberIn text))))
+    (choose (eqb key 16) (uuidIn text) (numberText text))))
 
 -- a value that isn't larger than its key allows
 unfoldable pub limited : ℕ → Value → Value
-limited key v = choose (leb (v .value) (getD largest key 0)) v tooLarge
+limited key v = choose (leb (v .value) (getD largestValues key 0)) v tooLarge

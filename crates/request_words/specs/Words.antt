@@ -7,7 +7,7 @@ use lib.Dec.{ltb, eqb}
 use lib.ListN.{length, drop}
 use Rattle.endian.specs.Fields.{part}
 use Rattle.seqs.specs.Lists.{choose, firstIndex}
-use Rattle.request_texts.specs.Texts.{packed}
+use Rattle.request_texts.specs.Texts.{packedName}
 use Rattle.request_words.specs.Values.{indexIn, names, valueIn, limited}
 use Rattle.request_texts.specs.declared.Value.{Value}
 use Rattle.request_words.specs.declared.Word.{Word}
@@ -16,8 +16,8 @@ use Rattle.request_words.specs.declared.Verdict.{Verdict}
 -- ---- one word
 
 -- what is wrong with a word beside its text: its name is no key's; its name stands again behind it; a word is missing
-abbrev pub unknown : ℕ
-unknown = 1
+abbrev pub unknownName : ℕ
+unknownName = 1
 
 abbrev pub twice : ℕ
 twice = 2
@@ -30,15 +30,15 @@ abbrev pub noKey : ℕ
 noKey = 17
 
 -- where the first byte b stands, from an offset on; the length where it doesn't
-unfoldable pub placeOf : ℕ → ℕ → List ℕ → ℕ
-placeOf b at xs = at + firstIndex (λ c. eqb c b) (drop at xs)
+unfoldable pub placeOfByte : ℕ → ℕ → List ℕ → ℕ
+placeOfByte b at xs = at + firstIndex (λ c. eqb c b) (drop at xs)
 
 abbrev pub word : ℕ → ℕ → ℕ → ℕ → ℕ → ℕ → Word
 word number key value from end next = record { number = number; key = key; value = value; from = from; end = end; next = next }
 
 -- where nothing is said
 abbrev pub noWord : Word
-noWord = word unknown noKey 0 0 0 0
+noWord = word unknownName noKey 0 0 0 0
 
 -- a value as a word
 abbrev pub withValue : ℕ → Value → ℕ → ℕ → ℕ → Word
@@ -48,40 +48,40 @@ withValue key v from end next = word (v .number) key (v .value) from end next
 unfoldable pub meant : ℕ → ℕ → ℕ → ℕ → List ℕ → Word
 meant key from end next xs =
     choose (ltb key noKey) (withValue key (limited key (valueIn key (part from (end - from) xs))) from end next)
-    (word unknown noKey 0 from end next)
+    (word unknownName noKey 0 from end next)
 
 -- the word at an offset, from its end and the place of its `=`: the name before that, the text behind it
 unfoldable pub wordBy : ℕ → ℕ → ℕ → List ℕ → Word
 wordBy at end eq xs =
-    choose (ltb eq end) (meant (indexIn names (packed (part at (eq - at) xs))) (eq + 1) end (min (end + 1) (length xs)) xs)
-    (word unknown noKey 0 at end (min (end + 1) (length xs)))
+    choose (ltb eq end) (meant (indexIn names (packedName (part at (eq - at) xs))) (eq + 1) end (min (end + 1) (length xs)) xs)
+    (word unknownName noKey 0 at end (min (end + 1) (length xs)))
 
 unfoldable pub wordAt : ℕ → List ℕ → Word
-wordAt at xs = wordBy at (placeOf 0 at xs) (placeOf 61 at xs) xs
+wordAt at xs = wordBy at (placeOfByte 0 at xs) (placeOfByte 61 at xs) xs
 
 -- ---- all words
 
-abbrev pub more : Bool → Word → List Word → List Word
-more true w ws = w ∷ ws
-more false w ws = []
+abbrev pub wordThen : Bool → Word → List Word → List Word
+wordThen true w ws = w ∷ ws
+wordThen false w ws = []
 
 -- at most `n` words, from `at` on
-unfoldable pub split : ℕ → ℕ → List ℕ → List Word
-split zero at xs = []
-split (suc n) at xs = more (ltb at (length xs)) (wordAt at xs) (split n (wordAt at xs .next) xs)
+unfoldable pub splitWords : ℕ → ℕ → List ℕ → List Word
+splitWords zero at xs = []
+splitWords (suc n) at xs = wordThen (ltb at (length xs)) (wordAt at xs) (splitWords n (wordAt at xs .next) xs)
 
 -- the words from `at` on; each has a byte or more
 unfoldable pub wordsFrom : ℕ → List ℕ → List Word
-wordsFrom at xs = split (length xs - at) at xs
+wordsFrom at xs = splitWords (length xs - at) at xs
 
 -- the first word with the key
-unfoldable pub lookup : ℕ → List Word → Word
-lookup key [] = noWord
-lookup key (w ∷ ws) = choose (eqb (w .key) key) w (lookup key ws)
+unfoldable pub wordWith : ℕ → List Word → Word
+wordWith key [] = noWord
+wordWith key (w ∷ ws) = choose (eqb (w .key) key) w (wordWith key ws)
 
 -- there is one
 abbrev pub given : ℕ → List Word → Bool
-given key ws = eqb (lookup key ws .key) key
+given key ws = eqb (wordWith key ws .key) key
 
 -- ---- which word is refused
 
@@ -109,5 +109,5 @@ abbrev pub allJudged : Verdict → List Word → Verdict
 allJudged v ws = choose (eqb (v .number) 0) (complete ws) v
 
 -- number 0: the words are a request
-unfoldable pub verdictOf : List ℕ → Verdict
-verdictOf xs = allJudged (judged 0 (wordsFrom 0 xs)) (wordsFrom 0 xs)
+unfoldable pub wordsVerdict : List ℕ → Verdict
+wordsVerdict xs = allJudged (judged 0 (wordsFrom 0 xs)) (wordsFrom 0 xs)

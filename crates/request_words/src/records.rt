@@ -6,7 +6,7 @@ ghost use lib.ListN.{length, getD};
 ghost use Rattle.endian.specs.Bytes.{patch};
 ghost use Rattle.request.specs.Cases.{dv, op};
 ghost use Rattle.request_words.specs.Words.{wordsFrom};
-ghost use Rattle.request_words.specs.Asked.{digitsAt, pairAt, pairs, deviceRecord, optionRecord, optionRecords, labelOf, uuidOf, wordsRequest, Puts, Makes};
+ghost use Rattle.request_words.specs.Asked.{digitsAt, pairAt, pairs, deviceRecord, optionRecord, optionRecords, labelRecordOf, uuidRecordOf, wordsRequest, Puts, Makes};
 use crate::Made;
 use crate::Word;
 use crate::values::LABEL;
@@ -153,7 +153,7 @@ fn put_options(words: &[u8], buf: &mut [u8], at: usize) -> usize
 // The label's record, where its word is there.
 fn put_label(words: &[u8], buf: &mut [u8], at: usize) -> usize
     requires { ⌜ at + 15 ≤ length (now buf) ⌝ }
-    ensures { λ r. ⌜ Puts at (labelOf (now (words .entry))) 15 (now (buf .entry)) r (now (buf .exit)) ⌝ }
+    ensures { λ r. ⌜ Puts at (labelRecordOf (now (words .entry))) 15 (now (buf .entry)) r (now (buf .exit)) ⌝ }
 {
     let w = find(words, 0, LABEL);
     if w.key == LABEL {
@@ -170,7 +170,7 @@ fn put_label(words: &[u8], buf: &mut [u8], at: usize) -> usize
 // The UUID's record, where one is wanted.
 fn put_uuid(words: &[u8], buf: &mut [u8], at: usize) -> usize
     requires { ⌜ at + 18 ≤ length (now buf) ⌝ }
-    ensures { λ r. ⌜ Puts at (uuidOf (now (words .entry))) 18 (now (buf .entry)) r (now (buf .exit)) ⌝ }
+    ensures { λ r. ⌜ Puts at (uuidRecordOf (now (words .entry))) 18 (now (buf .entry)) r (now (buf .exit)) ⌝ }
 {
     let w = find(words, 0, UUID);
     if w.value == 1 {

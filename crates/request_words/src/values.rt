@@ -2,8 +2,8 @@
 ghost use mathlib.Core.Path.{_≡_};
 ghost use Prim.Native.Nat.{_≤_, _<_};
 ghost use lib.ListN.{length, getD};
-ghost use Rattle.request_texts.specs.Texts.{good as goodDef, packed};
-ghost use Rattle.request_words.specs.Values.{indexIn, names, largest as largestDef, featureNames, weights, turned as turnedDef, finished as finishedDef, nextByte, listed as listedDef, featuresIn, sizings, sizingIn, hex as hexDef, isDash, fitsAt, shaped as shapedDef, uuidIn, valueIn, limited as limitedDef};
+ghost use Rattle.request_texts.specs.Texts.{goodValue as goodDef, packedName};
+ghost use Rattle.request_words.specs.Values.{indexIn, names, largestValues as largestDef, featureNames, weights, turned as turnedDef, lastFeature as finishedDef, nextByte, featureMask as listedDef, featuresText, sizings, sizingIn, hex as hexDef, isDash, fitsAt, shaped as shapedDef, uuidIn, valueIn, limited as limitedDef};
 use crate::Names;
 use arith::choice::pick_u64;
 use request_texts::MALFORMED;
@@ -119,7 +119,7 @@ fn index_in(table: &[u64], name: u64) -> usize
 
 // The key of a name; 17 where it is no word's.
 pub(crate) fn key_of(name: &[u8]) -> usize
-    ensures { λ r. ⌜ (r ≡ indexIn names (packed (now (name .entry)))) × (r ≤ 17) ⌝ }
+    ensures { λ r. ⌜ (r ≡ indexIn names (packedName (now (name .entry)))) × (r ≤ 17) ⌝ }
 {
     index_in(&NAMES, pack(name))
 }
@@ -205,7 +205,7 @@ fn listed(text: &[u8]) -> u64
 
 // `none`, `all`, or a list of features.
 fn features(text: &[u8]) -> Value
-    ensures { λ r. ⌜ r ≡ featuresIn (now (text .entry)) ⌝ }
+    ensures { λ r. ⌜ r ≡ featuresText (now (text .entry)) ⌝ }
 {
     let name = pack(text);
     if name == NONE {

@@ -2,7 +2,7 @@
 ghost use mathlib.Core.Path.{_≡_};
 ghost use Prim.Native.Nat.{_+_, _≤_, _<_, min};
 ghost use lib.ListN.{length};
-ghost use Rattle.request_words.specs.Words.{placeOf, noWord, meant as meantDef, wordAt, wordsFrom, lookup, given, judged, verdictOf, verdict as verdictDef, missing as missingDef};
+ghost use Rattle.request_words.specs.Words.{placeOfByte, noWord, meant as meantDef, wordAt, wordsFrom, wordWith, given, judged, wordsVerdict, verdict as verdictDef, missing as missingDef};
 use crate::Verdict;
 use crate::Word;
 use crate::values::KEYS;
@@ -23,7 +23,7 @@ pub const MISSING: u8 = 5;
 // Where the first byte b stands, from an offset on.
 fn place_of(words: &[u8], at: usize, b: u8) -> usize
     requires { ⌜ at ≤ length (now words) ⌝ }
-    ensures { λ r. ⌜ (r ≡ placeOf b at (now (words .entry))) × (at ≤ r) × (r ≤ length (now (words .entry))) ⌝ }
+    ensures { λ r. ⌜ (r ≡ placeOfByte b at (now (words .entry))) × (at ≤ r) × (r ≤ length (now (words .entry))) ⌝ }
 {
     let mut i = at;
     while i < words.len() {
@@ -96,7 +96,7 @@ fn word_at(words: &[u8], at: usize) -> Word
 
 // The first word with the key, from an offset on; where there is none, the key beside it is no word's.
 pub(crate) fn find(words: &[u8], from: usize, key: usize) -> Word
-    ensures { λ r. ⌜ r ≡ lookup key (wordsFrom from (now (words .entry))) ⌝ }
+    ensures { λ r. ⌜ r ≡ wordWith key (wordsFrom from (now (words .entry))) ⌝ }
 {
     let mut at = from;
     while at < words.len() {
@@ -165,7 +165,7 @@ fn missing(key: usize) -> Verdict
 
 // Whether the words are a request: 0; or what is wrong, beside the index of the word or, of a missing one, its key.
 pub(crate) fn verdict(words: &[u8]) -> Verdict
-    ensures { λ r. ⌜ r ≡ verdictOf (now (words .entry)) ⌝ }
+    ensures { λ r. ⌜ r ≡ wordsVerdict (now (words .entry)) ⌝ }
 {
     let v = judge(words);
     if v.number != 0 {

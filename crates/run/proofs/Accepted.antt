@@ -7,7 +7,7 @@ use Prim.Native.Nat.{ℕ}
 use borrow.Author.Tests.{eqb-true, eqb-false, eq-eqb}
 use lib.Dec.{eqb}
 use Rattle.seqs.specs.Lists.{choose}
-use Rattle.request_input.specs.Records.{recordAt, split, records, startsWithDevice, wellFormed}
+use Rattle.request_input.specs.Records.{recordAt, splitRecords, records, startsWithDevice, wellFormed}
 use Rattle.request.specs.declared.Request.{Request}
 use Rattle.request.specs.Parse.{parseDef}
 use Rattle.request.specs.Defaults.{timeOf}
@@ -69,7 +69,7 @@ plans-zero xs e =
 
 -- AN EMPTY INPUT IS NO RUN: 28
 pub empty-malformed : parseDef [] .number ≡ 28
-unfolding recordAt split records startsWithDevice wellFormed parseDef
+unfolding recordAt splitRecords records startsWithDevice wellFormed parseDef
 empty-malformed = refl
 
 pub empty-refused : accepted [] .number ≡ 28

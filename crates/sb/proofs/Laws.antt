@@ -12,7 +12,7 @@ use Rattle.geometry.specs.declared.Geometry.{Geometry}
 use Rattle.geometry_layout.specs.Bounds.{Bounds}
 use Rattle.geometry_layout.specs.Places.{rextSize, lsunitBytes, logsunitOf, alignOf, sparseAlign}
 use Rattle.sb.specs.declared.SbState.{SbState}
-use Rattle.sb.specs.Superblock.{magic, fixedVersion, largeSector, versionOf, features2Bits, roCompat, inCompat, logstartOf}
+use Rattle.sb.specs.Superblock.{sbMagic, fixedVersion, largeSector, versionOf, features2Bits, roCompat, inCompat, logstartOf}
 use Rattle.sb.specs.Numbers.{numbers}
 
 pub version-is : (g : Geometry) (large : Bool) (v : ℕ) → v ≡ fixedVersion + 0x800 * bit large → large ≡ (ltb 512 (g .sectsize) || ltb 512 (g .lsectsize)) → v ≡ versionOf g
@@ -41,7 +41,7 @@ pub numbers-are : (g : Geometry) (s : SbState) (start version rext align dirlog 
     → inopblog ≡ g .inopblog
     → agblklog ≡ g .agblklog
     → imaxpct ≡ g .imaxpct
-    → _≡_ {A = List ℕ} (magic ∷ block ∷ g .dblocks ∷ 0 ∷ 0 ∷ start ∷ s .rootino ∷ s .rbmino ∷ s .rsumino ∷ rext ∷ g .agsize ∷ g .agcount ∷ 0 ∷ g .logblocks ∷ version ∷ sector ∷ inode ∷ inodes ∷ blocklog ∷ sectlog ∷ inodelog ∷ inopblog ∷ agblklog ∷ 0 ∷ progress ∷ imaxpct ∷ s .icount ∷ s .ifree ∷ s .fdblocks ∷ 0 ∷ 0 ∷ 0 ∷ align ∷ 0 ∷ 0 ∷ dirlog ∷ sunit ∷ features2Bits ∷ features2Bits ∷ 0 ∷ ro ∷ incompat ∷ 0 ∷ spino ∷ 0 ∷ 0 ∷ []) (numbers g s)
+    → _≡_ {A = List ℕ} (sbMagic ∷ block ∷ g .dblocks ∷ 0 ∷ 0 ∷ start ∷ s .rootino ∷ s .rbmino ∷ s .rsumino ∷ rext ∷ g .agsize ∷ g .agcount ∷ 0 ∷ g .logblocks ∷ version ∷ sector ∷ inode ∷ inodes ∷ blocklog ∷ sectlog ∷ inodelog ∷ inopblog ∷ agblklog ∷ 0 ∷ progress ∷ imaxpct ∷ s .icount ∷ s .ifree ∷ s .fdblocks ∷ 0 ∷ 0 ∷ 0 ∷ align ∷ 0 ∷ 0 ∷ dirlog ∷ sunit ∷ features2Bits ∷ features2Bits ∷ 0 ∷ ro ∷ incompat ∷ 0 ∷ spino ∷ 0 ∷ 0 ∷ []) (numbers g s)
 numbers-are g s start version rext align dirlog sunit ro incompat spino progress block sector inode inodes blocklog sectlog inodelog inopblog agblklog imaxpct e0 e1 e2 e3 e4 e5 e6 e7 e8 e9 e10 e11 e12 e13 e14 e15 e16 e17 e18 e19 = rw (e0, e1, e2, e3, e4, e5, e6, e7, e8, e9, e10, e11, e12, e13, e14, e15, e16, e17, e18, e19) refl
 
 -- what the bounds of an answer say of its superblock: it has room in a sector, the log's start fits 64 bits, and the log's sector 16

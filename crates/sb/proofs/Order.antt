@@ -7,7 +7,7 @@ use Prim.Native.Nat.{ℕ}
 use lib.Dec.{T, ltb}
 use lib.ListN.{length}
 use Rattle.endian.specs.Bytes.{beBytes}
-use Rattle.endian.specs.Fields.{Field, Span, field, run, write, table, spans, tidy, clear}
+use Rattle.endian.specs.Fields.{Field, Span, field, byteRun, writeFields, table, spans, tidy, clear}
 use Rattle.endian.proofs.Order.{any-order}
 use Rattle.geometry.specs.declared.Geometry.{Geometry}
 use Rattle.sb.specs.declared.SbState.{SbState}
@@ -29,7 +29,7 @@ abbrev pub codePlaces : Bool → List Span
 codePlaces large = standing places ++ (standing (32 ∷ 16 ∷ 108 ∷ 12 ∷ []) ++ logPlaces large)
 
 abbrev codeFields : Bool → Geometry → SbState → List Field
-codeFields large g s = table places (numbers g s) ++ ((run 32 (s .uuid) ∷ run 108 (g .label) ∷ []) ++ logSector large (g .lsectlog) (g .lsectsize))
+codeFields large g s = table places (numbers g s) ++ ((byteRun 32 (s .uuid) ∷ byteRun 108 (g .label) ∷ []) ++ logSector large (g .lsectlog) (g .lsectsize))
 
 module _ (g : Geometry) (s : SbState) (xs : List ℕ) (u : length (s .uuid) ≡ 16) (l : length (g .label) ≡ 12) where
   stand : (large : Bool) → spans (codeFields large g s) ≡ codePlaces large
@@ -38,7 +38,7 @@ module _ (g : Geometry) (s : SbState) (xs : List ℕ) (u : length (s .uuid) ≡ 
   stand false = rw (u, l) refl
 
   pub ordered : (large : Bool)
-      → write (logSector large (g .lsectlog) (g .lsectsize)) (write (run 32 (s .uuid) ∷ run 108 (g .label) ∷ []) (write (table places (numbers g s)) xs)) ≡ write (fieldsWith large g s) xs
+      → writeFields (logSector large (g .lsectlog) (g .lsectsize)) (writeFields (byteRun 32 (s .uuid) ∷ byteRun 108 (g .label) ∷ []) (writeFields (table places (numbers g s)) xs)) ≡ writeFields (fieldsWith large g s) xs
   unfolding fieldsWith
   ordered true = sym (any-order (codePlaces true) 264 tt (codeFields true g s) (stand true) xs)
   ordered false = sym (any-order (codePlaces false) 264 tt (codeFields false g s) (stand false) xs)
@@ -46,10 +46,10 @@ module _ (g : Geometry) (s : SbState) (xs : List ℕ) (u : length (s .uuid) ≡ 
 -- the writes one after the other
 pub all-written : (g : Geometry) (s : SbState) (xs ws ys zs v : List ℕ) (large : Bool) → length (s .uuid) ≡ 16 → length (g .label) ≡ 12
     → v ≡ numbers g s → large ≡ (ltb 512 (g .sectsize) || ltb 512 (g .lsectsize))
-    → ws ≡ write (table places v) xs → ys ≡ write (run 32 (s .uuid) ∷ run 108 (g .label) ∷ []) ws → zs ≡ write (logSector large (g .lsectlog) (g .lsectsize)) ys
-    → zs ≡ write (sbFields g s) xs
+    → ws ≡ writeFields (table places v) xs → ys ≡ writeFields (byteRun 32 (s .uuid) ∷ byteRun 108 (g .label) ∷ []) ws → zs ≡ writeFields (logSector large (g .lsectlog) (g .lsectsize)) ys
+    → zs ≡ writeFields (sbFields g s) xs
 unfolding sbFields largeSector
 all-written g s xs ws ys zs v large u l ev el ew ey ez =
-    ez ∙ ap (write (logSector large (g .lsectlog) (g .lsectsize)))
-    (ey ∙ ap (write (run 32 (s .uuid) ∷ run 108 (g .label) ∷ [])) (ew ∙ ap (λ (w : List ℕ). write (table places w) xs) ev))
-    ∙ ordered g s xs u l large ∙ ap (λ (b : Bool). write (fieldsWith b g s) xs) el
+    ez ∙ ap (writeFields (logSector large (g .lsectlog) (g .lsectsize)))
+    (ey ∙ ap (writeFields (byteRun 32 (s .uuid) ∷ byteRun 108 (g .label) ∷ [])) (ew ∙ ap (λ (w : List ℕ). writeFields (table places w) xs) ev))
+    ∙ ordered g s xs u l large ∙ ap (λ (b : Bool). writeFields (fieldsWith b g s) xs) el

@@ -7,7 +7,7 @@ use Prim.Native.Nat.{ℕ, _+_, _^_, _≤_, _<_}
 use lib.Dec.{T, lit<}
 use lib.ListN.{length}
 use Rattle.endian.specs.Bytes.{beBytes, beAt}
-use Rattle.endian.specs.Fields.{Field, Span, field, run, write, part, nth, spans, tidy, clear}
+use Rattle.endian.specs.Fields.{Field, Span, field, byteRun, writeFields, part, nth, spans, tidy, clear}
 use Rattle.crc.specs.Crc.{stamped}
 use Rattle.crc.proofs.Laws.{read-stamped}
 use Rattle.structs.specs.Holds.{Holds}
@@ -60,7 +60,7 @@ module _ (g : Geometry) (s : SbState) (u : length (s .uuid) ≡ 16) (l : length 
 
   -- every field stands in the sector after encoding, with the log's sector or without
   module _ (xs : List ℕ) (h : 264 ≤ length xs) where
-    held-with : (large : Bool) → Holds (fieldsWith large g s) (stamped crcAt (write (fieldsWith large g s) xs))
+    held-with : (large : Bool) → Holds (fieldsWith large g s) (stamped crcAt (writeFields (fieldsWith large g s) xs))
     held-with large k i = read-stamped (diskPlaces large) 264 crcAt (tidied large) (apart large) (fieldsWith large g s) (stand large) xs h k i
 
     pub sb-holds : Holds (sbFields g s) (sbBytes g s xs)
@@ -72,12 +72,12 @@ module _ (g : Geometry) (s : SbState) (u : length (s .uuid) ≡ 16) (l : length 
     unfolding sbBytes sbFields
     before k off n v e b =
         let large = largeSector g in
-        read-number (fieldsWith large g s) (stamped crcAt (write (fieldsWith large g s) xs)) (held-with large) k off n v (e large .0) (e large .1) b
+        read-number (fieldsWith large g s) (stamped crcAt (writeFields (fieldsWith large g s) xs)) (held-with large) k off n v (e large .0) (e large .1) b
 
     after : (k off n v : ℕ) → (k + 2 < length (fieldsWith true g s)) × (nth (fieldsWith true g s) (k + 2) ≡ field off n v) → (k < length (fieldsWith false g s)) × (nth (fieldsWith false g s) k ≡ field off n v)
-        → (large : Bool) → v < 256 ^ n → beAt n off (stamped crcAt (write (fieldsWith large g s) xs)) ≡ v
-    after k off n v e f true b = read-number (fieldsWith true g s) (stamped crcAt (write (fieldsWith true g s) xs)) (held-with true) (k + 2) off n v (e .0) (e .1) b
-    after k off n v e f false b = read-number (fieldsWith false g s) (stamped crcAt (write (fieldsWith false g s) xs)) (held-with false) k off n v (f .0) (f .1) b
+        → (large : Bool) → v < 256 ^ n → beAt n off (stamped crcAt (writeFields (fieldsWith large g s) xs)) ≡ v
+    after k off n v e f true b = read-number (fieldsWith true g s) (stamped crcAt (writeFields (fieldsWith true g s) xs)) (held-with true) (k + 2) off n v (e .0) (e .1) b
+    after k off n v e f false b = read-number (fieldsWith false g s) (stamped crcAt (writeFields (fieldsWith false g s) xs)) (held-with false) k off n v (f .0) (f .1) b
 
     pub blocksize-back : g .blocksize < 256 ^ 4 → beAt 4 4 (sbBytes g s xs) ≡ g .blocksize
     unfolding fieldsWith
@@ -143,7 +143,7 @@ module _ (g : Geometry) (s : SbState) (u : length (s .uuid) ≡ 16) (l : length 
     unfolding sbBytes sbFields fieldsWith
     incompat-back = after 43 216 4 (inCompat (g .features)) (lit< tt, refl) (lit< tt, refl) (largeSector g)
 
-    uuid-with : (large : Bool) → part 32 16 (stamped crcAt (write (fieldsWith large g s) xs)) ≡ s .uuid
+    uuid-with : (large : Bool) → part 32 16 (stamped crcAt (writeFields (fieldsWith large g s) xs)) ≡ s .uuid
     unfolding fieldsWith
     uuid-with true = rw u at (held-with true 5 (lit< tt))
     uuid-with false = rw u at (held-with false 5 (lit< tt))
@@ -152,7 +152,7 @@ module _ (g : Geometry) (s : SbState) (u : length (s .uuid) ≡ 16) (l : length 
     unfolding sbBytes sbFields
     uuid-back = uuid-with (largeSector g)
 
-    label-with : (large : Bool) → part 108 12 (stamped crcAt (write (fieldsWith large g s) xs)) ≡ g .label
+    label-with : (large : Bool) → part 108 12 (stamped crcAt (writeFields (fieldsWith large g s) xs)) ≡ g .label
     unfolding fieldsWith
     label-with true = rw l at (held-with true 19 (lit< tt))
     label-with false = rw l at (held-with false 19 (lit< tt))

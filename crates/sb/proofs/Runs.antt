@@ -14,7 +14,7 @@ use lib.ListN.{length, drop, getD, length-drop}
 use lib.Seq.{drop-cons, drop-drop}
 use Rattle.endian.specs.Answer.{Put}
 use Rattle.endian.specs.Bytes.{patch, beBytes}
-use Rattle.endian.specs.Fields.{write, table}
+use Rattle.endian.specs.Fields.{writeFields, table}
 use Rattle.endian.proofs.Laws.{put-in}
 use Rattle.sb.specs.Numbers.{Run, evenly, spread, inRun, inRuns, isWidth}
 
@@ -58,7 +58,7 @@ width-one w t a b c = one (eqb w 1) refl t where
 -- ---- a run
 -- where the loop begins all of it is left
 pub run-start : (o w n from len : ℕ) (v b : List ℕ) → o + w * n ≤ len
-    → (o + w * (n - 0) ≤ len) × (write (table (evenly o w (n - 0)) (drop (from + 0) v)) b ≡ write (table (evenly o w n) (drop from v)) b)
+    → (o + w * (n - 0) ≤ len) × (writeFields (table (evenly o w (n - 0)) (drop (from + 0) v)) b ≡ writeFields (table (evenly o w n) (drop from v)) b)
 run-start o w n from len v b h =
     let e : n - 0 ≡ n = omega arith in
     let f : from + 0 ≡ from = omega arith in
@@ -66,17 +66,17 @@ run-start o w n from len v b h =
 
 -- a turn of the loop: what is left of it
 pub run-next : (o w n i from : ℕ) (v b b' z : List ℕ) → i < n → from + i < length v
-    → write (table (evenly o w (n - i)) (drop (from + i) v)) b ≡ z → b' ≡ patch o (beBytes w (getD v (from + i) 0)) b
-    → write (table (evenly (o + w) w (n - (i + 1))) (drop (from + (i + 1)) v)) b' ≡ z
+    → writeFields (table (evenly o w (n - i)) (drop (from + i) v)) b ≡ z → b' ≡ patch o (beBytes w (getD v (from + i) 0)) b
+    → writeFields (table (evenly (o + w) w (n - (i + 1))) (drop (from + (i + 1)) v)) b' ≡ z
 run-next o w n i from v b b' z lt l e p =
     let k : n - i ≡ suc (n - (i + 1)) = omega arith in
     let j : suc (from + i) ≡ from + (i + 1) = omega arith in
-    ap (write (table (evenly (o + w) w (n - (i + 1))) (drop (from + (i + 1)) v))) p
-    ∙ sym (ap₂ (λ (m : ℕ) (r : List ℕ). write (table (evenly o w m) r) b) k (drop-cons v (from + i) 0 l ∙ ap (λ (m : ℕ). getD v (from + i) 0 ∷ drop m v) j))
+    ap (writeFields (table (evenly (o + w) w (n - (i + 1))) (drop (from + (i + 1)) v))) p
+    ∙ sym (ap₂ (λ (m : ℕ) (r : List ℕ). writeFields (table (evenly o w m) r) b) k (drop-cons v (from + i) 0 l ∙ ap (λ (m : ℕ). getD v (from + i) 0 ∷ drop m v) j))
     ∙ e
 
 -- a run is written when nothing is left of it
-pub run-done : (o w n i : ℕ) (us b z : List ℕ) → n ≤ i → write (table (evenly o w (n - i)) us) b ≡ z → b ≡ z
+pub run-done : (o w n i : ℕ) (us b z : List ℕ) → n ≤ i → writeFields (table (evenly o w (n - i)) us) b ≡ z → b ≡ z
 run-done o w n i us b z h e =
     let k : n - i ≡ 0 = omega arith in
     rw k at e
@@ -91,7 +91,7 @@ room-next o w n i len lt h =
 
 -- a run and what follows it
 run-split : (o w n : ℕ) (os v xs : List ℕ) → n ≤ length v
-    → write (table (evenly o w n ++ os) v) xs ≡ write (table os (drop n v)) (write (table (evenly o w n) v) xs)
+    → writeFields (table (evenly o w n ++ os) v) xs ≡ writeFields (table os (drop n v)) (writeFields (table (evenly o w n) v) xs)
 run-split o w zero os v xs h = refl
 run-split o w (suc n) os [] xs h = absurd (omega arith)
 run-split o w (suc n) os (x ∷ v) xs h = run-split (o + w) w n os v (patch o (beBytes w x) xs) (omega arith)
@@ -101,12 +101,12 @@ abbrev pub total : List Run → ℕ
 total [] = 0
 total (r ∷ rs) = r .many + total rs
 
-pub all-runs : (rs : List Run) (from : ℕ) (v xs : List ℕ) → from + total rs ≤ length v → inRuns rs from v xs ≡ write (table (spread rs) (drop from v)) xs
+pub all-runs : (rs : List Run) (from : ℕ) (v xs : List ℕ) → from + total rs ≤ length v → inRuns rs from v xs ≡ writeFields (table (spread rs) (drop from v)) xs
 all-runs [] from v xs h = refl
 all-runs (r ∷ rs) from v xs h =
     let l : r .many ≤ length (drop from v) = rw (length-drop from v) (omega arith) in
     all-runs rs (from + r .many) v (inRun r from v xs) (omega arith)
-    ∙ sym (run-split (r .at) (r .width) (r .many) (spread rs) (drop from v) xs l ∙ ap (λ (m : List ℕ). write (table (spread rs) m) (inRun r from v xs)) (drop-drop (r .many) from v))
+    ∙ sym (run-split (r .at) (r .width) (r .many) (spread rs) (drop from v) xs l ∙ ap (λ (m : List ℕ). writeFields (table (spread rs) m) (inRun r from v xs)) (drop-drop (r .many) from v))
 
 pub four-runs : (a b c d : Run) (from : ℕ) (v xs p q r s : List ℕ) → p ≡ inRun a from v xs → q ≡ inRun b (from + a .many) v p
     → r ≡ inRun c (from + a .many + b .many) v q → s ≡ inRun d (from + a .many + b .many + c .many) v r → s ≡ inRuns (a ∷ b ∷ c ∷ d ∷ []) from v xs

@@ -5,12 +5,12 @@ use mathlib.Core.List.{List, [], _∷_, _++_}
 use Prim.Native.Nat.{ℕ, zero, suc, _+_, _-_}
 use lib.Dec.{eqb}
 use lib.ListN.{drop}
-use Rattle.endian.specs.Fields.{write, table}
+use Rattle.endian.specs.Fields.{writeFields, table}
 use Rattle.arith.specs.Choice.{bit}
 use Rattle.geometry.specs.declared.Geometry.{Geometry}
 use Rattle.geometry_layout.specs.Places.{rextSize, lsunitBytes, logsunitOf, alignOf, sparseAlign}
 use Rattle.sb.specs.declared.SbState.{SbState}
-use Rattle.sb.specs.Superblock.{magic, features2Bits, versionOf, roCompat, inCompat, logstartOf}
+use Rattle.sb.specs.Superblock.{sbMagic, features2Bits, versionOf, roCompat, inCompat, logstartOf}
 
 -- numbers of equal width, one after the other: where the first stands, the width, and how many they are
 pub record Run : Type 0 where
@@ -18,34 +18,34 @@ pub record Run : Type 0 where
   pub width : ℕ
   pub many : ℕ
 
-abbrev pub runOf : ℕ → ℕ → ℕ → Run
-runOf at width many = record { at = at; width = width; many = many }
+abbrev pub numbersRun : ℕ → ℕ → ℕ → Run
+numbersRun at width many = record { at = at; width = width; many = many }
 
 -- the runs before sb_versionnum
 abbrev pub sizesRuns : List Run
 sizesRuns =
-    runOf 0 4 2  -- sb_magicnum, sb_blocksize
-    ∷ runOf 8 8 3  -- sb_dblocks, sb_rblocks, sb_rextents
-    ∷ runOf 48 8 4  -- sb_logstart, sb_rootino, sb_rbmino, sb_rsumino
-    ∷ runOf 80 4 5  -- sb_rextsize, sb_agblocks, sb_agcount, sb_rbmblocks, sb_logblocks
+    numbersRun 0 4 2  -- sb_magicnum, sb_blocksize
+    ∷ numbersRun 8 8 3  -- sb_dblocks, sb_rblocks, sb_rextents
+    ∷ numbersRun 48 8 4  -- sb_logstart, sb_rootino, sb_rbmino, sb_rsumino
+    ∷ numbersRun 80 4 5  -- sb_rextsize, sb_agblocks, sb_agcount, sb_rbmblocks, sb_logblocks
     ∷ []
 
 -- the runs from sb_versionnum to sb_width
 abbrev pub countsRuns : List Run
 countsRuns =
-    runOf 100 2 4  -- sb_versionnum, sb_sectsize, sb_inodesize, sb_inopblock
-    ∷ runOf 120 1 8  -- sb_blocklog to sb_imax_pct
-    ∷ runOf 128 8 6  -- sb_icount to sb_gquotino
-    ∷ runOf 180 4 3  -- sb_inoalignmt, sb_unit, sb_width
+    numbersRun 100 2 4  -- sb_versionnum, sb_sectsize, sb_inodesize, sb_inopblock
+    ∷ numbersRun 120 1 8  -- sb_blocklog to sb_imax_pct
+    ∷ numbersRun 128 8 6  -- sb_icount to sb_gquotino
+    ∷ numbersRun 180 4 3  -- sb_inoalignmt, sb_unit, sb_width
     ∷ []
 
 -- the runs from sb_dirblklog on
 abbrev pub flagsRuns : List Run
 flagsRuns =
-    runOf 192 1 1  -- sb_dirblklog
-    ∷ runOf 196 4 7  -- sb_logsunit to sb_features_log_incompat
-    ∷ runOf 228 4 1  -- sb_spino_align
-    ∷ runOf 232 8 2  -- sb_pquotino, sb_lsn
+    numbersRun 192 1 1  -- sb_dirblklog
+    ∷ numbersRun 196 4 7  -- sb_logsunit to sb_features_log_incompat
+    ∷ numbersRun 228 4 1  -- sb_spino_align
+    ∷ numbersRun 232 8 2  -- sb_pquotino, sb_lsn
     ∷ []
 
 -- offset and width of each number of a run
@@ -67,7 +67,7 @@ places = spread allRuns
 
 -- a run written, with the numbers `v` from the one with the index `from` on
 abbrev pub inRun : Run → ℕ → List ℕ → List ℕ → List ℕ
-inRun r from v xs = write (table (evenly (r .at) (r .width) (r .many)) (drop from v)) xs
+inRun r from v xs = writeFields (table (evenly (r .at) (r .width) (r .many)) (drop from v)) xs
 
 -- runs written one after the other
 abbrev pub inRuns : List Run → ℕ → List ℕ → List ℕ → List ℕ
@@ -81,7 +81,7 @@ isWidth n = eqb n 1 || (eqb n 2 || (eqb n 4 || eqb n 8))
 -- the numbers, one beside each place
 abbrev pub numbers : Geometry → SbState → List ℕ
 numbers g s =
-    magic  -- sb_magicnum
+    sbMagic  -- sb_magicnum
     ∷ (g .blocksize)  -- sb_blocksize
     ∷ (g .dblocks)  -- sb_dblocks
     ∷ 0  -- sb_rblocks

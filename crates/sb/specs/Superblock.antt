@@ -6,7 +6,7 @@ use Prim.Native.Nat.{ℕ, _+_, _*_, _-_}
 use lib.Dec.{ltb, eqb}
 use Rattle.refusals.specs.Numbers.{wrongLength, noAnswer}
 use Rattle.arith.specs.Choice.{bit}
-use Rattle.endian.specs.Fields.{Field, field, run, write}
+use Rattle.endian.specs.Fields.{Field, field, byteRun, writeFields}
 use Rattle.crc.specs.Crc.{stamped}
 use Rattle.structs.specs.Written.{require}
 use Rattle.params.specs.declared.Features.{Features}
@@ -16,8 +16,8 @@ use Rattle.geometry_layout.specs.Places.{fsbOf, rextSize, lsunitBytes, logsunit
 use Rattle.sb.specs.declared.SbState.{SbState}
 
 -- XFS_SB_MAGIC, "XFSB"
-abbrev pub magic : ℕ
-magic = 0x5846_5342
+abbrev pub sbMagic : ℕ
+sbMagic = 0x5846_5342
 
 -- a sector is above 512 bytes
 unfoldable pub largeSector : Geometry → Bool
@@ -55,12 +55,12 @@ logSector false log size = []
 -- every field in disk order, with the log's sector where `large` holds
 unfoldable pub fieldsWith : Bool → Geometry → SbState → List Field
 fieldsWith large g s =
-    field 0 4 magic  -- sb_magicnum
+    field 0 4 sbMagic  -- sb_magicnum
     ∷ field 4 4 (g .blocksize)  -- sb_blocksize
     ∷ field 8 8 (g .dblocks)  -- sb_dblocks
     ∷ field 16 8 0  -- sb_rblocks
     ∷ field 24 8 0  -- sb_rextents
-    ∷ run 32 (s .uuid)  -- sb_uuid
+    ∷ byteRun 32 (s .uuid)  -- sb_uuid
     ∷ field 48 8 (logstartOf g)  -- sb_logstart
     ∷ field 56 8 (s .rootino)  -- sb_rootino
     ∷ field 64 8 (s .rbmino)  -- sb_rbmino
@@ -74,7 +74,7 @@ fieldsWith large g s =
     ∷ field 102 2 (g .sectsize)  -- sb_sectsize
     ∷ field 104 2 (g .inodesize)  -- sb_inodesize
     ∷ field 106 2 (g .inopblock)  -- sb_inopblock
-    ∷ run 108 (g .label)  -- sb_fname
+    ∷ byteRun 108 (g .label)  -- sb_fname
     ∷ field 120 1 (g .blocklog)  -- sb_blocklog
     ∷ field 121 1 (g .sectlog)  -- sb_sectlog
     ∷ field 122 1 (g .inodelog)  -- sb_inodelog
@@ -115,7 +115,7 @@ crcAt = 224
 
 -- the fields, and then the checksum of the whole sector
 unfoldable pub sbBytes : Geometry → SbState → List ℕ → List ℕ
-sbBytes g s xs = stamped crcAt (write (sbFields g s) xs)
+sbBytes g s xs = stamped crcAt (writeFields (sbFields g s) xs)
 
 -- 31, then 27 unless the sector has the geometry's length
 unfoldable pub sbNumber : Geometry → ℕ → ℕ

@@ -5,7 +5,7 @@ ghost use Prim.Native.Nat.{_+_, _*_, _%_, _^_, _≤_};
 ghost use lib.ListN.{length, drop};
 ghost use lib.Dec.{T};
 ghost use Rattle.endian.specs.Bytes.{patch, beBytes};
-ghost use Rattle.endian.specs.Fields.{write, table, run};
+ghost use Rattle.endian.specs.Fields.{writeFields, table, byteRun};
 ghost use Rattle.sb.specs.Superblock.{logSector};
 ghost use Rattle.sb.specs.Numbers.{places, evenly, isWidth, inRuns, sizesRuns, countsRuns, flagsRuns};
 
@@ -51,7 +51,7 @@ fn put_number(sector: &mut [u8], off: usize, width: usize, x: u64)
 // `n` numbers from the one with the index `from` on, each in `width` bytes, the first at `off`.
 fn put_run(sector: &mut [u8], off: usize, width: usize, v: &[u64], from: usize, n: usize)
     requires { ⌜ (off + width * n ≤ length (now sector)) × T (isWidth width) × (from + n ≤ length (now v)) ⌝ }
-    ensures { λ _. ⌜ now (sector .exit) ≡ write (table (evenly off width n) (drop from (now (v .entry)))) (now (sector .entry)) ⌝ }
+    ensures { λ _. ⌜ now (sector .exit) ≡ writeFields (table (evenly off width n) (drop from (now (v .entry)))) (now (sector .entry)) ⌝ }
 {
     let mut o = off;
     let mut i: usize = 0;
@@ -98,7 +98,7 @@ fn put_flags(sector: &mut [u8], v: &[u64])
 // The numbers at their places.
 pub(crate) fn put_numbers(sector: &mut [u8], v: &[u64; 46])
     requires { ⌜ 264 ≤ length (now sector) ⌝ }
-    ensures { λ r. ⌜ now (sector .exit) ≡ write (table places (now (v .entry))) (now (sector .entry)) ⌝ }
+    ensures { λ r. ⌜ now (sector .exit) ≡ writeFields (table places (now (v .entry))) (now (sector .entry)) ⌝ }
 {
     put_sizes(sector, v);
     put_counts(sector, v);
@@ -108,7 +108,7 @@ pub(crate) fn put_numbers(sector: &mut [u8], v: &[u64; 46])
 // UUID and label.
 pub(crate) fn put_names(sector: &mut [u8], uuid: &[u8; 16], label: &[u8; 12])
     requires { ⌜ 264 ≤ length (now sector) ⌝ }
-    ensures { λ r. ⌜ now (sector .exit) ≡ write (run 32 (now (uuid .entry)) ∷ run 108 (now (label .entry)) ∷ []) (now (sector .entry)) ⌝ }
+    ensures { λ r. ⌜ now (sector .exit) ≡ writeFields (byteRun 32 (now (uuid .entry)) ∷ byteRun 108 (now (label .entry)) ∷ []) (now (sector .entry)) ⌝ }
 {
     endian::put_bytes(sector, 32, uuid); // sb_uuid
     endian::put_bytes(sector, 108, label); // sb_fname
@@ -117,7 +117,7 @@ pub(crate) fn put_names(sector: &mut [u8], uuid: &[u8; 16], label: &[u8; 12])
 // The log's sector, where it is named.
 pub(crate) fn put_log_sector(sector: &mut [u8], large: bool, log: u8, size: u16)
     requires { ⌜ 264 ≤ length (now sector) ⌝ }
-    ensures { λ r. ⌜ now (sector .exit) ≡ write (logSector large log size) (now (sector .entry)) ⌝ }
+    ensures { λ r. ⌜ now (sector .exit) ≡ writeFields (logSector large log size) (now (sector .entry)) ⌝ }
 {
     if large {
         endian::put8(sector, 193, log); // sb_logsectlog

@@ -66,12 +66,12 @@ stateOf g uuid agno = choose (eqb agno 0) (unfinishedState g uuid) (secondarySta
 
 -- ---- what the functions answer
 
-abbrev pub noState : ℕ → Stated
-noState n = record { number = n; state = record { uuid = replicate 16 0; rootino = 0; rbmino = 0; rsumino = 0; icount = 0; ifree = 0; fdblocks = 0; inprogress = false } }
+abbrev pub stateRefused : ℕ → Stated
+stateRefused n = record { number = n; state = record { uuid = replicate 16 0; rootino = 0; rbmino = 0; rsumino = 0; icount = 0; ifree = 0; fdblocks = 0; inprogress = false } }
 
 -- the state, where the number is 0
 abbrev pub statedAs : ℕ → SbState → Stated
-statedAs n s = choose (eqb n 0) (record { number = 0; state = s }) (noState n)
+statedAs n s = choose (eqb n 0) (record { number = 0; state = s }) (stateRefused n)
 
 -- 31, 25, then 29 for a group that is not there
 unfoldable pub stateNumber : Geometry → ℕ → ℕ
@@ -82,8 +82,8 @@ unfoldable pub stated : Geometry → List ℕ → ℕ → Stated
 stated g uuid agno = statedAs (stateNumber g agno) (stateOf g uuid agno)
 
 -- `finished_state`: 31, 25, or the state of group 0's superblock at the end
-unfoldable pub finished : Geometry → List ℕ → Stated
-finished g uuid = statedAs (plansNumber g) (finishedState g uuid)
+unfoldable pub finishedAnswer : Geometry → List ℕ → Stated
+finishedAnswer g uuid = statedAs (plansNumber g) (finishedState g uuid)
 
 -- the value of an answer, 0 of a refusal
 abbrev pub value64 : Value64 → ℕ

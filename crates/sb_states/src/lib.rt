@@ -5,7 +5,7 @@ ghost use lib.Dec.{leb};
 ghost use Rattle.arith.specs.Choice.{when};
 ghost use Rattle.plan_totals.specs.Totals.{plansNumber, freeCount};
 ghost use Rattle.geometry_places.specs.Answers.{rootIno};
-ghost use Rattle.sb_states.specs.States.{secondaryWith, primaryWith, namesRoot, secondaryState, noState, stateNumber, stated, finished, value64};
+ghost use Rattle.sb_states.specs.States.{secondaryWith, primaryWith, namesRoot, secondaryState, stateRefused, stateNumber, stated, finishedAnswer, value64};
 use geometry::Geometry;
 use geometry_counts::Value64;
 use geometry_places::fixed::initial_fdblocks;
@@ -34,7 +34,7 @@ fn value_of(v: Value64) -> u64
 }
 
 fn refused(n: u32) -> Stated
-    ensures { λ r. ⌜ r ≡ noState n ⌝ }
+    ensures { λ r. ⌜ r ≡ stateRefused n ⌝ }
 {
     let uuid = [0u8; 16];
     let state = SbState {
@@ -148,7 +148,7 @@ pub fn state_of(g: Geometry, uuid: [u8; 16], agno: u64) -> Stated
 
 // The state of group 0's superblock at the end: 31, 25 where a plan is refused.
 pub fn finished_state(g: Geometry, uuid: [u8; 16]) -> Stated
-    ensures { λ r. ⌜ r ≡ finished g uuid ⌝ }
+    ensures { λ r. ⌜ r ≡ finishedAnswer g uuid ⌝ }
 {
     let n = plans_number(g);
     if n != 0 {

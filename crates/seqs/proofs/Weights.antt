@@ -13,7 +13,7 @@ use lib.Dec.{ltb}
 use lib.ListN.{length, take, drop, getD}
 use lib.Seq.{split-at}
 use Rattle.seqs.specs.Lists.{choose, spliced, total}
-use Rattle.seqs.specs.Runs.{valid, inside, weigh, blocks, has}
+use Rattle.seqs.specs.Runs.{valid, insideRun, weigh, runLength, has}
 use Rattle.seqs.proofs.Parts.{Follows, valid-uncons}
 use Rattle.seqs.proofs.Laws.{lt-or-le}
 
@@ -22,22 +22,22 @@ none-at true = refl
 none-at false = refl
 
 module _ (a c b : ℕ) where
-  pub inside-in : a ≤ b → b < c → inside a c b ≡ 1
-  unfolding inside
+  pub inside-in : a ≤ b → b < c → insideRun a c b ≡ 1
+  unfolding insideRun
   inside-in h k = rw (le-ltb b a h, lt-ltb b c k)
 
-  pub inside-below : b < a → inside a c b ≡ 0
-  unfolding inside
+  pub inside-below : b < a → insideRun a c b ≡ 0
+  unfolding insideRun
   inside-below h = rw (lt-ltb b a h)
 
-  pub inside-above : c ≤ b → inside a c b ≡ 0
-  unfolding inside
+  pub inside-above : c ≤ b → insideRun a c b ≡ 0
+  unfolding insideRun
   inside-above h = rw (le-ltb b c h) (none-at (ltb b a))
 
-  pub inside-none : c ≤ a → inside a c b ≡ 0
+  pub inside-none : c ≤ a → insideRun a c b ≡ 0
   inside-none h = ⊎-elim (λ l. inside-below l) (λ g. inside-above (omega arith)) (lt-or-le b a)
 
-pub inside-split : (a m c b : ℕ) → a ≤ m → m ≤ c → inside a c b ≡ inside a m b + inside m c b
+pub inside-split : (a m c b : ℕ) → a ≤ m → m ≤ c → insideRun a c b ≡ insideRun a m b + insideRun m c b
 inside-split a m c b h k =
     ⊎-elim
     (λ l. let x = inside-below a c b l in let y = inside-below a m b l in let z = inside-below m c b (omega arith) in omega arith)
@@ -58,8 +58,8 @@ pub record Additive (f : ℕ → ℕ → ℕ) : Type 0 where
 pub additive-has : (b : ℕ) → Additive (has b)
 additive-has b = record { split = λ a m c h k. inside-split a m c b h k; none = λ a c h. inside-none a c b h }
 
-pub additive-blocks : Additive blocks
-unfolding blocks
+pub additive-blocks : Additive runLength
+unfolding runLength
 additive-blocks = record { split = λ a m c h k. omega arith; none = λ a c h. omega arith }
 
 module _ {A : Type 0} (start count : A → ℕ) (f : ℕ → ℕ → ℕ) where

@@ -28,8 +28,8 @@ module _ {A : Type 0} (start count : A → ℕ) where
   nextOk e (x ∷ xs) = leb e (start x)
 
 -- 1 if block b is one of those from a up to, not including, c, else 0
-unfoldable pub inside : ℕ → ℕ → ℕ → ℕ
-inside a c b = choose (ltb b a) 0 (choose (ltb b c) 1 0)
+unfoldable pub insideRun : ℕ → ℕ → ℕ → ℕ
+insideRun a c b = choose (ltb b a) 0 (choose (ltb b c) 1 0)
 
 -- the sum of f over the runs' ends
 module _ {A : Type 0} (start count : A → ℕ) (f : ℕ → ℕ → ℕ) where
@@ -38,9 +38,9 @@ module _ {A : Type 0} (start count : A → ℕ) (f : ℕ → ℕ → ℕ) where
   weigh (r ∷ rs) = f (start r) (start r + count r) + weigh rs
 
 -- the blocks of a run
-unfoldable pub blocks : ℕ → ℕ → ℕ
-blocks a c = c - a
+unfoldable pub runLength : ℕ → ℕ → ℕ
+runLength a c = c - a
 
 -- whether a run has block b
 abbrev pub has : ℕ → ℕ → ℕ → ℕ
-has b a c = inside a c b
+has b a c = insideRun a c b

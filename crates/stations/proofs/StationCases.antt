@@ -16,15 +16,15 @@ use Rattle.geometry_layout.specs.Places.{ibtBlock, rmapBlock, refcBlock, chunkO
 use Rattle.geometry_places.specs.Answers.{groupRefusal, rootChunk, rootIno}
 use Rattle.plan_site.specs.Sites.{siteOf}
 use Rattle.seqs.specs.Lists.{firstIndex, pushed, appended, fold, turns, upFrom}
-use Rattle.seqs.specs.Runs.{valid, weigh, blocks}
+use Rattle.seqs.specs.Runs.{valid, weigh, runLength}
 use Rattle.btree.specs.Owners.{negative}
-use Rattle.plan_free.specs.Free.{cut, takenAt, takenFrom, taken, fitter, bigger, pickedFrom, picked}
+use Rattle.plan_free.specs.Free.{withoutRun, takenAt, takenFrom, taken, fitter, bigger, pickedFrom, pickAnswer}
 use Rattle.plan_rmap.specs.Rmap.{joinsLeft, joinsRight, insertedAt, takes, inserted}
-use Rattle.plan.specs.Plan.{freeAtFirst, rmapAtFirst, atFirst, failed, noted, moved, turn, listed, chunked, answer, planOf, planned}
+use Rattle.plan.specs.Plan.{freeAtFirst, rmapAtFirst, atFirst, failed, noted, moved, listTurn, listFilled, chunked, planAnswer, planOf, planned}
 use Rattle.plan_totals.specs.Totals.{freeblksOf, longestOf, sumTo, firstTo, plansNumber, freeCount, rowOf, totalOf}
 use Rattle.sb_states.specs.States.{finishedState}
-use Rattle.stations.specs.Stations.{rootInode, shownGeometry, shown, acceptedPlans, plansBy, plansOf, same, passes, all, stations, rows, exampleRows, example}
+use Rattle.stations.specs.Stations.{rootInodeNumber, shownGeometry, shownStep, acceptedPlans, plansBy, plansOf, same, passes, allStations, stations, stationRows, exampleRows, example}
 
-pub hold : T (all stations && same exampleRows example)
-unfolding when bit ceilDiv powerIn powerLog leastFrom log2Up defaultSector sizesOf sizesRefusals askedBlocks defaultSize initialGroups isShort trim optionsRefusals groupsRefusals headerOf preallocOf logLimit logBlocks defaultImaxpct lastRefusals withGroups withSizes chosenOf refusals refusalOf labelOf geometryOf zeroGeometry compute.answer computeDef sameFeatures numbersOf sameFrom sameGeometry namedOptions namedOn namedFits namedAnswer namesOf isAnswer ibtBlock rmapBlock refcBlock freelistOf chunkOf clusterOf alignOf roundUp aligned rootChunkOf groupBlocks fsbOf inoOf groupRefusal rootChunk rootIno siteOf firstIndex pushed appended fold turns upFrom valid weigh blocks negative cut takenAt takenFrom taken fitter bigger pickedFrom picked joinsLeft joinsRight insertedAt takes inserted freeAtFirst rmapAtFirst atFirst failed noted moved turn listed chunked answer planOf planned freeblksOf longestOf sumTo firstTo plansNumber freeCount rowOf totalOf finishedState rootInode shownGeometry shown acceptedPlans plansBy plansOf same passes all stations rows exampleRows example
+pub hold : T (allStations stations && same exampleRows example)
+unfolding when bit ceilDiv powerIn powerLog leastFrom log2Up defaultSector sizesOf sizesRefusals askedBlocks defaultSize initialGroups isShort trim optionsRefusals groupsRefusals headerOf preallocOf logLimit logBlocks defaultImaxpct lastRefusals withGroups withSizes chosenOf refusals refusalOf labelOf geometryOf zeroGeometry compute.answer computeDef sameFeatures numbersOf sameFrom sameGeometry namedOptions namedOn namedFits namedAnswer namesOf isAnswer ibtBlock rmapBlock refcBlock freelistOf chunkOf clusterOf alignOf roundUp aligned rootChunkOf groupBlocks fsbOf inoOf groupRefusal rootChunk rootIno siteOf firstIndex pushed appended fold turns upFrom valid weigh runLength negative withoutRun takenAt takenFrom taken fitter bigger pickedFrom pickAnswer joinsLeft joinsRight insertedAt takes inserted freeAtFirst rmapAtFirst atFirst failed noted moved listTurn listFilled chunked planAnswer planOf planned freeblksOf longestOf sumTo firstTo plansNumber freeCount rowOf totalOf finishedState rootInodeNumber shownGeometry shownStep acceptedPlans plansBy plansOf same passes allStations stations stationRows exampleRows example
 hold = tt

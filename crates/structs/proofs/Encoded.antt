@@ -10,7 +10,7 @@ use borrow.Author.Tests.{le-leb, ne-eqb, eqb-true}
 use native.Mathlib.Omega.{arith}
 use Rattle.endian.specs.Answer.{room, Put}
 use Rattle.endian.specs.Bytes.{patch}
-use Rattle.endian.specs.Fields.{Field, Span, run, write, spans, clear, tidy}
+use Rattle.endian.specs.Fields.{Field, Span, byteRun, writeFields, spans, clear, tidy}
 use Rattle.endian.proofs.Fields.{write-length, and-left, and-right}
 use Rattle.endian.proofs.Order.{trade, patch-over}
 use Rattle.endian_little.specs.Bytes.{leBytes}
@@ -35,16 +35,16 @@ encoded e d s = record { written = done e d; right-is = s ∙ rw e refl }
 -- An encoder that writes fields clear of its checksum over `old`, which leaves `ys`, and stamps them: `r`, `right` and `left` are what `stamp`
 -- answered and left, and are the encoder's. The test on the spans `ss` is computed.
 pub stamps : (ss : List Span) (off : ℕ) → T (clear off 4 ss) → (fs : List Field) → spans fs ≡ ss → {n r : ℕ} {right : Bool} {old ys left : List ℕ}
-    → n ≡ 0 → off + 4 ≤ length old → ys ≡ write fs old
+    → n ≡ 0 → off + 4 ≤ length old → ys ≡ writeFields fs old
     → (Put (off + 4) (stamped off ys) ys r left) × (right ≡ (room (off + 4) ys && alreadyRight (off ∷ []) ys (stamped off ys)))
-    → Encoded n (off ∷ []) (stamped off (write fs old)) old r right left
+    → Encoded n (off ∷ []) (stamped off (writeFields fs old)) old r right left
 stamps ss off t fs e {n} {r} {right} {old} {ys} {left} z h w p =
     let l : off + 4 ≤ length ys = rw (w, write-length fs old) h in
     let a = le-leb (off + 4) (length ys) l in
-    let d : left ≡ stamped off (write fs old) = p .0 .bytes ∙ rw a (ap (stamped off) w) in
+    let d : left ≡ stamped off (writeFields fs old) = p .0 .bytes ∙ rw a (ap (stamped off) w) in
     let k = stored-kept fs off old (subst (λ (s : List Span). T (clear off 4 s)) (sym e) t) in
-    let q : (room (off + 4) ys && alreadyRight (off ∷ []) ys (stamped off ys)) ≡ alreadyRight (off ∷ []) old (stamped off (write fs old)) =
-    rw a (ap (λ (l : List ℕ). alreadyRight (off ∷ []) l (stamped off l)) w ∙ right-kept off (write fs old) old (stamped off (write fs old)) k) in
+    let q : (room (off + 4) ys && alreadyRight (off ∷ []) ys (stamped off ys)) ≡ alreadyRight (off ∷ []) old (stamped off (writeFields fs old)) =
+    rw a (ap (λ (l : List ℕ). alreadyRight (off ∷ []) l (stamped off l)) w ∙ right-kept off (writeFields fs old) old (stamped off (writeFields fs old)) k) in
     record {
       written = record { number = p .0 .number ∙ rw a (sym z); bytes = d ∙ rw z refl };
       right-is = p .1 ∙ q ∙ rw z refl;
@@ -82,32 +82,32 @@ twice-right {sums = sums} {old = old} w z e =
 -- ---- encoding again what was encoded changes nothing
 
 -- bytes that lie clear of the fields may be written before them
-pub clear-first : (off : ℕ) (bs : List ℕ) (fs : List Field) (xs : List ℕ) → T (clear off (length bs) (spans fs)) → write fs (patch off bs xs) ≡ patch off bs (write fs xs)
+pub clear-first : (off : ℕ) (bs : List ℕ) (fs : List Field) (xs : List ℕ) → T (clear off (length bs) (spans fs)) → writeFields fs (patch off bs xs) ≡ patch off bs (writeFields fs xs)
 clear-first off bs [] xs t = refl
 clear-first off bs (f ∷ fs) xs t =
     let m = leb (off + length bs) (f .at) || leb (f .at + length (f .bytes)) off in
-    ap (write fs) (sym (trade (run off bs) f xs (and-left m (clear off (length bs) (spans fs)) t)))
+    ap (writeFields fs) (sym (trade (byteRun off bs) f xs (and-left m (clear off (length bs) (spans fs)) t)))
     ∙ clear-first off bs fs (patch (f .at) (f .bytes) xs) (and-right m (clear off (length bs) (spans fs)) t)
 
-write-twice : (fs : List Field) (m : ℕ) (xs : List ℕ) → T (tidy m (spans fs)) → write fs (write fs xs) ≡ write fs xs
+write-twice : (fs : List Field) (m : ℕ) (xs : List ℕ) → T (tidy m (spans fs)) → writeFields fs (writeFields fs xs) ≡ writeFields fs xs
 write-twice [] m xs t = refl
 write-twice (f ∷ fs) m xs t =
     let o = f .at in
     let n = length (f .bytes) in
     let u = and-left (leb (o + n) m && clear o n (spans fs)) (tidy m (spans fs)) t in
     let k = and-right (leb (o + n) m) (clear o n (spans fs)) u in
-    ap (write fs) (sym (clear-first o (f .bytes) fs (patch o (f .bytes) xs) k) ∙ ap (write fs) (patch-over o (f .bytes) (f .bytes) xs refl))
+    ap (writeFields fs) (sym (clear-first o (f .bytes) fs (patch o (f .bytes) xs) k) ∙ ap (writeFields fs) (patch-over o (f .bytes) (f .bytes) xs refl))
     ∙ write-twice fs m (patch o (f .bytes) xs) (and-right (leb (o + n) m && clear o n (spans fs)) (tidy m (spans fs)) t)
 
 module _ (ss : List Span) (m off : ℕ) (t : T (tidy m ss)) (u : T (clear off 4 ss)) (fs : List Field) (e : spans fs ≡ ss) (xs : List ℕ) where
-  written-again : write fs (stamped off (write fs xs)) ≡ stamped off (write fs xs)
+  written-again : writeFields fs (stamped off (writeFields fs xs)) ≡ stamped off (writeFields fs xs)
   unfolding stamped
   written-again =
-      let ys = write fs xs in
+      let ys = writeFields fs xs in
       let c = subst (λ (s : List Span). T (clear off 4 s)) (sym e) u in
       let d = subst (λ (s : List Span). T (tidy m s)) (sym e) t in
       clear-first off (leBytes 4 (cksumOf off ys)) fs ys (rw (length-le 4 (cksumOf off ys)) c) ∙ ap (patch off (leBytes 4 (cksumOf off ys))) (write-twice fs m xs d)
 
   -- The two tests on the spans `ss` are computed.
-  pub encoded-again : stamped off (write fs (stamped off (write fs xs))) ≡ stamped off (write fs xs)
-  encoded-again = ap (stamped off) written-again ∙ stamped-twice off (write fs xs)
+  pub encoded-again : stamped off (writeFields fs (stamped off (writeFields fs xs))) ≡ stamped off (writeFields fs xs)
+  encoded-again = ap (stamped off) written-again ∙ stamped-twice off (writeFields fs xs)

@@ -8,15 +8,15 @@ use native.Mathlib.Omega.{arith}
 use lib.Dec.{T, leb}
 use borrow.Author.Tests.{le-leb}
 use lib.ListN.{length, drop-of-length-le}
-use Rattle.endian.specs.Bytes.{beBytes, beAt, patch, runBytes}
-use Rattle.endian.specs.Fields.{Field, Span, field, run, write, part, nth, spans, tidy}
+use Rattle.endian.specs.Bytes.{beBytes, beAt, patch, numbersBytes}
+use Rattle.endian.specs.Fields.{Field, Span, field, byteRun, writeFields, part, nth, spans, tidy}
 use Rattle.endian.proofs.Laws.{length-be, patch-split, patch-append}
 use Rattle.endian.proofs.Order.{trade}
 use Rattle.endian.proofs.Fields.{read-field, at-written}
 use Rattle.structs.specs.Holds.{Holds, numbered}
 
 -- fields that were written and do not meet are held
-pub held : (ss : List Span) (m : ℕ) → T (tidy m ss) → (fs : List Field) → spans fs ≡ ss → (xs : List ℕ) → m ≤ length xs → Holds fs (write fs xs)
+pub held : (ss : List Span) (m : ℕ) → T (tidy m ss) → (fs : List Field) → spans fs ≡ ss → (xs : List ℕ) → m ≤ length xs → Holds fs (writeFields fs xs)
 held ss m t fs e xs l k h = read-field ss m t fs e xs l k h
 
 -- every number that is a field is read back
@@ -51,7 +51,7 @@ one-reading (f ∷ fs) (g ∷ gs) zs e h j =
     (one-reading fs gs zs (ap tail e) (λ k l. h (suc k) (omega arith)) (λ k l. j (suc k) (omega arith)))
 
 -- some fields, and then others
-pub write-append : (fs gs : List Field) (xs : List ℕ) → write (fs ++ gs) xs ≡ write gs (write fs xs)
+pub write-append : (fs gs : List Field) (xs : List ℕ) → writeFields (fs ++ gs) xs ≡ writeFields gs (writeFields fs xs)
 write-append [] gs xs = refl
 write-append (f ∷ fs) gs xs = write-append fs gs (patch (f .at) (f .bytes) xs)
 
@@ -69,16 +69,16 @@ left-or false b t = absurd t
 
 pub patch-apart : (o p : ℕ) (bs cs xs : List ℕ) → o + length bs ≤ p → patch o bs (patch p cs xs) ≡ patch p cs (patch o bs xs)
 patch-apart o p bs cs xs h =
-    trade (run o bs) (run p cs) xs (left-or (leb (o + length bs) p) (leb (p + length cs) o) (subst T (sym (le-leb (o + length bs) p h)) tt))
+    trade (byteRun o bs) (byteRun p cs) xs (left-or (leb (o + length bs) p) (leb (p + length cs) o) (subst T (sym (le-leb (o + length bs) p h)) tt))
 
 -- consecutive numbers are fields one behind the other
-pub run-fields : (n off : ℕ) (vs xs : List ℕ) → patch off (runBytes n vs) xs ≡ write (numbered n off vs) xs
-unfolding runBytes patch
+pub run-fields : (n off : ℕ) (vs xs : List ℕ) → patch off (numbersBytes n vs) xs ≡ writeFields (numbered n off vs) xs
+unfolding numbersBytes patch
 run-fields n off [] xs = refl
 run-fields n off (v ∷ vs) xs =
     let b = length-be n v in
     let h : off + length (beBytes n v) ≤ off + n = omega arith in
-    patch-append off (beBytes n v) (runBytes n vs) xs
-    ∙ ap (λ (k : ℕ). patch off (beBytes n v) (patch (off + k) (runBytes n vs) xs)) b
-    ∙ patch-apart off (off + n) (beBytes n v) (runBytes n vs) xs h
+    patch-append off (beBytes n v) (numbersBytes n vs) xs
+    ∙ ap (λ (k : ℕ). patch off (beBytes n v) (patch (off + k) (numbersBytes n vs) xs)) b
+    ∙ patch-apart off (off + n) (beBytes n v) (numbersBytes n vs) xs h
     ∙ run-fields n (off + n) vs (patch off (beBytes n v) xs)

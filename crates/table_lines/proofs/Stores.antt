@@ -9,7 +9,7 @@ use lib.Seq.{append-snoc, drop-length}
 use Rattle.endian.specs.Bytes.{patch}
 use Rattle.endian.proofs.Laws.{patch-append, drop-turn}
 use Rattle.table_lines.specs.Decimal.{digit, decimal}
-use Rattle.table_lines.specs.Lines.{behind, line}
+use Rattle.table_lines.specs.Lines.{separatorBefore, line}
 use Rattle.table_lines.proofs.Digits.{decimal-small, decimal-more, length-more}
 
 patch-one : (at b : ℕ) (xs : List ℕ) → patch at (b ∷ []) xs ≡ set xs at b
@@ -38,7 +38,7 @@ module _ (i x : ℕ) (buf : List ℕ) where
 pub length-line : (n : ℕ) (ns : List ℕ) → length (line (n ∷ ns)) ≡ length (decimal n) + 1 + length (line ns)
 unfolding line
 length-line n ns =
-    length-append (decimal n) (behind ns ∷ line ns) ∙ (let e : length (decimal n) + suc (length (line ns)) ≡ length (decimal n) + 1 + length (line ns) = omega arith in e)
+    length-append (decimal n) (separatorBefore ns ∷ line ns) ∙ (let e : length (decimal n) + suc (length (line ns)) ≡ length (decimal n) + 1 + length (line ns) = omega arith in e)
 
 pub rest-length : (k : ℕ) (ns : List ℕ) → length (line (drop k ns)) ≤ length (line ns)
 rest-length zero ns = omega arith
@@ -52,10 +52,10 @@ module _ (i : ℕ) (ns : List ℕ) (pos : 0 < i) (le : i ≤ length ns) where
   pub length-turn : length (line (drop (i - 1) ns)) ≡ length (decimal (getD ns (i - 1) 0)) + 1 + length (line (drop i ns))
   length-turn = rw last-first (length-line (getD ns (i - 1) 0) (drop i ns))
 
-  pub behind-turn : 32 ≡ behind (drop (i - 1) ns)
+  pub behind-turn : 32 ≡ separatorBefore (drop (i - 1) ns)
   behind-turn = rw last-first refl
 
-  pub number-turn : (b at to : ℕ) (xs ys zs : List ℕ) → b ≡ behind (drop i ns) → ys ≡ patch to (line (drop i ns)) xs → at + (length (decimal (getD ns (i - 1) 0)) + 1) ≡ to
+  pub number-turn : (b at to : ℕ) (xs ys zs : List ℕ) → b ≡ separatorBefore (drop i ns) → ys ≡ patch to (line (drop i ns)) xs → at + (length (decimal (getD ns (i - 1) 0)) + 1) ≡ to
       → zs ≡ patch at (decimal (getD ns (i - 1) 0) ++ (b ∷ [])) ys → zs ≡ patch at (line (drop (i - 1) ns)) xs
   unfolding line
   number-turn b at to xs ys zs eb ey ea ez =
@@ -67,7 +67,7 @@ module _ (i : ℕ) (ns : List ℕ) (pos : 0 < i) (le : i ≤ length ns) where
       ∙ ap (λ (bs : List ℕ). patch at bs xs) (append-snoc d b l)
       ∙ rw (eb, last-first) refl
 
-pub line-none : (ns : List ℕ) → (length (line (drop (length ns) ns)) ≡ 0) × (behind (drop (length ns) ns) ≡ 10) × (line (drop (length ns) ns) ≡ [])
+pub line-none : (ns : List ℕ) → (length (line (drop (length ns) ns)) ≡ 0) × (separatorBefore (drop (length ns) ns) ≡ 10) × (line (drop (length ns) ns) ≡ [])
 unfolding line
 line-none ns = rw (drop-length ns) (refl, refl, refl)
 

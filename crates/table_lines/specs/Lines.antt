@@ -19,14 +19,14 @@ abbrev pub newline : ℕ
 newline = 10
 
 -- what stands behind a number before those of the list: a space, or the newline behind the last
-abbrev pub behind : List ℕ → ℕ
-behind [] = newline
-behind (n ∷ ns) = space
+abbrev pub separatorBefore : List ℕ → ℕ
+separatorBefore [] = newline
+separatorBefore (n ∷ ns) = space
 
 -- numbers in decimal, one space between two, and a newline
 unfoldable pub line : List ℕ → List ℕ
 line [] = []
-line (n ∷ ns) = decimal n ++ (behind ns ∷ line ns)
+line (n ∷ ns) = decimal n ++ (separatorBefore ns ∷ line ns)
 
 -- a group's line: group number, then blocks: all, log, free list, chunk, free, longest free record
 unfoldable pub rowBytes : Row → List ℕ
@@ -62,8 +62,8 @@ answerBytes release n =
     (refusedBytes n)
 
 -- `held` or `free`, then the run's first block and its length
-unfoldable pub runBytes : Bool → ℕ → ℕ → List ℕ
-runBytes held start count =
+unfoldable pub runLine : Bool → ℕ → ℕ → List ℕ
+runLine held start count =
     pick held (104 ∷ 101 ∷ 108 ∷ 100 ∷ space ∷ []) (102 ∷ 114 ∷ 101 ∷ 101 ∷ space ∷ []) ++ line (start ∷ count ∷ [])
 
 -- A write of a line's bytes at `at` over `old`: its number, where the line ends, and what it leaves. A line that doesn't fit is refused by 27.

@@ -8,7 +8,7 @@ ghost use Prim.Native.Nat.{_+_, _≤_};
 ghost use lib.ListN.{length};
 ghost use Rattle.endian.specs.Bytes.{patch};
 ghost use Rattle.table_lines.specs.Decimal.{decimal};
-ghost use Rattle.table_lines.specs.Lines.{line, rowBytes, headerBytes, totalBytes, refusedBytes, answerBytes, runBytes, PutLine};
+ghost use Rattle.table_lines.specs.Lines.{line, rowBytes, headerBytes, totalBytes, refusedBytes, answerBytes, runLine, PutLine};
 use decimal::decimal_length;
 use decimal::store_number;
 
@@ -188,7 +188,7 @@ pub fn put_answer(release: bool, number: u64, buf: &mut [u8], at: usize) -> Writ
 
 // The line of a free record, or of a run held.
 pub fn put_run(held: bool, start: u64, count: u64, buf: &mut [u8], at: usize) -> Written
-    ensures { λ r. ⌜ PutLine at (runBytes held start count) (now (buf .entry)) (r .number) (r .end) (now (buf .exit)) ⌝ }
+    ensures { λ r. ⌜ PutLine at (runLine held start count) (now (buf .entry)) (r .number) (r .end) (now (buf .exit)) ⌝ }
 {
     let numbers = [start, count];
     if held {

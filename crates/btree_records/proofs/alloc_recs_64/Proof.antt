@@ -1,7 +1,7 @@
 -- `btree_records::alloc_recs_64` meets its contract. Invariant: the records from i on stand in their places, all else is as it was.
 -- Assumes nothing.
 use Rattle.btree.proofs.Laws.{alloc-size, noAlloc, accepted, record-turn, record-none, record-all}
-use Rattle.btree.specs.Records.{listed, allocBytes}
+use Rattle.btree.specs.Records.{recordsBytes, allocBytes}
 use Rattle.structs.proofs.Written.{refused, done}
 use Rattle.endian.specs.Bytes.{patch}
 use borrow.Author.Tests.{ne-eqb}
@@ -15,7 +15,7 @@ use Rattle.btree_records.proofs.alloc_recs_64.Statement.{statement}
 use Rattle.btree_records.proofs.alloc_recs_64.Tie as tie
 
 abbrev Inv-loop : tie.InvT-loop
-Inv-loop count out₀ recs refusal i₀ out i = (i ≤ count) × (length out ≡ length out₀) × (length out₀ ≡ 8 * count) × (count ≤ length recs) × (length recs ≡ 64) × (out ≡ patch (8 * i) (listed allocBytes (drop i (take count recs))) out₀)
+Inv-loop count out₀ recs refusal i₀ out i = (i ≤ count) × (length out ≡ length out₀) × (length out₀ ≡ 8 * count) × (count ≤ length recs) × (length recs ≡ 64) × (out ≡ patch (8 * i) (recordsBytes allocBytes (drop i (take count recs))) out₀)
 
 abbrev μ-loop : tie.MeasureT-loop
 μ-loop count out₀ recs refusal i₀ out i = i

@@ -1,7 +1,7 @@
 -- `btree_records::inobt_recs_64` meets its contract. Invariant: the records from i on stand in their places, all else is as it was.
 -- Assumes nothing.
 use Rattle.btree.proofs.Laws.{inobt-size, noInobt, accepted, record-turn, record-none, record-all}
-use Rattle.btree.specs.Records.{listed, inobtBytes}
+use Rattle.btree.specs.Records.{recordsBytes, inobtBytes}
 use Rattle.structs.proofs.Written.{refused, done}
 use Rattle.endian.specs.Bytes.{patch}
 use borrow.Author.Tests.{ne-eqb}
@@ -15,7 +15,7 @@ use Rattle.btree_records.proofs.inobt_recs_64.Statement.{statement}
 use Rattle.btree_records.proofs.inobt_recs_64.Tie as tie
 
 abbrev Inv-loop : tie.InvT-loop
-Inv-loop count sparse out₀ recs refusal i₀ out i = (i ≤ count) × (length out ≡ length out₀) × (length out₀ ≡ 16 * count) × (count ≤ length recs) × (length recs ≡ 64) × (out ≡ patch (16 * i) (listed (inobtBytes sparse) (drop i (take count recs))) out₀)
+Inv-loop count sparse out₀ recs refusal i₀ out i = (i ≤ count) × (length out ≡ length out₀) × (length out₀ ≡ 16 * count) × (count ≤ length recs) × (length recs ≡ 64) × (out ≡ patch (16 * i) (recordsBytes (inobtBytes sparse) (drop i (take count recs))) out₀)
 
 abbrev μ-loop : tie.MeasureT-loop
 μ-loop count sparse out₀ recs refusal i₀ out i = i

@@ -1,7 +1,7 @@
 -- `btree_records::rmap_recs_64` meets its contract. Invariant: the records from i on stand in their places, all else is as it was.
 -- Assumes nothing.
 use Rattle.btree.proofs.Laws.{rmap-size, noRmap, accepted, record-turn, record-none, record-all}
-use Rattle.btree.specs.Records.{listed, rmapBytes}
+use Rattle.btree.specs.Records.{recordsBytes, rmapBytes}
 use Rattle.structs.proofs.Written.{refused, done}
 use Rattle.endian.specs.Bytes.{patch}
 use borrow.Author.Tests.{ne-eqb}
@@ -15,7 +15,7 @@ use Rattle.btree_records.proofs.rmap_recs_64.Statement.{statement}
 use Rattle.btree_records.proofs.rmap_recs_64.Tie as tie
 
 abbrev Inv-loop : tie.InvT-loop
-Inv-loop count out₀ recs refusal i₀ out i = (i ≤ count) × (length out ≡ length out₀) × (length out₀ ≡ 24 * count) × (count ≤ length recs) × (length recs ≡ 64) × (out ≡ patch (24 * i) (listed rmapBytes (drop i (take count recs))) out₀)
+Inv-loop count out₀ recs refusal i₀ out i = (i ≤ count) × (length out ≡ length out₀) × (length out₀ ≡ 24 * count) × (count ≤ length recs) × (length recs ≡ 64) × (out ≡ patch (24 * i) (recordsBytes rmapBytes (drop i (take count recs))) out₀)
 
 abbrev μ-loop : tie.MeasureT-loop
 μ-loop count out₀ recs refusal i₀ out i = i

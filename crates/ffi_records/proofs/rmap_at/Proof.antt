@@ -4,7 +4,7 @@ use mathlib.Core.Path.{_≡_, sym}
 use borrow.Author.Needs.{needs}
 use native.Mathlib.Omega.{arith}
 use lib.ListN.{length, length-map, List·getD-eq-default}
-use Rattle.plan_rmap.specs.Rmap.{zeroRec}
+use Rattle.plan_rmap.specs.Rmap.{zeroRmapRec}
 use Rattle.ffi_records.proofs.rmap_at.Statement.{statement}
 use Rattle.ffi_records.proofs.rmap_at.Tie as tie
 
@@ -12,7 +12,7 @@ returns-2 : tie.Need-returns-2
 returns-2 c =
     let s = c .before in
     let n : length (s .args .t1 .recs) ≡ 64 = simp length-map at (s .good .0 .1 .1 .0 .1 .0 .1) in
-    sym (List·getD-eq-default (s .args .t1 .recs) zeroRec (omega arith))
+    sym (List·getD-eq-default (s .args .t1 .recs) zeroRmapRec (omega arith))
 
 pub rmap-at-spec : {M : Type 1} → statement M
 rmap-at-spec =

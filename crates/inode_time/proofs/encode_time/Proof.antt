@@ -4,7 +4,7 @@ use mir.Syntax.{w64}
 use mir.Val.{SFits}
 use mir.ValLaws.{toZ-ofZ}
 use Rattle.inode_time.proofs.Seconds.{no-nanoseconds, not-storable, shifted-most, time-no, time-big, time-small}
-use Rattle.inode_time.specs.Time.{shifted, accepted}
+use Rattle.inode_time.specs.Time.{shifted, valueIf}
 use borrow.Author.Tests.{not-true, not-false}
 use native.Mathlib.Omega.{arith}
 use mathlib.Core.Bool.{Bool}
@@ -35,7 +35,7 @@ encode-big-requires c κs =
     let t = rw z at (c .before .before .before .shift .ensures .test) in
     let v = rw z at (c .before .before .before .shift .ensures .value-is) in
     let b = sym (t) ∙ not-false _ (c .before .if2 .left) in
-    let w = v ∙ ap (λ (x : Bool). accepted x (shifted (args .t .secs))) b in
+    let w = v ∙ ap (λ (x : Bool). valueIf x (shifted (args .t .secs))) b in
     let h = shifted-most (args .t .secs) b in
     (omega (arith, w, h), c .before .before .before .before .before .if1 .left)
 
@@ -47,7 +47,7 @@ returns-3 c =
     let t = rw z at (c .before .before .before .before .shift .ensures .test) in
     let v = rw z at (c .before .before .before .before .shift .ensures .value-is) in
     let b = sym (t) ∙ not-false _ (c .before .before .if2 .left) in
-    let w = v ∙ ap (λ (x : Bool). accepted x (shifted (args .t .secs))) b in
+    let w = v ∙ ap (λ (x : Bool). valueIf x (shifted (args .t .secs))) b in
     rw (c .before .if3 .taken) (time-big (args .t .secs) (args .t .nsecs) _ _ _ (c .before .before .before .before .before .before .if1 .left) b w (c .encode-big .ensures))
 
 encode-small-requires : tie.Need-encode-small-requires
@@ -58,7 +58,7 @@ encode-small-requires c κs =
     let t = rw z at (c .before .before .before .shift .ensures .test) in
     let v = rw z at (c .before .before .before .shift .ensures .value-is) in
     let b = sym (t) ∙ not-false _ (c .before .if2 .left) in
-    let w = v ∙ ap (λ (x : Bool). accepted x (shifted (args .t .secs))) b in
+    let w = v ∙ ap (λ (x : Bool). valueIf x (shifted (args .t .secs))) b in
     let h = shifted-most (args .t .secs) b in
     (omega (arith, w, h), c .before .before .before .before .before .if1 .left)
 
@@ -70,7 +70,7 @@ returns-4 c =
     let t = rw z at (c .before .before .before .before .shift .ensures .test) in
     let v = rw z at (c .before .before .before .before .shift .ensures .value-is) in
     let b = sym (t) ∙ not-false _ (c .before .before .if2 .left) in
-    let w = v ∙ ap (λ (x : Bool). accepted x (shifted (args .t .secs))) b in
+    let w = v ∙ ap (λ (x : Bool). valueIf x (shifted (args .t .secs))) b in
     rw (c .before .if3 .left) (time-small (args .t .secs) (args .t .nsecs) _ _ _ (c .before .before .before .before .before .before .if1 .left) b w (c .encode-small .ensures))
 
 pub encode-time-spec : {M : Type 1} → statement M

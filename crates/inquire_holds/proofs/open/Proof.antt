@@ -1,6 +1,6 @@
 -- `inquire_holds::open` meets its contract.
 -- Assumes nothing.
-use Rattle.inquire_holds.specs.Calls.{opened, openedOf}
+use Rattle.inquire_holds.specs.Calls.{holdsOpened, openedOf}
 use Rattle.run.specs.Runs.{stepOf}
 use borrow.Author.Needs.{needs}
 use Rattle.inquire_holds.proofs.open.Statement.{statement}
@@ -22,7 +22,7 @@ or-next-requires-2 : tie.Need-or-next-requires-2
 or-next-requires-2 c κs = search needs
 
 returns : tie.Need-returns
-unfolding opened openedOf stepOf
+unfolding holdsOpened openedOf stepOf
 returns c = rw (c .or-next2 .ensures, c .before .or-next .ensures, c .before .before .before .start .ensures, c .before .before .before .before .before .compute .ensures, c .before .before .before .before .before .before .parse .ensures)
 
 pub open-spec : {M : Type 1} → statement M

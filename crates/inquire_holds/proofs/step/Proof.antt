@@ -1,7 +1,7 @@
 -- `inquire_holds::step` meets its contract.
 -- Assumes nothing.
 use borrow.Author.Tests.{eq-eqb, ne-eqb}
-use Rattle.inquire_holds.specs.Calls.{stepped}
+use Rattle.inquire_holds.specs.Calls.{callStepped}
 use borrow.Author.Needs.{needs}
 use Rattle.inquire_holds.proofs.step.Statement.{statement}
 use Rattle.inquire_holds.proofs.step.Tie as tie
@@ -10,11 +10,11 @@ answer-requires : tie.Need-answer-requires
 answer-requires c κs = search needs
 
 returns : tie.Need-returns
-unfolding stepped
+unfolding callStepped
 returns c = rw (← c .before .before .answer .ensures, eq-eqb _ 0 (c .if1 .taken))
 
 returns-2 : tie.Need-returns-2
-unfolding stepped
+unfolding callStepped
 returns-2 c = rw (← c .before .before .answer .ensures, ne-eqb _ 0 (c .if1 .left))
 
 pub step-spec : {M : Type 1} → statement M

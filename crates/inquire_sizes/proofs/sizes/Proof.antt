@@ -5,27 +5,27 @@ use Prim.Native.Nat.{_/_, _^_, _<_}
 use native.Mathlib.Omega.{arith}
 use lib.ListN.{length}
 use Rattle.geometry_sizes.specs.Sizes.{sizesOf}
-use Rattle.inquire_sizes.specs.Ranges.{blockBytes, questionNumber}
+use Rattle.inquire_sizes.specs.Ranges.{blockBytes, sizesQuestion}
 use Rattle.inquire_sizes.proofs.Asked.{question-refused, in-order, ends-fit, range-found}
 use borrow.Author.Needs.{needs}
 use Rattle.inquire_sizes.proofs.sizes.Statement.{statement}
 use Rattle.inquire_sizes.proofs.sizes.Tie as tie
 
 returns : tie.Need-returns
-unfolding questionNumber sizesOf
+unfolding sizesQuestion sizesOf
 returns c =
     let a = c .before .before .before .before .before .before .before .before .before .before .args in
-    let e : c .before .before .or-next .result ≡ questionNumber (a .p) (a .logical) (a .physical) (a .smallest / blockBytes (a .p)) (a .largest / blockBytes (a .p)) =
+    let e : c .before .before .or-next .result ≡ sizesQuestion (a .p) (a .logical) (a .physical) (a .smallest / blockBytes (a .p)) (a .largest / blockBytes (a .p)) =
     c .before .before .or-next .ensures
     ∙ rw (c .before .before .before .first .ensures, c .before .before .before .before .no-range .ensures, c .before .before .before .before .before .quotient2 .ensures, c .before .before .before .before .before .before .quotient .ensures, c .before .before .before .before .before .before .before .before .chosen-sizes .ensures, c .before .before .before .before .before .before .before .before .before .options-number .ensures)
     in
     c .refused .ensures ∙ question-refused (a .p) (a .logical) (a .physical) (a .smallest) (a .largest) (c .before .before .or-next .result) e (c .before .if1 .taken)
 
 scan-requires : tie.Need-scan-requires
-unfolding questionNumber sizesOf
+unfolding sizesQuestion sizesOf
 scan-requires c κs =
     let a = c .before .before .before .before .before .before .before .before .before .before .args in
-    let e : c .before .before .or-next .result ≡ questionNumber (a .p) (a .logical) (a .physical) (a .smallest / blockBytes (a .p)) (a .largest / blockBytes (a .p)) =
+    let e : c .before .before .or-next .result ≡ sizesQuestion (a .p) (a .logical) (a .physical) (a .smallest / blockBytes (a .p)) (a .largest / blockBytes (a .p)) =
     c .before .before .or-next .ensures
     ∙ rw (c .before .before .before .first .ensures, c .before .before .before .before .no-range .ensures, c .before .before .before .before .before .quotient2 .ensures, c .before .before .before .before .before .before .quotient .ensures, c .before .before .before .before .before .before .before .before .chosen-sizes .ensures, c .before .before .before .before .before .before .before .before .before .options-number .ensures)
     in
@@ -35,10 +35,10 @@ scan-requires c κs =
     (in-order (a .p) (a .logical) (a .physical) (a .smallest) (a .largest) z, ends-fit (a .p) (a .logical) (a .physical) (a .smallest) (a .largest) z h)
 
 returns-2 : tie.Need-returns-2
-unfolding questionNumber sizesOf
+unfolding sizesQuestion sizesOf
 returns-2 c =
     let a = c .before .before .before .before .before .before .before .before .before .before .before .args in
-    let e : c .before .before .before .or-next .result ≡ questionNumber (a .p) (a .logical) (a .physical) (a .smallest / blockBytes (a .p)) (a .largest / blockBytes (a .p)) =
+    let e : c .before .before .before .or-next .result ≡ sizesQuestion (a .p) (a .logical) (a .physical) (a .smallest / blockBytes (a .p)) (a .largest / blockBytes (a .p)) =
     c .before .before .before .or-next .ensures
     ∙ rw (c .before .before .before .before .first .ensures, c .before .before .before .before .before .no-range .ensures, c .before .before .before .before .before .before .quotient2 .ensures, c .before .before .before .before .before .before .before .quotient .ensures, c .before .before .before .before .before .before .before .before .before .chosen-sizes .ensures, c .before .before .before .before .before .before .before .before .before .before .options-number .ensures)
     in

@@ -2,7 +2,7 @@
 -- Assumes nothing.
 use Rattle.group_bytes.proofs.Accepted.{bounded}
 use Rattle.list_lengths.proofs.Numbers.{format-zero, count-fits, count-refused, count-given}
-use Rattle.list_lengths.specs.Chunks.{countAnswer, counted}
+use Rattle.list_lengths.specs.Chunks.{countAnswer, countedAs}
 use Rattle.list_spec.specs.Listing.{chunkCount}
 use Prim.Native.Nat.{ℕ}
 use mathlib.Core.Path.{_≡_, refl, sym, ap, _∙_}
@@ -20,7 +20,7 @@ unfolding countAnswer
 returns c =
     let s = c .before .before .before in
     let e = c .before .before .format-number .ensures in
-    count-refused _ _ _ (c .before .if1 .taken) (c .refused .ensures) ∙ ap (λ (n : ℕ). counted n (chunkCount (s .args .run))) e
+    count-refused _ _ _ (c .before .if1 .taken) (c .refused .ensures) ∙ ap (λ (n : ℕ). countedAs n (chunkCount (s .args .run))) e
 
 add-value : tie.Need-add-value
 add-value c =

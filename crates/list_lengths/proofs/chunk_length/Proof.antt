@@ -1,7 +1,7 @@
 -- `list_lengths::chunk_length` meets its contract.
 -- Assumes nothing.
 use Rattle.list_lengths.proofs.Numbers.{count-refused, count-given}
-use Rattle.list_lengths.specs.Chunks.{listedLength, lengthAnswer, counted}
+use Rattle.list_lengths.specs.Chunks.{listedLength, lengthAnswer, countedAs}
 use Prim.Native.Nat.{ℕ}
 use mathlib.Core.Path.{ap, _∙_}
 use borrow.Author.Needs.{needs}
@@ -13,7 +13,7 @@ unfolding lengthAnswer
 returns c =
     let s = c .before .before .before in
     let e = c .before .before .place-number .ensures in
-    count-refused _ _ _ (c .before .if1 .taken) (c .refused .ensures) ∙ ap (λ (n : ℕ). counted n (listedLength (s .args .run .geometry) (s .args .k))) e
+    count-refused _ _ _ (c .before .if1 .taken) (c .refused .ensures) ∙ ap (λ (n : ℕ). countedAs n (listedLength (s .args .run .geometry) (s .args .k))) e
 
 returns-2 : tie.Need-returns-2
 unfolding lengthAnswer

@@ -2,7 +2,7 @@
 -- Assumes nothing.
 use mathlib.Core.Path.{refl}
 use borrow.Author.Needs.{needs}
-use Rattle.list_sector.specs.Sector.{isFirst}
+use Rattle.list_sector.specs.Sector.{beginsSuperblock}
 use Rattle.list_sector.proofs.is_first.Statement.{statement}
 use Rattle.list_sector.proofs.is_first.Tie as tie
 
@@ -37,7 +37,7 @@ both-requires-3 : tie.Need-both-requires-3
 both-requires-3 c κs = search needs
 
 returns : tie.Need-returns
-unfolding isFirst
+unfolding beginsSuperblock
 returns c = rw (c .both3 .ensures, c .before .both2 .ensures, c .before .before .before .before .both .ensures, c .before .before .word-at .ensures, c .before .before .before .long-at .ensures, c .before .before .before .before .before .half-at2 .ensures, c .before .before .before .before .before .before .half-at .ensures) refl
 
 pub is-first-spec : {M : Type 1} → statement M

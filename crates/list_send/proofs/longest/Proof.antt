@@ -1,12 +1,12 @@
 -- `list_send::longest` meets its contract.
 -- Assumes nothing.
 use borrow.Author.Needs.{needs}
-use Rattle.list_send.specs.Sending.{longestOf}
+use Rattle.list_send.specs.Sending.{longestPiece}
 use Rattle.list_send.proofs.longest.Statement.{statement}
 use Rattle.list_send.proofs.longest.Tie as tie
 
 returns : tie.Need-returns
-unfolding longestOf
+unfolding longestPiece
 returns c = rw (c .max-u64 .ensures, c .before .chunk-length2 .ensures, c .before .before .minus .ensures, c .before .before .before .chunk-length .ensures)
 
 pub longest-spec : {M : Type 1} → statement M

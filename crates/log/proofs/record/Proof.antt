@@ -1,7 +1,7 @@
 -- `log::record` meets its contract.
 -- Assumes nothing.
 use Rattle.log.proofs.Laws.{blocks-fit, blocks-least, record-written}
-use Rattle.log.specs.Record.{recordNumber, blocksOf}
+use Rattle.log.specs.Record.{recordNumber, basicBlocksOf}
 use Rattle.structs.proofs.Written.{refused, done}
 use Rattle.endian.proofs.Laws.{put-in}
 use borrow.Author.Tests.{eq-eqb, ne-eqb, le-leb, lt-leb}
@@ -20,14 +20,14 @@ returns : tie.Need-returns
 unfolding recordNumber
 returns c =
     let args = c .before .before .before .args in
-    let n : length (args .rec .now) ≡ 512 * blocksOf (args .sunit) → ⊥ = λ e. let h = c .if1 .taken in omega (arith, c .before .record-blocks .ensures) in
+    let n : length (args .rec .now) ≡ 512 * basicBlocksOf (args .sunit) → ⊥ = λ e. let h = c .if1 .taken in omega (arith, c .before .record-blocks .ensures) in
     refused (rw (ne-eqb _ _ n) refl) refl
 
 returns-2 : tie.Need-returns-2
 unfolding recordNumber
 returns-2 c =
     let args = c .before .before .before .before .args in
-    let n : length (args .rec .now) ≡ 512 * blocksOf (args .sunit) = let h = c .before .if1 .left in omega (arith, c .before .before .record-blocks .ensures) in
+    let n : length (args .rec .now) ≡ 512 * basicBlocksOf (args .sunit) = let h = c .before .if1 .left in omega (arith, c .before .before .record-blocks .ensures) in
     refused (rw (eq-eqb _ _ n, lt-leb (args .sunit) 16384 (let h = c .if2 .taken in omega arith)) refl) refl
 
 header-requires : tie.Need-header-requires
@@ -40,7 +40,7 @@ returns-3 : tie.Need-returns-3
 unfolding recordNumber
 returns-3 c =
     let args = c .before .before .before .before .before .before .before .before .before .before .before .before .before .before .before .before .before .before .before .before .args in
-    let n : length (args .rec .now) ≡ 512 * blocksOf (args .sunit) = let h = c .before .before .before .before .before .before .before .before .before .before .before .before .before .before .before .before .before .if1 .left in omega (arith, c .before .before .before .before .before .before .before .before .before .before .before .before .before .before .before .before .before .before .record-blocks .ensures) in
+    let n : length (args .rec .now) ≡ 512 * basicBlocksOf (args .sunit) = let h = c .before .before .before .before .before .before .before .before .before .before .before .before .before .before .before .before .before .if1 .left in omega (arith, c .before .before .before .before .before .before .before .before .before .before .before .before .before .before .before .before .before .before .record-blocks .ensures) in
     done (rw (eq-eqb _ _ n, le-leb (args .sunit) 16384 (let h = c .before .before .before .before .before .before .before .before .before .before .before .before .before .before .before .before .if2 .left in omega arith)) refl)
     (record-written _ _ _ _ (args .rec .now) _ _ _ _ n (put-in (c .before .before .before .before .before .before .before .before .before .before .before .before .before .before .put-same .ensures) (search needs)) (c .before .before .before .before .before .before .before .before .before .before .header .ensures) (c .before .before .before .before .before .before .unmount .ensures)
     (rw (c .before .before .before .before .before .before .before .before .before .before .before .before .before .before .before .before .before .before .record-blocks .ensures) at (c .before .before .stamp-blocks .ensures)))

@@ -11,7 +11,7 @@ use lib.ListN.{length, take}
 pub use Rattle.arith.specs.Choice.{when}
 use Rattle.endian.specs.Answer.{room, answer, Put}
 use Rattle.endian.specs.Bytes.{patch}
-use Rattle.endian.specs.Fields.{write, table, tableFits, PutAll}
+use Rattle.endian.specs.Fields.{writeFields, table, tableFits, PutAll}
 use Rattle.table_lines.specs.Lines.{PutLine}
 use Rattle.chunk.specs.Chunk.{ChunkMade}
 pub use Rattle.seqs.specs.Lists.{both}
@@ -32,7 +32,7 @@ pub use Rattle.crc.specs.Vectors.{Vectors}
 pub use Rattle.geometry_layout.specs.Places.{groupBlocks, freelistOf}
 pub use Rattle.plan_site.specs.Sites.{siteOf}
 pub use Rattle.plan.specs.Plan.{planned}
-pub use Rattle.plan_closed.specs.Closed.{freeBlocks, closedPlan}
+pub use Rattle.plan_closed.specs.Closed.{freeBeforeList, closedPlan}
 pub use Rattle.plan_totals.specs.Totals.{plansNumber}
 pub use Rattle.plan_summary.specs.Narrow.{NarrowGroup}
 pub use Rattle.plan_orders.specs.Orders.{Order, AddsUp}
@@ -44,16 +44,16 @@ pub use Rattle.profile.specs.Rules.{profileNumber, labelOn}
 pub use Rattle.run.specs.Runs.{orNext, stepOf, timeRefusal, runOf, accepted}
 pub use Rattle.list_records.specs.Records.{Record, Among, listBytes}
 use Rattle.list_records.specs.Records.{FL, flushes}
-pub use Rattle.list_read.specs.Records.{largest}
-pub use Rattle.list_read.specs.Whole.{readList, readAs}
+pub use Rattle.list_read.specs.Records.{largestOffset}
+pub use Rattle.list_read.specs.Whole.{readList, wholeList}
 pub use Rattle.list_records.specs.Device.{Device, applied}
 pub use Rattle.list_apply_laws.specs.Lists.{AppliesFront}
 pub use Rattle.list_spec.specs.Listing.{headBlocks, listOf}
 use Rattle.list_spec.specs.Listing.{chunkBlocks}
 pub use Rattle.list_spec.specs.Order.{Ordered}
-pub use Rattle.list_spec.specs.Left.{Left, finishingRecord}
+pub use Rattle.list_spec.specs.Left.{DeviceLeft, finishingRecord}
 pub use Rattle.list_accepted.specs.Accepted.{AcceptedRun}
-pub use Rattle.list_send.specs.Sending.{begun, longestOf, handed}
+pub use Rattle.list_send.specs.Sending.{sendingBegun, longestPiece, handed}
 pub use Rattle.reader_exact.specs.Read.{readGroup0, readGroup, readLog}
 use Rattle.reader_exact.specs.Read.{found}
 pub use Rattle.reader_names.specs.Sizings.{plain}
@@ -62,10 +62,10 @@ pub use Rattle.reader_exact.specs.Left.{Octets, Handed, ReadWhole, reported}
 pub use Rattle.reader_exact.specs.Disk.{headOn, formatted, ByRecords}
 use Rattle.reader_exact.specs.Disk.{logOn}
 pub use Rattle.reader_vouch.specs.Leaving.{Leaves, LeavesLog, SomeLeaves}
-pub use Rattle.reader_pass.specs.Passing.{verdictOf}
-pub use Rattle.reader_pass.specs.Device.{Bytes, passed, fedBy, turnsNeeded, LeftByRun}
+pub use Rattle.reader_pass.specs.Passing.{passVerdict}
+pub use Rattle.reader_pass.specs.Device.{ByteDevice, passedTurns, fedBy, turnsNeeded, LeftByRun}
 pub use Rattle.reader_pass.specs.Parts.{partsNeeded, RunParts}
-pub use Rattle.reader_decoded.specs.Decoded.{sectorAt, logIn, countIn}
+pub use Rattle.reader_decoded.specs.Decoded.{sectorAt, logRunIn, countIn}
 pub use Rattle.reader_decoded.specs.Checks.{Checked}
 pub use Rattle.reader_layout.specs.Layouts.{SuperblockAt, AgfAt, AgiAt, FreeListAt, RootsAt}
 pub use Rattle.reader_layout.specs.Chunk.{chunkOn, inodeIn, Inodes, DirectoryAt}
@@ -77,7 +77,7 @@ pub use Rattle.reader_uses.specs.ByUse.{usesIn, Once, freeTotal, listTotal, chu
 pub record OneForm : Type 0 where
   pub by-length : (m r : ℕ) (new old left : List ℕ) → Put m new old r left → Written (answer (room m old)) new old r left
   pub by-table : (at vs old left : List ℕ) (r : ℕ) → PutAll at vs old r left
-      → Written (answer (tableFits (length old) at (length vs))) (write (table at vs) old) old r left
+      → Written (answer (tableFits (length old) at (length vs))) (writeFields (table at vs) old) old r left
   pub of-a-line : (at r end : ℕ) (bytes old left : List ℕ) → PutLine at bytes old r end left
       → Written (answer (room (at + length bytes) old)) (patch at bytes old) old r left
   pub encoded : (n r : ℕ) (right : Bool) (sums new old left : List ℕ) → Encoded n sums new old r right left → Written n new old r left
@@ -93,12 +93,12 @@ pub record ReadBack (r : Request) (d : Device) : Type 0 where
   pub log-block : readLog (reported (runOf r .geometry)) (runOf r .uuid) (logOn (runOf r .geometry) d) ≡ 0
 
 -- The run's written records.
-abbrev pub recordsOf : Request → List Record
-recordsOf r = listOf (runOf r) (r .device)
+abbrev pub runRecords : Request → List Record
+runRecords r = listOf (runOf r) (r .device)
 
 -- The device when only the first n of them have been applied.
-abbrev pub stopped : Request → ℕ → Device → Device
-stopped r n old = applied (take n (recordsOf r)) old
+abbrev pub stoppedAfter : Request → ℕ → Device → Device
+stoppedAfter r n old = applied (take n (runRecords r)) old
 
 -- How many records come before the one with the finished superblock: three of zeros, the log block, the heads, the root chunk, a flush.
 unfoldable pub beforeFinished : Geometry → ℕ
@@ -108,7 +108,7 @@ beforeFinished g = 5 + g .agcount * headBlocks g + chunkBlocks g
 pub record Finishing (r : Request) : Type 0 where
   pub before : List Record
   pub behind : List Record
-  pub list : recordsOf r ≡ before ++ (FL ∷ finishingRecord (runOf r) ∷ behind)
+  pub list : runRecords r ≡ before ++ (FL ∷ finishingRecord (runOf r) ∷ behind)
   pub no-flush : flushes before ≡ 0
   pub place : length before + 1 ≡ beforeFinished (runOf r .geometry)
 
@@ -129,6 +129,6 @@ oneOf [] n = false
 oneOf (m ∷ ms) n = eqb n m || oneOf ms n
 
 -- m is the number of a line of the table whose test holds.
-abbrev pub Applies : ℕ → List Refusal → Type 0
-Applies m [] = ⊥
-Applies m ((n if test) ∷ table) = ((m ≡ n) × (test ≡ true)) ⊎ Applies m table
+abbrev pub Listed : ℕ → List Refusal → Type 0
+Listed m [] = ⊥
+Listed m ((n if test) ∷ table) = ((m ≡ n) × (test ≡ true)) ⊎ Listed m table

@@ -2,7 +2,7 @@
 -- Assumes nothing.
 use borrow.Author.Needs.{needs}
 use Rattle.plan_table.proofs.Parts.{reached-more, part-falls}
-use Rattle.plan_table.specs.Filling.{afterParts, Reached}
+use Rattle.plan_table.specs.Filling.{afterParts, ReachedByParts}
 use Rattle.seqs.proofs.Laws.{never}
 use Rattle.seqs.specs.Lists.{choose}
 use lib.ListN.{length}
@@ -14,7 +14,7 @@ use Rattle.plan_print.proofs.print.Statement.{statement}
 use Rattle.plan_print.proofs.print.Tie as tie
 
 abbrev Inv-loop : tie.InvT-loop
-Inv-loop fd buf₀ p₀ buf p = (length buf ≡ length buf₀) × Reached (length buf₀) (p₀ .table) (p .table)
+Inv-loop fd buf₀ p₀ buf p = (length buf ≡ length buf₀) × ReachedByParts (length buf₀) (p₀ .table) (p .table)
 
 abbrev μ-loop : tie.MeasureT-loop
 μ-loop fd buf₀ p₀ buf p = p .table .left + choose (p .written) 1 0

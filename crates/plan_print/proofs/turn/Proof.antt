@@ -1,6 +1,6 @@
 -- `plan_print::turn` meets its contract.
 -- Assumes nothing.
-use Rattle.plan_table.specs.Filling.{filled}
+use Rattle.plan_table.specs.Filling.{tableFilled}
 use Rattle.plan_table.specs.declared.Filled.{Filled}
 use Rattle.seqs.proofs.Laws.{never}
 use mathlib.Core.Path.{_≡_, sym, ap, _∙_}
@@ -15,7 +15,7 @@ same-length : tie.Need-same-length
 same-length c = search needs
 
 returns : tie.Need-returns
-unfolding filled
+unfolding tableFilled
 returns c = (ap (λ (x : Filled). x .table) (c .before .before .before .before .before .fill .ensures .0), λ z. never z)
 
 flush-requires : tie.Need-flush-requires
@@ -25,7 +25,7 @@ same-length-2 : tie.Need-same-length-2
 same-length-2 c = search needs
 
 returns-2 : tie.Need-returns-2
-unfolding filled
+unfolding tableFilled
 returns-2 c = (ap (λ (x : Filled). x .table) (c .before .before .before .before .before .before .before .fill .ensures .0), λ z. sym (ap (λ (x : Filled). x .number) (c .before .before .before .before .before .before .before .fill .ensures .0)) ∙ c .before .before .if1 .left)
 
 pub turn-spec : {M : Type 1} → statement M

@@ -4,7 +4,7 @@ use Rattle.plan_summary.proofs.Laws.{log-refused, log-short, all-planne
 use Rattle.plan_summary.specs.Summaries.{summarised}
 use Rattle.plan_totals.proofs.Whole.{plans-number}
 use Rattle.plan_totals.specs.Totals.{plansNumber}
-use Rattle.plan_closed.specs.Closed.{short}
+use Rattle.plan_closed.specs.Closed.{listShort}
 use Rattle.plan_site.proofs.Sites.{site-number, site-is, site-sound}
 use Rattle.plan_site.specs.declared.Sited.{Sited}
 use Rattle.geometry_places.proofs.Refused.{a-group}
@@ -24,14 +24,14 @@ is-short-requires c κs = let s = c .before .before .before in let l : length (s
 
 returns-2 : tie.Need-returns-2
 unfolding summarised
-returns-2 c = let s = c .before .before .before .before .before .before in let l : length (s .args .g .label) ≡ 12 = search (needs, s .good .0 .1 .1 .1 .1 .1 .1 .1 .1 .1 .1 .1 .1 .1 .1 .1 .1 .1 .1 .1) in let g = s .args .g in let e = sym (site-number g (g .logagno)) ∙ sym (ap (λ (x : Sited). x .number) (c .before .before .before .before .before .site-of .ensures)) ∙ c .before .before .before .before .if1 .left in let i = ap (λ (x : Sited). x .site) (c .before .before .before .before .before .site-of .ensures) ∙ site-is g (g .logagno) e in let z = plans-number g l ∙ log-short g (a-group g (g .logagno) e .0) (ap short (sym i) ∙ sym (c .before .before .is-short .ensures) ∙ c .before .if2 .taken) in c .refused2 .ensures ∙ rw z
+returns-2 c = let s = c .before .before .before .before .before .before in let l : length (s .args .g .label) ≡ 12 = search (needs, s .good .0 .1 .1 .1 .1 .1 .1 .1 .1 .1 .1 .1 .1 .1 .1 .1 .1 .1 .1 .1) in let g = s .args .g in let e = sym (site-number g (g .logagno)) ∙ sym (ap (λ (x : Sited). x .number) (c .before .before .before .before .before .site-of .ensures)) ∙ c .before .before .before .before .if1 .left in let i = ap (λ (x : Sited). x .site) (c .before .before .before .before .before .site-of .ensures) ∙ site-is g (g .logagno) e in let z = plans-number g l ∙ log-short g (a-group g (g .logagno) e .0) (ap listShort (sym i) ∙ sym (c .before .before .is-short .ensures) ∙ c .before .if2 .taken) in c .refused2 .ensures ∙ rw z
 
 summary-with-requires : tie.Need-summary-with-requires
 summary-with-requires c κs = let g = c .before .before .before .before .before .args .g in let e = sym (site-number g (g .logagno)) ∙ sym (ap (λ (x : Sited). x .number) (c .before .before .before .before .site-of .ensures)) ∙ c .before .before .before .if1 .left in (a-group g (g .logagno) e .0, ap (λ (x : Sited). x .site) (c .before .before .before .before .site-of .ensures) ∙ site-is g (g .logagno) e)
 
 returns-3 : tie.Need-returns-3
 unfolding summarised
-returns-3 c = let s = c .before .before .before .before .before .before in let l : length (s .args .g .label) ≡ 12 = search (needs, s .good .0 .1 .1 .1 .1 .1 .1 .1 .1 .1 .1 .1 .1 .1 .1 .1 .1 .1 .1 .1) in let g = s .args .g in let e = sym (site-number g (g .logagno)) ∙ sym (ap (λ (x : Sited). x .number) (c .before .before .before .before .before .site-of .ensures)) ∙ c .before .before .before .before .if1 .left in let i = ap (λ (x : Sited). x .site) (c .before .before .before .before .before .site-of .ensures) ∙ site-is g (g .logagno) e in let z = plans-number g l ∙ all-planned g (a-group g (g .logagno) e .0) (ap short (sym i) ∙ sym (c .before .before .is-short .ensures) ∙ c .before .if2 .left) in rw (c .summary-with .ensures, z)
+returns-3 c = let s = c .before .before .before .before .before .before in let l : length (s .args .g .label) ≡ 12 = search (needs, s .good .0 .1 .1 .1 .1 .1 .1 .1 .1 .1 .1 .1 .1 .1 .1 .1 .1 .1 .1 .1) in let g = s .args .g in let e = sym (site-number g (g .logagno)) ∙ sym (ap (λ (x : Sited). x .number) (c .before .before .before .before .before .site-of .ensures)) ∙ c .before .before .before .before .if1 .left in let i = ap (λ (x : Sited). x .site) (c .before .before .before .before .before .site-of .ensures) ∙ site-is g (g .logagno) e in let z = plans-number g l ∙ all-planned g (a-group g (g .logagno) e .0) (ap listShort (sym i) ∙ sym (c .before .before .is-short .ensures) ∙ c .before .if2 .left) in rw (c .summary-with .ensures, z)
 
 pub summary-of-spec : {M : Type 1} → statement M
 summary-of-spec =

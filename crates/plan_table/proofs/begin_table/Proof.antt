@@ -1,7 +1,7 @@
 -- `plan_table::begin_table` meets its contract.
 -- Assumes nothing.
 use Rattle.plan_table.proofs.Begun.{begun-refused, begun-whole}
-use Rattle.plan_table.specs.Filling.{refusal, restOf}
+use Rattle.plan_table.specs.Filling.{tableRefused, restOf}
 use Rattle.plan_table.specs.declared.Table.{Table}
 use Rattle.plan_totals.proofs.Whole.{all-planned}
 use Rattle.plan_summary.proofs.Laws.{its-number, its-summary, few-groups}
@@ -14,7 +14,7 @@ use Rattle.plan_table.proofs.begin_table.Statement.{statement}
 use Rattle.plan_table.proofs.begin_table.Tie as tie
 
 returns : tie.Need-returns
-returns c = let g = c .before .before .before .args .g in let e = ap (λ (x : Summarised). x .number) (c .before .before .summary-of .ensures) ∙ its-number g in let q = begun-refused g (λ z. c .before .if1 .taken (e ∙ z)) in let u = c .refused .ensures ∙ ap refusal e in (u ∙ q .0, ap (λ (x : Table). restOf x) u ∙ q .1)
+returns c = let g = c .before .before .before .args .g in let e = ap (λ (x : Summarised). x .number) (c .before .before .summary-of .ensures) ∙ its-number g in let q = begun-refused g (λ z. c .before .if1 .taken (e ∙ z)) in let u = c .refused .ensures ∙ ap tableRefused e in (u ∙ q .0, ap (λ (x : Table). restOf x) u ∙ q .1)
 
 add-t7 : tie.Need-add-t7
 add-t7 c = let g = c .before .before .before .before .before .args .g in let l : length (g .label) ≡ 12 = search (needs, c .before .before .before .before .before .good .0 .1 .1 .1 .1 .1 .1 .1 .1 .1 .1 .1 .1 .1 .1 .1 .1 .1 .1 .1) in let e = sym (its-number g) ∙ sym (ap (λ (x : Summarised). x .number) (c .before .before .before .before .summary-of .ensures)) ∙ c .before .before .before .if1 .left in let w = few-groups g l (all-planned g l e .0) in omega arith

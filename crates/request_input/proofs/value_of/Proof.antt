@@ -4,13 +4,13 @@ use mathlib.Core.Path.{_≡_, refl, sym, _∙_}
 use Prim.Native.Nat.{_-_}
 use native.Mathlib.Omega.{arith}
 use lib.ListN.{length}
-use Rattle.request_input.specs.Records.{records, lookup}
+use Rattle.request_input.specs.Records.{records, valueWith}
 use Rattle.request_input.proofs.Splitting.{lookup-here, lookup-later, lookup-end}
 use Rattle.request_input.proofs.value_of.Statement.{statement}
 use Rattle.request_input.proofs.value_of.Tie as tie
 
 abbrev Inv-loop : tie.InvT-loop
-Inv-loop input from key at₀ at = lookup key (records from input) ≡ lookup key (records at input)
+Inv-loop input from key at₀ at = valueWith key (records from input) ≡ valueWith key (records at input)
 
 abbrev μ-loop : tie.MeasureT-loop
 μ-loop input from key at₀ at = length input - at

@@ -1,7 +1,7 @@
 -- `request_texts::pack` meets its contract. Invariant: the bytes from i on make what is left of the number.
 -- Assumes nothing.
 use Rattle.request_texts.proofs.Saying.{fold-turn, fold-done}
-use Rattle.request_texts.specs.Texts.{named, packed}
+use Rattle.request_texts.specs.Texts.{named, packedName}
 use Rattle.seqs.specs.Lists.{fold}
 use lib.ListN.{length, drop}
 use native.Mathlib.Omega.{arith}
@@ -11,13 +11,13 @@ use Rattle.request_texts.proofs.pack.Statement.{statement}
 use Rattle.request_texts.proofs.pack.Tie as tie
 
 abbrev Inv-loop : tie.InvT-loop
-Inv-loop name v₀ i₀ v i = (packed name ≡ fold named v (drop i name)) × (i ≤ length name)
+Inv-loop name v₀ i₀ v i = (packedName name ≡ fold named v (drop i name)) × (i ≤ length name)
 
 abbrev μ-loop : tie.MeasureT-loop
 μ-loop name v₀ i₀ v i = length name - i
 
 loop-holds : tie.Need-loop-holds Inv-loop μ-loop
-unfolding packed
+unfolding packedName
 loop-holds c = (refl, omega arith)
 
 shared-slice-read-push : tie.Need-shared-slice-read-push Inv-loop μ-loop

@@ -1,6 +1,6 @@
 -- `table_lines::put_run` meets its contract.
 -- Assumes nothing.
-use Rattle.table_lines.specs.Lines.{runBytes}
+use Rattle.table_lines.specs.Lines.{runLine}
 use borrow.Author.Needs.{needs}
 use Rattle.table_lines.proofs.put_run.Statement.{statement}
 use Rattle.table_lines.proofs.put_run.Tie as tie
@@ -18,7 +18,7 @@ same-length : tie.Need-same-length
 same-length c = search needs
 
 returns : tie.Need-returns
-unfolding runBytes
+unfolding runLine
 returns c = rw (c .before .before .before .before .before .before .if1 .taken) (c .before .before .put-words .ensures)
 
 slice-aggregate-put-words-3 : tie.Need-slice-aggregate-put-words-3
@@ -34,7 +34,7 @@ same-length-2 : tie.Need-same-length-2
 same-length-2 c = search needs
 
 returns-2 : tie.Need-returns-2
-unfolding runBytes
+unfolding runLine
 returns-2 c = rw (c .before .before .before .before .before .before .if1 .left) (c .before .before .put-words2 .ensures)
 
 pub put-run-spec : {M : Type 1} → statement M

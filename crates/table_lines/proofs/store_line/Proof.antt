@@ -6,7 +6,7 @@ use native.Mathlib.Omega.{arith}
 use lib.ListN.{length, drop}
 use borrow.Author.Needs.{needs}
 use Rattle.endian.specs.Bytes.{patch}
-use Rattle.table_lines.specs.Lines.{line, behind as after}
+use Rattle.table_lines.specs.Lines.{line, separatorBefore as after}
 use Rattle.table_lines.proofs.Stores.{length-turn, line-none, rest-length, behind-turn, number-turn, patch-none}
 use Rattle.table_lines.proofs.store_line.Statement.{statement}
 use Rattle.table_lines.proofs.store_line.Tie as tie

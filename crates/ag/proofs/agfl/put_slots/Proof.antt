@@ -5,7 +5,7 @@ use Rattle.ag.proofs.Slots.{slot-turn}
 use Rattle.ag.specs.Agfl.{placed}
 use Rattle.structs.specs.Written.{null32}
 use Rattle.endian.proofs.Laws.{put-in}
-use Rattle.endian.specs.Bytes.{patch, runBytes}
+use Rattle.endian.specs.Bytes.{patch, numbersBytes}
 use borrow.Author.Needs.{needs}
 use lib.ListN.{length, take, replicate}
 use native.Mathlib.Nat.{mod-lt}
@@ -16,7 +16,7 @@ use Rattle.ag.proofs.agfl.put_slots.Statement.{statement}
 use Rattle.ag.proofs.agfl.put_slots.Tie as tie
 
 abbrev Inv-loop : tie.InvT-loop
-Inv-loop sector₀ first count list slots i₀ sector i = (i ≤ count) × (length sector ≡ length sector₀) × (sector ≡ patch 36 (runBytes 4 (placed slots first (take i list) (replicate slots null32))) sector₀)
+Inv-loop sector₀ first count list slots i₀ sector i = (i ≤ count) × (length sector ≡ length sector₀) × (sector ≡ patch 36 (numbersBytes 4 (placed slots first (take i list) (replicate slots null32))) sector₀)
 
 abbrev μ-loop : tie.MeasureT-loop
 μ-loop sector₀ first count list slots i₀ sector i = count - i

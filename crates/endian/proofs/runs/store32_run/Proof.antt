@@ -6,20 +6,20 @@ use native.Mathlib.Nat.{add-zero}
 use native.Mathlib.Omega.{arith}
 use lib.ListN.{length, drop}
 use lib.Seq.{drop-length}
-use Rattle.endian.specs.Bytes.{patch, runBytes}
+use Rattle.endian.specs.Bytes.{patch, numbersBytes}
 use Rattle.endian.proofs.Laws.{run-turn}
 use Rattle.endian.proofs.runs.store32_run.Statement.{statement}
 use Rattle.endian.proofs.runs.store32_run.Tie as tie
 
 abbrev Inv-loop : tie.InvT-loop
-Inv-loop buf₀ off v i₀ buf i = (i ≤ length v) × (buf ≡ patch (off + 4 * i) (runBytes 4 (drop i v)) buf₀) × (length buf ≡ length buf₀)
+Inv-loop buf₀ off v i₀ buf i = (i ≤ length v) × (buf ≡ patch (off + 4 * i) (numbersBytes 4 (drop i v)) buf₀) × (length buf ≡ length buf₀)
 
 abbrev μ-loop : tie.MeasureT-loop
 μ-loop buf₀ off v i₀ buf i = i
 
 loop-holds : tie.Need-loop-holds Inv-loop μ-loop
-unfolding patch runBytes
-loop-holds c = let a = c .before .before .args in (omega arith, sym (ap (λ l. patch (a .off + 4 * length (a .v .now)) (runBytes 4 l) (a .buf .now)) (drop-length (a .v .now))), refl)
+unfolding patch numbersBytes
+loop-holds c = let a = c .before .before .args in (omega arith, sym (ap (λ l. patch (a .off + 4 * length (a .v .now)) (numbersBytes 4 l) (a .buf .now)) (drop-length (a .v .now))), refl)
 
 cast-store : tie.Need-cast-store Inv-loop μ-loop
 cast-store c = omega (arith, c .shared-slice-known2 .given (c .before .before .before .loop .i - 1))

@@ -5,14 +5,14 @@ use Prim.Native.Nat.{_*_, _-_, _≤_}
 use native.Mathlib.Omega.{arith}
 use lib.Dec.{T}
 use lib.ListN.{length, drop}
-use Rattle.endian.specs.Fields.{write, table, fitting}
+use Rattle.endian.specs.Fields.{writeFields, table, tableInside}
 use Rattle.endian.proofs.Tables.{all-fits, all-within, all-write, all-ends}
 use Rattle.endian.proofs.runs.store_all.Statement.{statement}
 use Rattle.endian.proofs.runs.store_all.Tie as tie
 
 abbrev Inv-loop : tie.InvT-loop
 Inv-loop buf₀ end at v i₀ buf i =
-    (i ≤ length v) × (T (fitting end (drop (2 * i) at))) × (write (table (drop (2 * i) at) (drop i v)) buf ≡ write (table at v) buf₀) × (length buf ≡ length buf₀)
+    (i ≤ length v) × (T (tableInside end (drop (2 * i) at))) × (writeFields (table (drop (2 * i) at) (drop i v)) buf ≡ writeFields (table at v) buf₀) × (length buf ≡ length buf₀)
 
 abbrev μ-loop : tie.MeasureT-loop
 μ-loop buf₀ end at v i₀ buf i = length v - i

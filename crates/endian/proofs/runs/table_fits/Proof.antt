@@ -5,13 +5,13 @@ use native.Mathlib.Omega.{arith}
 use mathlib.Core.Path.{_≡_, refl}
 use Prim.Native.Nat.{_*_, _-_, _≤_}
 use lib.ListN.{length, drop}
-use Rattle.endian.specs.Fields.{fitting}
+use Rattle.endian.specs.Fields.{tableInside}
 use Rattle.endian.proofs.Tables.{no-table, table-ends, table-turn, table-stops}
 use Rattle.endian.proofs.runs.table_fits.Statement.{statement}
 use Rattle.endian.proofs.runs.table_fits.Tie as tie
 
 abbrev Inv-loop : tie.InvT-loop
-Inv-loop len at n i₀ i = (i ≤ n) × (length at ≡ 2 * n) × (fitting len (drop (2 * i) at) ≡ fitting len at)
+Inv-loop len at n i₀ i = (i ≤ n) × (length at ≡ 2 * n) × (tableInside len (drop (2 * i) at) ≡ tableInside len at)
 
 abbrev μ-loop : tie.MeasureT-loop
 μ-loop len at n i₀ i = n - i

@@ -1,6 +1,6 @@
 -- `head::roots::address` meets its contract.
 -- Assumes nothing.
-use Rattle.geometry_layout.specs.Places.{daddrOf, before}
+use Rattle.geometry_layout.specs.Places.{daddrOf, diskBlocksBefore}
 use native.Mathlib.Omega.{arith}
 use Prim.Native.Nat.{_*_, _<_, _^_}
 use borrow.Author.Needs.{needs}
@@ -17,7 +17,7 @@ mul-result-2 : tie.Need-mul-result-2
 mul-result-2 c = let a = c .before .before .before .pre .0 .addresses (c .before .before .before .args .b) (c .before .before .before .pre .1) in search (needs, a .1)
 
 returns : tie.Need-returns
-unfolding daddrOf before
+unfolding daddrOf diskBlocksBefore
 returns c = cc
 
 pub address-spec : {M : Type 1} → statement M

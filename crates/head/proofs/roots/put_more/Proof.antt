@@ -2,7 +2,7 @@
 -- Assumes nothing.
 use Rattle.head_bytes.proofs.Whole.{block-room, fibt-inside, rmap-inside, refc-inside}
 use Rattle.head_bytes.specs.Parts.{moreOn}
-use Rattle.head_bytes.specs.Head.{headBlocks}
+use Rattle.head_bytes.specs.Head.{frameBlocks}
 use Rattle.endian.proofs.Laws.{kept}
 use mathlib.Core.Path.{_∙_}
 use borrow.Author.Needs.{needs}
@@ -10,13 +10,13 @@ use Rattle.head.proofs.roots.put_more.Statement.{statement}
 use Rattle.head.proofs.roots.put_more.Tie as tie
 
 put-fibt-requires : tie.Need-put-fibt-requires
-put-fibt-requires c κs = let w = c .before .before .before .args .w in (c .before .before .before .pre .0, λ e. block-room _ (headBlocks w) (w .block) _ (fibt-inside w e) (c .before .before .before .pre .2))
+put-fibt-requires c κs = let w = c .before .before .before .args .w in (c .before .before .before .pre .0, λ e. block-room _ (frameBlocks w) (w .block) _ (fibt-inside w e) (c .before .before .before .pre .2))
 
 put-rmap-requires : tie.Need-put-rmap-requires
-put-rmap-requires c κs = let w = c .before .before .before .before .before .before .before .args .w in (c .before .before .before .before .before .before .before .pre .0, c .before .before .before .before .before .before .before .pre .1 .rmap-most, λ e. block-room _ (headBlocks w) (w .block) _ (rmap-inside w e) (kept (c .before .before .before .put-fibt .kept .1 .1 .0) (c .before .before .before .before .before .before .before .pre .2)))
+put-rmap-requires c κs = let w = c .before .before .before .before .before .before .before .args .w in (c .before .before .before .before .before .before .before .pre .0, c .before .before .before .before .before .before .before .pre .1 .rmap-most, λ e. block-room _ (frameBlocks w) (w .block) _ (rmap-inside w e) (kept (c .before .before .before .put-fibt .kept .1 .1 .0) (c .before .before .before .before .before .before .before .pre .2)))
 
 put-refc-requires : tie.Need-put-refc-requires
-put-refc-requires c κs = let w = c .before .before .before .before .before .before .before .before .before .before .before .args .w in (c .before .before .before .before .before .before .before .before .before .before .before .pre .0, λ e. block-room _ (headBlocks w) (w .block) _ (refc-inside w e) (kept (c .before .before .before .put-rmap .kept .1 .1 .1 .0 ∙ c .before .before .before .before .before .before .before .put-fibt .kept .1 .1 .0) (c .before .before .before .before .before .before .before .before .before .before .before .pre .2)))
+put-refc-requires c κs = let w = c .before .before .before .before .before .before .before .before .before .before .before .args .w in (c .before .before .before .before .before .before .before .before .before .before .before .pre .0, λ e. block-room _ (frameBlocks w) (w .block) _ (refc-inside w e) (kept (c .before .before .before .put-rmap .kept .1 .1 .1 .0 ∙ c .before .before .before .before .before .before .before .put-fibt .kept .1 .1 .0) (c .before .before .before .before .before .before .before .before .before .before .before .pre .2)))
 
 returns : tie.Need-returns
 unfolding moreOn

@@ -3,7 +3,7 @@
 use Rattle.head_bytes.proofs.Whole.{block-on, block-off}
 use Rattle.endian.specs.Bytes.{patch}
 use Rattle.head_bytes.specs.Head.{rootBytes, rmapMagic}
-use Rattle.btree.specs.Records.{listed, rmapBytes}
+use Rattle.btree.specs.Records.{recordsBytes, rmapBytes}
 use Rattle.plan_rmap.specs.Rmap.{rmapOf}
 use Rattle.head_bytes.specs.Head.{rmapRoot}
 use native.Mathlib.Omega.{arith}
@@ -18,7 +18,7 @@ put-maps-requires c κs = (c .before .before .before .before .before .pre .0, c 
 
 returns : tie.Need-returns
 unfolding rmapRoot
-returns c = let a = c .before .before .before .before .before .before .before .before .args in block-on _ _ _ _ _ (c .before .before .before .before .before .if1 .taken) (c .before .before .put-maps .ensures ∙ ap (λ (b : ℕ). patch (b * a .w .block) (rootBytes (a .w) (a .uuid .now) rmapMagic b (listed rmapBytes (rmapOf (a .l))) (a .l .len)) (a .buf .now)) (c .before .before .before .before .rmap-at .ensures .0))
+returns c = let a = c .before .before .before .before .before .before .before .before .args in block-on _ _ _ _ _ (c .before .before .before .before .before .if1 .taken) (c .before .before .put-maps .ensures ∙ ap (λ (b : ℕ). patch (b * a .w .block) (rootBytes (a .w) (a .uuid .now) rmapMagic b (recordsBytes rmapBytes (rmapOf (a .l))) (a .l .len)) (a .buf .now)) (c .before .before .before .before .rmap-at .ensures .0))
 
 returns-2 : tie.Need-returns-2
 returns-2 c = block-off _ _ _ _ (c .if1 .left)

@@ -4,20 +4,20 @@ use Prim.Native.Nat.{ℕ, _+_}
 use mathlib.Core.Path.{_≡_, sym, ap, _∙_}
 use native.Mathlib.Omega.{arith}
 use Rattle.list_lengths.specs.declared.parts.Sizes.{Sizes}
-use Rattle.list_lengths.specs.Lengths.{sizesOf, lengthOf}
+use Rattle.list_lengths.specs.Lengths.{listSizes, chunkListLength}
 use Rattle.list_lengths.proofs.Which.{opening-length, group-length, root-length, closing-length}
 use Rattle.list_lengths.proofs.Fits.{Fit, all-fit}
 use borrow.Author.Needs.{needs}
 use Rattle.list_lengths.proofs.parts.length_of.Statement.{statement}
 use Rattle.list_lengths.proofs.parts.length_of.Tie as tie
 
-fit : (s : tie.Start) {z : Sizes} → z ≡ sizesOf (s .args .f) (s .args .sector) (s .args .inode) (s .args .bs) → Fit z
+fit : (s : tie.Start) {z : Sizes} → z ≡ listSizes (s .args .f) (s .args .sector) (s .args .inode) (s .args .bs) → Fit z
 fit s e = rw e (all-fit (s .args .f) _ _ _ (search needs) (search needs) (search needs))
 
 -- by the sizes that `sizes_of` gave
-by-sizes : (s : tie.Start) {z : Sizes} → z ≡ sizesOf (s .args .f) (s .args .sector) (s .args .inode) (s .args .bs) → {n : ℕ} → n ≡ lengthOf z (s .args .groups) (s .args .k)
-    → n ≡ lengthOf (sizesOf (s .args .f) (s .args .sector) (s .args .inode) (s .args .bs)) (s .args .groups) (s .args .k)
-by-sizes s e h = h ∙ ap (λ (z : Sizes). lengthOf z (s .args .groups) (s .args .k)) e
+by-sizes : (s : tie.Start) {z : Sizes} → z ≡ listSizes (s .args .f) (s .args .sector) (s .args .inode) (s .args .bs) → {n : ℕ} → n ≡ chunkListLength z (s .args .groups) (s .args .k)
+    → n ≡ chunkListLength (listSizes (s .args .f) (s .args .sector) (s .args .inode) (s .args .bs)) (s .args .groups) (s .args .k)
+by-sizes s e h = h ∙ ap (λ (z : Sizes). chunkListLength z (s .args .groups) (s .args .k)) e
 
 opening-requires : tie.Need-blocks-length-requires
 opening-requires c κs = let f = fit (c .before .before) (c .before .sizes-of .ensures) in (f .block, f .one)

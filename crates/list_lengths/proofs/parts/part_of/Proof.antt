@@ -4,20 +4,20 @@ use Prim.Native.Nat.{ℕ}
 use mathlib.Core.Path.{_≡_, sym, ap, _∙_}
 use native.Mathlib.Omega.{arith}
 use Rattle.list_lengths.specs.declared.parts.Sizes.{Sizes}
-use Rattle.list_lengths.specs.Lengths.{sizesOf, partOf}
+use Rattle.list_lengths.specs.Lengths.{listSizes, splitPart}
 use Rattle.list_lengths.proofs.Which.{opening-size, root-size, head-size}
 use Rattle.list_lengths.proofs.Fits.{Fit, all-fit, bytes-fit}
 use borrow.Author.Needs.{needs}
 use Rattle.list_lengths.proofs.parts.part_of.Statement.{statement}
 use Rattle.list_lengths.proofs.parts.part_of.Tie as tie
 
-fit : (s : tie.Start) {z : Sizes} → z ≡ sizesOf (s .args .f) (s .args .sector) (s .args .inode) (s .args .bs) → Fit z
+fit : (s : tie.Start) {z : Sizes} → z ≡ listSizes (s .args .f) (s .args .sector) (s .args .inode) (s .args .bs) → Fit z
 fit s e = rw e (all-fit (s .args .f) _ _ _ (search needs) (search needs) (search needs))
 
 -- by the sizes that `sizes_of` gave
-by-sizes : (s : tie.Start) {z : Sizes} → z ≡ sizesOf (s .args .f) (s .args .sector) (s .args .inode) (s .args .bs) → {n : ℕ} → partOf z (s .args .groups) (s .args .k) ≡ n
-    → n ≡ partOf (sizesOf (s .args .f) (s .args .sector) (s .args .inode) (s .args .bs)) (s .args .groups) (s .args .k)
-by-sizes s e h = sym h ∙ ap (λ (z : Sizes). partOf z (s .args .groups) (s .args .k)) e
+by-sizes : (s : tie.Start) {z : Sizes} → z ≡ listSizes (s .args .f) (s .args .sector) (s .args .inode) (s .args .bs) → {n : ℕ} → splitPart z (s .args .groups) (s .args .k) ≡ n
+    → n ≡ splitPart (listSizes (s .args .f) (s .args .sector) (s .args .inode) (s .args .bs)) (s .args .groups) (s .args .k)
+by-sizes s e h = sym h ∙ ap (λ (z : Sizes). splitPart z (s .args .groups) (s .args .k)) e
 
 returns : tie.Need-returns
 returns c = by-sizes (c .before .before) (c .before .sizes-of .ensures) (opening-size _ _ _ (c .if1 .taken))

@@ -1,13 +1,13 @@
 -- `list_write::chunks::byte_of` meets its contract.
 -- Assumes nothing.
-use Rattle.geometry_layout.specs.Places.{byteOf, before}
+use Rattle.geometry_layout.specs.Places.{byteOf, diskBlocksBefore}
 use mathlib.Core.Path.{refl}
 use borrow.Author.Needs.{needs}
 use Rattle.list_write.proofs.chunks.byte_of.Statement.{statement}
 use Rattle.list_write.proofs.chunks.byte_of.Tie as tie
 
 returns : tie.Need-returns
-unfolding byteOf before
+unfolding byteOf diskBlocksBefore
 returns c = refl
 
 pub byte-of-spec : {M : Type 1} → statement M

@@ -6,13 +6,13 @@ use lib.ListN.{length}
 use Prim.Native.Nat.{_+_, _*_, _-_, _≤_}
 use mathlib.Core.Path.{_≡_, refl, _∙_}
 use Rattle.endian.specs.Bytes.{patch}
-use Rattle.list_records.specs.Records.{listBytes, blocks}
+use Rattle.list_records.specs.Records.{listBytes, blockRecords}
 use Rattle.list_write.proofs.Splitting.{blocksFrom, blocks-start, blocks-turn, blocks-end, nth-room}
 use Rattle.list_write.proofs.split.put_blocks.Statement.{statement}
 use Rattle.list_write.proofs.split.put_blocks.Tie as tie
 
 abbrev Inv-loop : tie.InvT-loop
-Inv-loop bs offset n src at buf₀ j₀ buf j = (j ≤ n) × (length buf ≡ length buf₀) × (patch (at + j * (18 + bs)) (blocksFrom bs offset n src j) buf ≡ patch at (listBytes (blocks bs offset n src)) buf₀)
+Inv-loop bs offset n src at buf₀ j₀ buf j = (j ≤ n) × (length buf ≡ length buf₀) × (patch (at + j * (18 + bs)) (blocksFrom bs offset n src j) buf ≡ patch at (listBytes (blockRecords bs offset n src)) buf₀)
 
 abbrev μ-loop : tie.MeasureT-loop
 μ-loop bs offset n src at buf₀ j₀ buf j = n - j

@@ -3,7 +3,7 @@
 use Rattle.log.proofs.Laws.{stamp-turn, stamp-ends}
 use Rattle.log.specs.Record.{stamps}
 use Rattle.endian.proofs.Laws.{put-in}
-use Rattle.endian.specs.Fields.{write}
+use Rattle.endian.specs.Fields.{writeFields}
 use borrow.Author.Needs.{needs}
 use native.Mathlib.Omega.{arith}
 use lib.ListN.{length}
@@ -13,7 +13,7 @@ use Rattle.log.proofs.parts.stamp_blocks.Statement.{statement}
 use Rattle.log.proofs.parts.stamp_blocks.Tie as tie
 
 abbrev Inv-loop : tie.InvT-loop
-Inv-loop rec₀ blocks cycle i₀ rec i = (length rec ≡ length rec₀) × (write (stamps cycle i (blocks - i)) rec ≡ write (stamps cycle 2 (blocks - 2)) rec₀)
+Inv-loop rec₀ blocks cycle i₀ rec i = (length rec ≡ length rec₀) × (writeFields (stamps cycle i (blocks - i)) rec ≡ writeFields (stamps cycle 2 (blocks - 2)) rec₀)
 
 abbrev μ-loop : tie.MeasureT-loop
 μ-loop rec₀ blocks cycle i₀ rec i = blocks - i

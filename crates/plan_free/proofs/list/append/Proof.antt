@@ -7,7 +7,7 @@ use native.Mathlib.Omega.{arith}
 use lib.ListN.{length, length-map}
 use lib.Seq.{slice}
 use Rattle.seqs.specs.Lists.{appended}
-use Rattle.plan_free.specs.Free.{ofFree, toFree, zeroRec}
+use Rattle.plan_free.specs.Free.{ofFree, toFree, zeroFreeRec}
 use Rattle.seqs.proofs.Laws.{appended-step, appended-end}
 use Rattle.plan_free.proofs.list.append.Statement.{statement}
 use Rattle.plan_free.proofs.list.append.Tie as tie
@@ -24,12 +24,12 @@ loop-again c =
     let s = c .before .before .before .before in
     let l = c .before .before .before .loop in
     let k : length (s .args .t2 .recs) ≡ 64 = simp length-map at (s .good .1 .0 .1 .1 .0 .1 .0 .1) in
-    rw (c .push .ensures) (search needs, l .inv .1 ∙ appended-step zeroRec (ofFree (l .out)) (s .args .t2 .recs) (s .args .to) (l .i) (search needs) (omega arith))
+    rw (c .push .ensures) (search needs, l .inv .1 ∙ appended-step zeroFreeRec (ofFree (l .out)) (s .args .t2 .recs) (s .args .to) (l .i) (search needs) (omega arith))
 
 returns : tie.Need-returns Inv-loop μ-loop
 returns c =
     let e : c .before .loop .i ≡ c .before .before .args .to = omega arith in
-    ap toFree (sym (c .before .loop .inv .1 ∙ appended-end zeroRec _ (c .before .before .args .t2 .recs) _ _ e))
+    ap toFree (sym (c .before .loop .inv .1 ∙ appended-end zeroFreeRec _ (c .before .before .args .t2 .recs) _ _ e))
 
 pub append-spec : {M : Type 1} → statement M
 append-spec =

@@ -8,13 +8,13 @@ use lib.ListN.{length, length-map}
 use lib.Seq.{slice}
 use borrow.Author.Tests.{not-true, not-false}
 use Rattle.seqs.specs.Runs.{valid}
-use Rattle.plan_free.specs.Free.{freeOf, startOf, countOf, zeroRec}
+use Rattle.plan_free.specs.Free.{freeOf, allocStart, allocCount, zeroFreeRec}
 use Rattle.seqs.proofs.Validity.{valid-step, valid-no, valid-end}
 use Rattle.plan_free.proofs.list.is_valid.Statement.{statement}
 use Rattle.plan_free.proofs.list.is_valid.Tie as tie
 
 abbrev Inv-loop : tie.InvT-loop
-Inv-loop l n lo₀ i₀ lo i = (i ≤ n) × (valid startOf countOf 0 (freeOf l) ≡ valid startOf countOf lo (slice i n (l .recs)))
+Inv-loop l n lo₀ i₀ lo i = (i ≤ n) × (valid allocStart allocCount 0 (freeOf l) ≡ valid allocStart allocCount lo (slice i n (l .recs)))
 
 abbrev μ-loop : tie.MeasureT-loop
 μ-loop l n lo₀ i₀ lo i = n - i
@@ -24,7 +24,7 @@ returns c =
     let s = c .before .before .before .before .before in
     let l = c .before .before .before .before .loop in
     let k : length (s .args .t1 .recs) ≡ 64 = simp length-map at (s .good .0 .1 .1 .0 .1 .0 .1) in
-    sym (l .inv .1 ∙ valid-no startOf countOf zeroRec (l .lo) (s .args .t1 .recs) (s .args .t1 .len) (l .i) (search needs) (omega arith) (sym (c .before .may-follow .ensures) ∙ not-true _ (c .if1 .taken)))
+    sym (l .inv .1 ∙ valid-no allocStart allocCount zeroFreeRec (l .lo) (s .args .t1 .recs) (s .args .t1 .len) (l .i) (search needs) (omega arith) (sym (c .before .may-follow .ensures) ∙ not-true _ (c .if1 .taken)))
 
 loop-again : tie.Need-loop-again Inv-loop μ-loop
 loop-again c =
@@ -33,13 +33,13 @@ loop-again c =
     let k : length (s .args .t1 .recs) ≡ 64 = simp length-map at (s .good .0 .1 .1 .0 .1 .0 .1) in (
       search needs,
       rw (c .end-of .ensures) (l .inv .1
-          ∙ valid-step startOf countOf zeroRec (l .lo) (s .args .t1 .recs) (s .args .t1 .len) (l .i) (search needs) (omega arith) (sym (c .before .before .may-follow .ensures) ∙ not-false _ (c .before .if1 .left))),
+          ∙ valid-step allocStart allocCount zeroFreeRec (l .lo) (s .args .t1 .recs) (s .args .t1 .len) (l .i) (search needs) (omega arith) (sym (c .before .before .may-follow .ensures) ∙ not-false _ (c .before .if1 .left))),
     )
 
 returns-2 : tie.Need-returns-2 Inv-loop μ-loop
 returns-2 c =
     let e : c .before .loop .i ≡ c .before .before .args .t1 .len = omega arith in
-    sym (c .before .loop .inv .1 ∙ valid-end startOf countOf zeroRec _ (c .before .before .args .t1 .recs) _ _ e)
+    sym (c .before .loop .inv .1 ∙ valid-end allocStart allocCount zeroFreeRec _ (c .before .before .args .t1 .recs) _ _ e)
 
 pub is-valid-spec : {M : Type 1} → statement M
 is-valid-spec =

@@ -6,7 +6,7 @@ use mathlib.Core.Path.{_≡_, sym, _∙_}
 use Prim.Native.Nat.{_-_, _≤_}
 use lib.ListN.{length, length-map}
 use lib.Seq.{slice}
-use Rattle.plan_free.specs.Free.{freeOf, noChoice, zeroRec, fitter}
+use Rattle.plan_free.specs.Free.{freeOf, noChoice, zeroFreeRec, fitter}
 use Rattle.seqs.specs.Lists.{fold}
 use Rattle.seqs.proofs.Laws.{fold-step, fold-end}
 use Rattle.plan_free.proofs.picking.best_fit.Statement.{statement}
@@ -26,12 +26,12 @@ loop-again c =
     let s = c .before .before .before .before .before in
     let k : length (s .args .t1 .recs) ≡ 64 = simp length-map at (s .good .0 .1 .1 .0 .1 .0 .1) in
     let l = c .before .before .before .loop in
-    (search needs, rw (c .better-fit .ensures) (l .inv .1 ∙ fold-step (fitter (s .args .want)) zeroRec (l .c) (s .args .t1 .recs) (s .args .t1 .len) (l .i) (search needs) (omega arith)))
+    (search needs, rw (c .better-fit .ensures) (l .inv .1 ∙ fold-step (fitter (s .args .want)) zeroFreeRec (l .c) (s .args .t1 .recs) (s .args .t1 .len) (l .i) (search needs) (omega arith)))
 
 returns : tie.Need-returns Inv-loop μ-loop
 returns c =
     let e : c .before .loop .i ≡ c .before .before .before .args .t1 .len = omega arith in
-    sym (c .before .loop .inv .1 ∙ fold-end _ zeroRec _ (c .before .before .before .args .t1 .recs) _ _ e)
+    sym (c .before .loop .inv .1 ∙ fold-end _ zeroFreeRec _ (c .before .before .before .args .t1 .recs) _ _ e)
 
 pub best-fit-spec : {M : Type 1} → statement M
 best-fit-spec =

@@ -4,7 +4,7 @@ use native.Mathlib.Omega.{arith}
 use mathlib.Core.Path.{_∙_}
 use borrow.Author.Tests.{lt-ltb, le-ltb}
 use Rattle.seqs.specs.Lists.{appended}
-use Rattle.plan_free.specs.Free.{before}
+use Rattle.plan_free.specs.Free.{restBefore}
 use Rattle.plan_free.proofs.taking.put_before.Statement.{statement}
 use Rattle.plan_free.proofs.taking.put_before.Tie as tie
 

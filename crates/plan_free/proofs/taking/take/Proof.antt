@@ -7,7 +7,7 @@ use borrow.Author.Tests.{lt-ltb, le-ltb, not-true, not-false}
 use lib.ListN.{length, length-map}
 use lib.Seq.{length-take-le}
 use Rattle.seqs.specs.Lists.{firstIndex}
-use Rattle.plan_free.specs.Free.{freeOf, startOf, countOf, zeroRec, taken, takenFrom, takenAt, holdsRun}
+use Rattle.plan_free.specs.Free.{freeOf, allocStart, allocCount, zeroFreeRec, taken, takenFrom, takenAt, holdsRun}
 use Rattle.seqs.proofs.Validity.{live-valid}
 use Rattle.plan_free.proofs.Laws.{live-holds}
 use Rattle.plan_free.proofs.taking.take.Statement.{statement}
@@ -44,7 +44,7 @@ take-at-requires c κs =
     let s = c .before .before .before .before .before .before in
     let k : length (s .args .free .recs) ≡ 64 = simp length-map at (s .good .0 .1 .1 .0 .1 .0 .1) in
     let q = live-holds (s .args .free .recs) (s .args .free .len) (c .before .find .result) (omega arith) (omega arith) (s .args .start) (s .args .start + s .args .len) (c .before .find .ensures) in
-    let v = live-valid startOf countOf zeroRec (s .args .free .recs) (s .args .free .len) (c .before .find .result) (omega arith) (omega arith) (sym (c .before .before .before .before .is-valid .ensures) ∙ not-false _ (c .before .before .before .if2 .left)) in
+    let v = live-valid allocStart allocCount zeroFreeRec (s .args .free .recs) (s .args .free .len) (c .before .find .result) (omega arith) (omega arith) (sym (c .before .before .before .before .is-valid .ensures) ∙ not-false _ (c .before .before .before .if2 .left)) in
     (omega arith, omega arith, omega arith, v)
 
 returns-5 : tie.Need-returns-5

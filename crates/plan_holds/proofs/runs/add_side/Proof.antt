@@ -8,7 +8,7 @@ use lib.ListN.{length, length-map}
 use lib.Seq.{slice}
 use Rattle.seqs.specs.Lists.{fold}
 use Rattle.seqs.proofs.Laws.{fold-step, fold-end}
-use Rattle.plan_free.specs.Free.{zeroRec}
+use Rattle.plan_free.specs.Free.{zeroFreeRec}
 use Rattle.plan_holds.specs.Adding.{addedSide}
 use Rattle.plan_holds.specs.Holding.{heldOf}
 use Rattle.plan_holds.proofs.runs.add_side.Statement.{statement}
@@ -25,12 +25,12 @@ loop-again c =
     let s = c .before .before .before .before .before in
     let l = c .before .before .before .before .loop in
     let k : length (s .args .t2 .recs) ≡ 8 = simp length-map at (s .good .1 .0 .1 .1 .0 .1 .0 .1) in
-    (search needs, rw (c .add-if .ensures, c .before .starts-on .ensures) (l .inv .1 ∙ fold-step (addedSide (s .args .low) (s .args .a)) zeroRec (l .out) (s .args .t2 .recs) (s .args .t2 .len) (l .i) (search needs) (omega arith)))
+    (search needs, rw (c .add-if .ensures, c .before .starts-on .ensures) (l .inv .1 ∙ fold-step (addedSide (s .args .low) (s .args .a)) zeroFreeRec (l .out) (s .args .t2 .recs) (s .args .t2 .len) (l .i) (search needs) (omega arith)))
 
 returns : tie.Need-returns Inv-loop μ-loop
 returns c =
     let e : c .before .loop .i ≡ c .before .before .args .t2 .len = omega arith in
-    sym (c .before .loop .inv .1 ∙ fold-end _ zeroRec _ (c .before .before .args .t2 .recs) _ _ e)
+    sym (c .before .loop .inv .1 ∙ fold-end _ zeroFreeRec _ (c .before .before .args .t2 .recs) _ _ e)
 
 pub add-side-spec : {M : Type 1} → statement M
 add-side-spec =

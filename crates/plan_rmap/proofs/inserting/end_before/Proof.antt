@@ -6,7 +6,7 @@ use mathlib.Core.Path.{_≡_, sym, _∙_}
 use Prim.Native.Nat.{_-_}
 use lib.ListN.{take}
 use lib.Seq.{getD-take}
-use Rattle.plan_rmap.specs.Rmap.{startOf, countOf, zeroRec}
+use Rattle.plan_rmap.specs.Rmap.{rmapStart, rmapCount, zeroRmapRec}
 use Rattle.seqs.proofs.Validity.{endAt-pos}
 use Rattle.plan_rmap.proofs.inserting.end_before.Statement.{statement}
 use Rattle.plan_rmap.proofs.inserting.end_before.Tie as tie
@@ -14,7 +14,7 @@ use Rattle.plan_rmap.proofs.inserting.end_before.Tie as tie
 returns : tie.Need-returns
 returns c =
     let s = c .before .before .before in
-    c .end-of .ensures ∙ sym (endAt-pos startOf countOf zeroRec 0 (take (s .args .t1 .len) (s .args .t1 .recs)) (s .args .p) (search needs) ∙ rw (getD-take (s .args .t1 .len) (s .args .t1 .recs) (s .args .p - 1) zeroRec (omega arith)))
+    c .end-of .ensures ∙ sym (endAt-pos rmapStart rmapCount zeroRmapRec 0 (take (s .args .t1 .len) (s .args .t1 .recs)) (s .args .p) (search needs) ∙ rw (getD-take (s .args .t1 .len) (s .args .t1 .recs) (s .args .p - 1) zeroRmapRec (omega arith)))
 
 returns-2 : tie.Need-returns-2
 returns-2 c = let e : c .before .args .p ≡ 0 = omega arith in rw e

@@ -6,7 +6,7 @@ use mathlib.Core.Path.{_∙_}
 use Prim.Native.Nat.{_-_}
 use borrow.Author.Tests.{lt-ltb, le-ltb}
 use lib.Seq.{getD-take}
-use Rattle.plan_rmap.specs.Rmap.{zeroRec, joinsLeft}
+use Rattle.plan_rmap.specs.Rmap.{zeroRmapRec, joinsLeft}
 use Rattle.plan_rmap.proofs.inserting.joined_left.Statement.{statement}
 use Rattle.plan_rmap.proofs.inserting.joined_left.Tie as tie
 
@@ -14,7 +14,7 @@ returns : tie.Need-returns
 unfolding joinsLeft
 returns c =
     let s = c .before .before .before in
-    c .joined .ensures ∙ rw (lt-ltb 0 (s .args .p) (search needs), getD-take (s .args .t1 .len) (s .args .t1 .recs) (s .args .p - 1) zeroRec (omega arith))
+    c .joined .ensures ∙ rw (lt-ltb 0 (s .args .p) (search needs), getD-take (s .args .t1 .len) (s .args .t1 .recs) (s .args .p - 1) zeroRmapRec (omega arith))
 
 returns-2 : tie.Need-returns-2
 unfolding joinsLeft

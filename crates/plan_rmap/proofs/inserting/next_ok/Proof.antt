@@ -4,7 +4,7 @@ use native.Mathlib.Omega.{arith}
 use borrow.Author.Needs.{needs}
 use mathlib.Core.Path.{_≡_}
 use lib.ListN.{length, length-map}
-use Rattle.plan_rmap.specs.Rmap.{zeroRec}
+use Rattle.plan_rmap.specs.Rmap.{zeroRmapRec}
 use Rattle.seqs.proofs.Laws.{rest-cons, rest-nil}
 use Rattle.plan_rmap.proofs.inserting.next_ok.Statement.{statement}
 use Rattle.plan_rmap.proofs.inserting.next_ok.Tie as tie
@@ -13,10 +13,10 @@ returns : tie.Need-returns
 returns c =
     let s = c .before .before .before in
     let k : length (s .args .t1 .recs) ≡ 64 = simp length-map at (s .good .0 .1 .1 .0 .1 .0 .1) in
-    rw (rest-cons (s .args .t1 .recs) zeroRec (s .args .t1 .len) (s .args .p) (search needs) (omega arith))
+    rw (rest-cons (s .args .t1 .recs) zeroRmapRec (s .args .t1 .len) (s .args .p) (search needs) (omega arith))
 
 returns-2 : tie.Need-returns-2
-returns-2 c = let e : c .before .args .p ≡ c .before .args .t1 .len = omega arith in rw (rest-nil (c .before .args .t1 .recs) zeroRec _ _ e)
+returns-2 c = let e : c .before .args .p ≡ c .before .args .t1 .len = omega arith in rw (rest-nil (c .before .args .t1 .recs) zeroRmapRec _ _ e)
 
 pub next-ok-spec : {M : Type 1} → statement M
 next-ok-spec =

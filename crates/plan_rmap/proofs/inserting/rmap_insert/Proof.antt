@@ -7,7 +7,7 @@ use Prim.Native.Nat.{_≤_}
 use borrow.Author.Tests.{lt-ltb, le-ltb, not-true, not-false}
 use lib.ListN.{length, length-map}
 use lib.Seq.{length-take-le}
-use Rattle.plan_rmap.specs.Rmap.{notBefore, placeOf, rmapOf, inserted, takes}
+use Rattle.plan_rmap.specs.Rmap.{notBefore, insertPlace, rmapOf, inserted, takes}
 use Rattle.seqs.proofs.Laws.{index-le}
 use Rattle.plan_rmap.proofs.Laws.{takes-facts}
 use Rattle.plan_rmap.proofs.inserting.rmap_insert.Statement.{statement}
@@ -29,7 +29,7 @@ returns-2 : tie.Need-returns-2
 unfolding inserted
 returns-2 c =
     let s = c .before .before .before .before .before in
-    let t : takes (rmapOf (s .args .rmap)) (placeOf (s .args .rec .start) (rmapOf (s .args .rmap))) (s .args .rec) ≡ c .before .before .can-take .result = rw (← c .before .before .before .place .ensures) (sym (c .before .before .can-take .ensures)) in
+    let t : takes (rmapOf (s .args .rmap)) (insertPlace (s .args .rec .start) (rmapOf (s .args .rmap))) (s .args .rec) ≡ c .before .before .can-take .result = rw (← c .before .before .before .place .ensures) (sym (c .before .before .can-take .ensures)) in
     c .refused2 .ensures ∙ rw (le-ltb _ _ (c .before .before .before .before .if1 .left), t, not-true (c .before .before .can-take .result) (c .before .if2 .taken))
 
 insert-at-requires : tie.Need-insert-at-requires
@@ -45,7 +45,7 @@ returns-3 : tie.Need-returns-3
 unfolding inserted
 returns-3 c =
     let s = c .before .before .before .before .before in
-    let t : takes (rmapOf (s .args .rmap)) (placeOf (s .args .rec .start) (rmapOf (s .args .rmap))) (s .args .rec) ≡ c .before .before .can-take .result = rw (← c .before .before .before .place .ensures) (sym (c .before .before .can-take .ensures)) in
+    let t : takes (rmapOf (s .args .rmap)) (insertPlace (s .args .rec .start) (rmapOf (s .args .rmap))) (s .args .rec) ≡ c .before .before .can-take .result = rw (← c .before .before .before .place .ensures) (sym (c .before .before .can-take .ensures)) in
     c .insert-at .ensures ∙ rw (le-ltb _ _ (c .before .before .before .before .if1 .left), t, not-false (c .before .before .can-take .result) (c .before .if2 .left), ← c .before .before .before .place .ensures)
 
 pub rmap-insert-spec : {M : Type 1} → statement M

@@ -3,7 +3,7 @@
 use Rattle.plan_totals.specs.Totals.{maxCount, longestOf, longestAfter}
 use Rattle.plan_totals.proofs.Running.{running-next, running-last}
 use Rattle.seqs.specs.Lists.{fold}
-use Rattle.plan_free.specs.Free.{freeOf, zeroRec}
+use Rattle.plan_free.specs.Free.{freeOf, zeroFreeRec}
 use lib.ListN.{length, length-map, take}
 use Prim.Native.Nat.{ℕ, _+_, _-_, _≤_}
 use borrow.Author.Needs.{needs}
@@ -19,11 +19,11 @@ abbrev μ-loop : tie.MeasureT-loop
 μ-loop l n most₀ j₀ most j = n - j
 
 loop-again : tie.Need-loop-again Inv-loop μ-loop
-loop-again c = let s = c .before .before .before .before in let k : length (s .args .t1 .recs) ≡ 64 = simp length-map at (s .good .0 .1 .1 .0 .1 .0 .1) in let l = c .before .before .before .loop in let e = running-next maxCount zeroRec 0 (s .args .t1 .recs) (s .args .t1 .len) (l .j) (search needs) (omega arith) in (search needs, c .larger-of .ensures ∙ rw (l .inv .1) (sym e))
+loop-again c = let s = c .before .before .before .before in let k : length (s .args .t1 .recs) ≡ 64 = simp length-map at (s .good .0 .1 .1 .0 .1 .0 .1) in let l = c .before .before .before .loop in let e = running-next maxCount zeroFreeRec 0 (s .args .t1 .recs) (s .args .t1 .len) (l .j) (search needs) (omega arith) in (search needs, c .larger-of .ensures ∙ rw (l .inv .1) (sym e))
 
 returns : tie.Need-returns Inv-loop μ-loop
 unfolding longestOf
-returns c = let l = c .before .before .args .t1 in let e : c .before .loop .j ≡ l .len = omega (arith, c .before .loop .inv .0) in c .before .loop .inv .1 ∙ ap (λ (x : ℕ). fold maxCount 0 (take x (freeOf l))) e ∙ running-last maxCount zeroRec 0 (l .recs) (l .len)
+returns c = let l = c .before .before .args .t1 in let e : c .before .loop .j ≡ l .len = omega (arith, c .before .loop .inv .0) in c .before .loop .inv .1 ∙ ap (λ (x : ℕ). fold maxCount 0 (take x (freeOf l))) e ∙ running-last maxCount zeroFreeRec 0 (l .recs) (l .len)
 
 pub longest-of-spec : {M : Type 1} → statement M
 unfolding fold

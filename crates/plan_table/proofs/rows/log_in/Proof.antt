@@ -1,12 +1,12 @@
 -- `plan_table::rows::log_in` meets its contract.
 -- Assumes nothing.
-use Rattle.plan_summary.specs.Summaries.{logIn}
+use Rattle.plan_summary.specs.Summaries.{logBlocksIn}
 use borrow.Author.Needs.{needs}
 use Rattle.plan_table.proofs.rows.log_in.Statement.{statement}
 use Rattle.plan_table.proofs.rows.log_in.Tie as tie
 
 returns : tie.Need-returns
-unfolding logIn
+unfolding logBlocksIn
 returns c = c .pick-u32 .ensures
 
 pub log-in-spec : {M : Type 1} → statement M

@@ -1,8 +1,8 @@
 -- `request_words::values::finished` meets its contract.
 -- Assumes nothing.
 use Rattle.seqs.specs.Lists.{fold}
-use Rattle.request_texts.specs.Texts.{letter, named, packed}
-use Rattle.request_words.specs.Values.{featureNames, finished}
+use Rattle.request_texts.specs.Texts.{letter, named, packedName}
+use Rattle.request_words.specs.Values.{featureNames, lastFeature}
 use mathlib.Core.Path.{refl, _∙_}
 use borrow.Author.Needs.{needs}
 use Rattle.request_words.proofs.values.finished.Statement.{statement}
@@ -21,7 +21,7 @@ turned-requires : tie.Need-turned-requires
 turned-requires c κs = search needs
 
 returns : tie.Need-returns
-unfolding finished featureNames packed named letter fold
+unfolding lastFeature featureNames packedName named letter fold
 returns c = c .turned .ensures ∙ rw (c .before .weight .ensures .0, c .before .before .index-in .ensures .0) refl
 
 pub finished-spec : {M : Type 1} → statement M

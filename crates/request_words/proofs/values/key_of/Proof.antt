@@ -1,7 +1,7 @@
 -- `request_words::values::key_of` meets its contract.
 -- Assumes nothing.
 use Rattle.seqs.specs.Lists.{fold}
-use Rattle.request_texts.specs.Texts.{letter, named, packed}
+use Rattle.request_texts.specs.Texts.{letter, named, packedName}
 use Rattle.request_words.specs.Values.{names, indexIn}
 use Prim.Native.Nat.{ℕ}
 use mathlib.Core.Path.{ap, _∙_}
@@ -19,7 +19,7 @@ index-in-requires : tie.Need-index-in-requires
 index-in-requires c κs = search needs
 
 returns : tie.Need-returns
-unfolding names packed named letter fold
+unfolding names packedName named letter fold
 returns c = (c .index-in .ensures .0 ∙ ap (λ (v : ℕ). indexIn names v) (c .before .pack .ensures), c .index-in .ensures .1)
 
 pub key-of-spec : {M : Type 1} → statement M

@@ -1,7 +1,7 @@
 -- `request_words::values::largest` meets its contract.
 -- Assumes nothing.
 use Rattle.request_words.proofs.Valuing.{no-largest}
-use Rattle.request_words.specs.Values.{largest}
+use Rattle.request_words.specs.Values.{largestValues}
 use native.Mathlib.Omega.{arith}
 use mathlib.Core.Path.{refl}
 use borrow.Author.Needs.{needs}
@@ -15,7 +15,7 @@ array-read-result : tie.Need-array-read-result
 array-read-result c = search needs
 
 returns : tie.Need-returns
-unfolding largest
+unfolding largestValues
 returns c = refl
 
 returns-2 : tie.Need-returns-2

@@ -1,7 +1,7 @@
 -- `request_words::values::listed` meets its contract. Invariant: the bytes from i on make what is left of the list.
 -- Assumes nothing.
 use Rattle.request_texts.proofs.Saying.{fold-turn, fold-done}
-use Rattle.request_words.specs.Values.{nextByte, read, listed, finished}
+use Rattle.request_words.specs.Values.{nextByte, featuresRead, featureMask, lastFeature}
 use Rattle.seqs.specs.Lists.{fold}
 use lib.ListN.{length, drop}
 use native.Mathlib.Omega.{arith}
@@ -11,7 +11,7 @@ use Rattle.request_words.proofs.values.listed.Statement.{statement}
 use Rattle.request_words.proofs.values.listed.Tie as tie
 
 abbrev Inv-loop : tie.InvT-loop
-Inv-loop text s₀ i₀ s i = (fold nextByte (read 127 0 0) text ≡ fold nextByte s (drop i text)) × (i ≤ length text)
+Inv-loop text s₀ i₀ s i = (fold nextByte (featuresRead 127 0 0) text ≡ fold nextByte s (drop i text)) × (i ≤ length text)
 
 abbrev μ-loop : tie.MeasureT-loop
 μ-loop text s₀ i₀ s i = length text - i
@@ -38,8 +38,8 @@ finished-requires : tie.Need-finished-requires Inv-loop μ-loop
 finished-requires c κs = tt
 
 returns : tie.Need-returns Inv-loop μ-loop
-unfolding listed
-returns c = c .finished .ensures ∙ ap finished (sym (c .before .before .loop .inv .0 ∙ fold-done nextByte (c .before .before .loop .s) (c .before .before .before .before .args .text .now) (c .before .before .loop .i) (omega arith)))
+unfolding featureMask
+returns c = c .finished .ensures ∙ ap lastFeature (sym (c .before .before .loop .inv .0 ∙ fold-done nextByte (c .before .before .loop .s) (c .before .before .before .before .args .text .now) (c .before .before .loop .i) (omega arith)))
 
 pub listed-spec : {M : Type 1} → statement M
 listed-spec =

@@ -1,7 +1,7 @@
 -- `request_words::values::sizing` meets its contract.
 -- Assumes nothing.
 use Rattle.seqs.specs.Lists.{fold}
-use Rattle.request_texts.specs.Texts.{letter, named, packed}
+use Rattle.request_texts.specs.Texts.{letter, named, packedName}
 use Rattle.request_words.specs.Values.{sizings, indexIn}
 use Prim.Native.Nat.{ℕ}
 use Rattle.request_words.proofs.Valuing.{sizing-is, sizing-bad}
@@ -24,14 +24,14 @@ good-requires : tie.Need-good-requires
 good-requires c κs = search needs
 
 returns : tie.Need-returns
-unfolding sizings packed named letter fold
+unfolding sizings packedName named letter fold
 returns c = c .good2 .ensures ∙ sizing-is _ _ (c .before .before .index-in .ensures .0 ∙ ap (λ (v : ℕ). indexIn sizings v) (c .before .before .before .pack .ensures)) (c .before .if1 .taken)
 
 refused-requires : tie.Need-refused-requires
 refused-requires c κs = search needs
 
 returns-2 : tie.Need-returns-2
-unfolding sizings packed named letter fold
+unfolding sizings packedName named letter fold
 returns-2 c = c .refused .ensures ∙ sizing-bad _ _ (c .before .before .index-in .ensures .0 ∙ ap (λ (v : ℕ). indexIn sizings v) (c .before .before .before .pack .ensures)) (omega arith)
 
 pub sizing-spec : {M : Type 1} → statement M

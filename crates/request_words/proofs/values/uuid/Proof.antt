@@ -1,7 +1,7 @@
 -- `request_words::values::uuid` meets its contract.
 -- Assumes nothing.
 use Rattle.seqs.specs.Lists.{fold}
-use Rattle.request_texts.specs.Texts.{letter, named, packed}
+use Rattle.request_texts.specs.Texts.{letter, named, packedName}
 use Rattle.request_words.proofs.Valuing.{uuid-none, uuid-is, uuid-shape, uuid-length}
 use mathlib.Core.Path.{sym, _∙_}
 use borrow.Author.Needs.{needs}
@@ -15,7 +15,7 @@ good-requires : tie.Need-good-requires
 good-requires c κs = search needs
 
 returns : tie.Need-returns
-unfolding packed named letter fold
+unfolding packedName named letter fold
 returns c = c .good2 .ensures ∙ uuid-none _ _ (c .before .before .pack .ensures) (c .before .if1 .taken)
 
 shaped-requires : tie.Need-shaped-requires
@@ -25,21 +25,21 @@ good-requires-2 : tie.Need-good-requires-2
 good-requires-2 c κs = search needs
 
 returns-2 : tie.Need-returns-2
-unfolding packed named letter fold
+unfolding packedName named letter fold
 returns-2 c = c .good3 .ensures ∙ uuid-is _ _ (c .before .before .before .before .before .pack .ensures) (c .before .before .before .before .if1 .left) (c .before .before .before .if2 .taken) (sym (c .before .before .shaped .ensures) ∙ c .before .if3 .taken)
 
 refused-requires : tie.Need-refused-requires
 refused-requires c κs = search needs
 
 returns-3 : tie.Need-returns-3
-unfolding packed named letter fold
+unfolding packedName named letter fold
 returns-3 c = c .refused .ensures ∙ uuid-shape _ _ (c .before .before .before .before .before .pack .ensures) (c .before .before .before .before .if1 .left) (c .before .before .before .if2 .taken) (sym (c .before .before .shaped .ensures) ∙ c .before .if3 .left)
 
 refused-requires-2 : tie.Need-refused-requires-2
 refused-requires-2 c κs = search needs
 
 returns-4 : tie.Need-returns-4
-unfolding packed named letter fold
+unfolding packedName named letter fold
 returns-4 c = c .refused2 .ensures ∙ uuid-length _ _ (c .before .before .before .pack .ensures) (c .before .before .if1 .left) (c .before .if2 .left)
 
 pub uuid-spec : {M : Type 1} → statement M

@@ -1,7 +1,7 @@
 -- `request_words::words::find` meets its contract. Invariant: the word is the first one from `at` on.
 -- Assumes nothing.
 use Rattle.request_words.proofs.Wording.{lookup-here, lookup-later, lookup-end}
-use Rattle.request_words.specs.Words.{wordsFrom, lookup}
+use Rattle.request_words.specs.Words.{wordsFrom, wordWith}
 use lib.ListN.{length}
 use native.Mathlib.Omega.{arith}
 use Prim.Native.Nat.{_-_}
@@ -10,7 +10,7 @@ use Rattle.request_words.proofs.words.find.Statement.{statement}
 use Rattle.request_words.proofs.words.find.Tie as tie
 
 abbrev Inv-loop : tie.InvT-loop
-Inv-loop words from key at₀ at = lookup key (wordsFrom from words) ≡ lookup key (wordsFrom at words)
+Inv-loop words from key at₀ at = wordWith key (wordsFrom from words) ≡ wordWith key (wordsFrom at words)
 
 abbrev μ-loop : tie.MeasureT-loop
 μ-loop words from key at₀ at = length words - at

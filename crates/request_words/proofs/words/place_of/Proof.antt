@@ -1,7 +1,7 @@
 -- `request_words::words::place_of` meets its contract. Invariant: the byte stands at i or later.
 -- Assumes nothing.
 use Rattle.request_texts.proofs.Saying.{index-here, index-later, index-past}
-use Rattle.request_words.specs.Words.{placeOf}
+use Rattle.request_words.specs.Words.{placeOfByte}
 use Rattle.seqs.specs.Lists.{firstIndex}
 use lib.ListN.{length, drop}
 use lib.Dec.{eqb}
@@ -13,13 +13,13 @@ use Rattle.request_words.proofs.words.place_of.Statement.{statement}
 use Rattle.request_words.proofs.words.place_of.Tie as tie
 
 abbrev Inv-loop : tie.InvT-loop
-Inv-loop words at b i₀ i = (placeOf b at words ≡ i + firstIndex (λ c. eqb c b) (drop i words)) × (at ≤ i) × (i ≤ length words)
+Inv-loop words at b i₀ i = (placeOfByte b at words ≡ i + firstIndex (λ c. eqb c b) (drop i words)) × (at ≤ i) × (i ≤ length words)
 
 abbrev μ-loop : tie.MeasureT-loop
 μ-loop words at b i₀ i = length words - i
 
 loop-holds : tie.Need-loop-holds Inv-loop μ-loop
-unfolding placeOf
+unfolding placeOfByte
 loop-holds c = (refl, omega arith, omega arith)
 
 shared-slice-read-if1 : tie.Need-shared-slice-read-if1 Inv-loop μ-loop

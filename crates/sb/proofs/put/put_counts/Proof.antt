@@ -1,7 +1,7 @@
 -- `sb::put::put_counts` meets its contract.
 -- Assumes nothing.
 use borrow.Author.Needs.{needs}
-use Rattle.sb.specs.Numbers.{runOf}
+use Rattle.sb.specs.Numbers.{numbersRun}
 use Rattle.sb.proofs.Runs.{four-runs}
 use Rattle.sb.proofs.put.put_counts.Statement.{statement}
 use Rattle.sb.proofs.put.put_counts.Tie as tie
@@ -9,7 +9,7 @@ use Rattle.sb.proofs.put.put_counts.Tie as tie
 returns : tie.Need-returns
 returns c =
     let a = c .before .before .before .before .before .before .before .before .before .before .before .before .before .before .before .before .before .before .args in
-    four-runs (runOf 100 2 4) (runOf 120 1 8) (runOf 128 8 6) (runOf 180 4 3) 14 (a .v .now) (a .sector .now) _ _ _ _
+    four-runs (numbersRun 100 2 4) (numbersRun 120 1 8) (numbersRun 128 8 6) (numbersRun 180 4 3) 14 (a .v .now) (a .sector .now) _ _ _ _
     (c .before .before .before .before .before .before .before .before .before .before .before .before .before .before .put-run .ensures)
     (c .before .before .before .before .before .before .before .before .before .before .put-run2 .ensures)
     (c .before .before .before .before .before .before .put-run3 .ensures)

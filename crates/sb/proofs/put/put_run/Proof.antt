@@ -5,7 +5,7 @@ use Prim.Native.Nat.{_+_, _*_, _-_, _≤_}
 use native.Mathlib.Omega.{arith}
 use borrow.Author.Needs.{needs}
 use lib.ListN.{length, drop}
-use Rattle.endian.specs.Fields.{write, table}
+use Rattle.endian.specs.Fields.{writeFields, table}
 use Rattle.sb.specs.Numbers.{evenly}
 use Rattle.sb.proofs.Runs.{run-start, run-next, room-next, run-done}
 use Rattle.sb.proofs.put.put_run.Statement.{statement}
@@ -13,7 +13,7 @@ use Rattle.sb.proofs.put.put_run.Tie as tie
 
 abbrev Inv-loop : tie.InvT-loop
 Inv-loop sector₀ off width v from n o₀ i₀ sector o i =
-    (i ≤ n) × (o + width * (n - i) ≤ length sector₀) × (length sector ≡ length sector₀) × (write (table (evenly o width (n - i)) (drop (from + i) v)) sector ≡ write (table (evenly off width n) (drop from v)) sector₀)
+    (i ≤ n) × (o + width * (n - i) ≤ length sector₀) × (length sector ≡ length sector₀) × (writeFields (table (evenly o width (n - i)) (drop (from + i) v)) sector ≡ writeFields (table (evenly off width n) (drop from v)) sector₀)
 
 abbrev μ-loop : tie.MeasureT-loop
 μ-loop sector₀ off width v from n o₀ i₀ sector o i = n - i

@@ -1,7 +1,7 @@
 -- `sb::put::put_sizes` meets its contract.
 -- Assumes nothing.
 use borrow.Author.Needs.{needs}
-use Rattle.sb.specs.Numbers.{runOf}
+use Rattle.sb.specs.Numbers.{numbersRun}
 use Rattle.sb.proofs.Runs.{four-runs}
 use Rattle.sb.proofs.put.put_sizes.Statement.{statement}
 use Rattle.sb.proofs.put.put_sizes.Tie as tie
@@ -9,7 +9,7 @@ use Rattle.sb.proofs.put.put_sizes.Tie as tie
 returns : tie.Need-returns
 returns c =
     let a = c .before .before .before .before .before .before .before .before .before .before .before .before .before .before .before .before .before .before .args in
-    four-runs (runOf 0 4 2) (runOf 8 8 3) (runOf 48 8 4) (runOf 80 4 5) 0 (a .v .now) (a .sector .now) _ _ _ _
+    four-runs (numbersRun 0 4 2) (numbersRun 8 8 3) (numbersRun 48 8 4) (numbersRun 80 4 5) 0 (a .v .now) (a .sector .now) _ _ _ _
     (c .before .before .before .before .before .before .before .before .before .before .before .before .before .before .put-run .ensures)
     (c .before .before .before .before .before .before .before .before .before .before .put-run2 .ensures)
     (c .before .before .before .before .before .before .put-run3 .ensures)
