@@ -10,6 +10,7 @@ use lib.ListN.{length, replicate, take, drop, getD, length-append, drop-of-lengt
 use lib.Seq.{drop-cons, getD-take, length-take-le}
 use lib.Dec.{eqb, leb, lit<}
 use borrow.Author.Tests.{eqb-true, leb-true}
+use Rattle.refusals.specs.Numbers.{tooManyRecords, wrongLength}
 use Rattle.structs.proofs.Written.{passed}
 use Rattle.endian.specs.Bytes.{beBytes, patch}
 use Rattle.endian.proofs.Laws.{patch-append}
@@ -127,8 +128,8 @@ module _ (o : ℕ) (xs : List ℕ) where
 pub accepted : (size count len : ℕ) → recsNumber size count len ≡ 0 → (len ≡ size * count) × (count ≤ 64)
 unfolding recsNumber
 accepted size count len e =
-    let a = passed 27 _ (eqb len (size * count)) (lit< tt) e in
-    let b = passed 34 0 (leb count 64) (lit< tt) (a .1) in
+    let a = passed wrongLength _ (eqb len (size * count)) (lit< tt) e in
+    let b = passed tooManyRecords 0 (leb count 64) (lit< tt) (a .1) in
     (eqb-true len (size * count) (a .0), leb-true count 64 (b .0))
 
 abbrev pub noAlloc : AllocRec

@@ -10,6 +10,7 @@ use borrow.Author.Tests.{eq-eqb, ne-eqb, leb-true, eqb-true, not-false}
 use lib.Dec.{leb, eqb}
 use lib.ListN.{length}
 use lib.Pow.{pow-add, pow-mono, pow-pos}
+use Rattle.refusals.specs.Numbers.{noAnswer, noPlace, wrongLength, timeOutOfRange}
 use Rattle.arith.specs.Choice.{when, bit}
 use Rattle.refusals.specs.Table.{_if_}
 use Rattle.refusals.proofs.Clear.{passed}
@@ -87,7 +88,7 @@ module _ (g : Geometry) (z : Bounds g) where
 
 -- ---- the number
 
-stored : (t : Bool) (n : ℕ) → n ≡ require 26 t 0 → n ≡ 0 → t ≡ true
+stored : (t : Bool) (n : ℕ) → n ≡ require timeOutOfRange t 0 → n ≡ 0 → t ≡ true
 stored true n e h = refl
 stored false n e h = absurd (omega arith)
 
@@ -101,11 +102,11 @@ module _ (g : Geometry) (agbno : ℕ) (time : Timestamp) (len : ℕ) where
   abbrev inTime : Bool
   inTime = timeInside (g .features .bigtime) (time .secs) (time .nsecs)
 
-  pub not-answered : isAnswer g ≡ false → 31 ≡ chunkNumber g agbno time len
+  pub not-answered : isAnswer g ≡ false → noAnswer ≡ chunkNumber g agbno time len
   unfolding chunkNumber when
   not-answered a = rw a refl
 
-  early-or-late : (t : Bool) (n : ℕ) → inTime ≡ t → isAnswer g ≡ true → n ≡ require 26 t 0 → (n ≡ 0 → ⊥) → n ≡ chunkNumber g agbno time len
+  early-or-late : (t : Bool) (n : ℕ) → inTime ≡ t → isAnswer g ≡ true → n ≡ require timeOutOfRange t 0 → (n ≡ 0 → ⊥) → n ≡ chunkNumber g agbno time len
   unfolding chunkNumber when
   early-or-late true n i a e h = absurd (h e)
   early-or-late false n i a e h = e ∙ rw (a, i) refl
@@ -114,7 +115,7 @@ module _ (g : Geometry) (agbno : ℕ) (time : Timestamp) (len : ℕ) where
   pub out-of-range : (n v : ℕ) → isAnswer g ≡ true → StoredAs (g .features .bigtime) (time .secs) (time .nsecs) n v → (n ≡ 0 → ⊥) → n ≡ chunkNumber g agbno time len
   out-of-range n v a s h = early-or-late inTime n refl a (s .number-is) h
 
-  pub other-length : isAnswer g ≡ true → inTime ≡ true → (len ≡ chunk * g .blocksize → ⊥) → 27 ≡ chunkNumber g agbno time len
+  pub other-length : isAnswer g ≡ true → inTime ≡ true → (len ≡ chunk * g .blocksize → ⊥) → wrongLength ≡ chunkNumber g agbno time len
   unfolding chunkNumber chunkLength when
   other-length a t h = rw (a, t, ne-eqb len (chunk * g .blocksize) h) refl
 
@@ -122,7 +123,7 @@ module _ (g : Geometry) (agbno : ℕ) (time : Timestamp) (len : ℕ) where
     tested : leb (agbno + chunk) (groupBlocks (g .dblocks) (g .agsize) (g .agcount) 0) ≡ b
     tested = rw group (ap (λ (x : ℕ). leb (agbno + x) (g .agsize)) (sym its) ∙ sym test)
 
-    pub no-place : isAnswer g ≡ true → inTime ≡ true → len ≡ chunk * g .blocksize → b ≡ false → 29 ≡ chunkNumber g agbno time len
+    pub no-place : isAnswer g ≡ true → inTime ≡ true → len ≡ chunk * g .blocksize → b ≡ false → noPlace ≡ chunkNumber g agbno time len
     unfolding chunkNumber chunkLength when
     no-place a t l e = rw (a, t, eq-eqb len (chunk * g .blocksize) l, tested, e) refl
 
@@ -140,7 +141,7 @@ pub record Accepted (g : Geometry) (agbno : ℕ) (time : Timestamp) (len : ℕ) 
 pub accepted : (g : Geometry) (agbno : ℕ) (time : Timestamp) (len : ℕ) → chunkNumber g agbno time len ≡ 0 → Accepted g agbno time len
 unfolding chunkNumber
 accepted g agbno time len e =
-    let c = passed (31 if not (isAnswer g) ∷ 26 if not (timeInside (g .features .bigtime) (time .secs) (time .nsecs)) ∷ 27 if not (eqb len (chunkLength g)) ∷ 29 if not (leb (agbno + chunkOf (g .inodesize) (g .blocksize)) (groupBlocks (g .dblocks) (g .agsize) (g .agcount) 0)) ∷ []) tt e in
+    let c = passed (noAnswer if not (isAnswer g) ∷ timeOutOfRange if not (timeInside (g .features .bigtime) (time .secs) (time .nsecs)) ∷ wrongLength if not (eqb len (chunkLength g)) ∷ noPlace if not (leb (agbno + chunkOf (g .inodesize) (g .blocksize)) (groupBlocks (g .dblocks) (g .agsize) (g .agcount) 0)) ∷ []) tt e in
     record {
       answer = not-false _ (c .0);
       time-in = not-false _ (c .1 .0);

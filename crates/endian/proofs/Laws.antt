@@ -8,6 +8,7 @@ use native.Mathlib.Numerals.{add-one}
 use lib.Dec.{lit<, leb}
 use borrow.Author.Tests.{le-leb, lt-leb, leb-true, leb-false}
 use mathlib.Core.Bool.{Bool, true, false}
+use Rattle.refusals.specs.Numbers.{wrongLength}
 use Rattle.endian.specs.Answer.{room, answer, chosen, Put, Got}
 use borrow.Rule.Slice.PartMut.{putMid, post-is}
 use native.Mathlib.Omega.{arith}
@@ -142,13 +143,13 @@ run-turn n off i vs xs ys zs pos le e d =
     ∙ ap (λ (l : List ℕ). patch (off + n * (i - 1)) (numbersBytes n l) xs) (drop-turn off i pos vs le)
 
 -- ---- what a function that may refuse leaves, in its own proof
-pub refused-by : {m : ℕ} {xs ys : List ℕ} → room m xs ≡ false → Put m ys xs 27 xs
+pub refused-by : {m : ℕ} {xs ys : List ℕ} → room m xs ≡ false → Put m ys xs wrongLength xs
 refused-by e = record { number = rw e refl; bytes = rw e refl }
 
 pub done-by : {m : ℕ} {xs ys zs : List ℕ} → room m xs ≡ true → zs ≡ ys → Put m ys xs 0 zs
 done-by e d = record { number = rw e refl; bytes = rw e d }
 
-pub unread-by : {m v : ℕ} {xs : List ℕ} → room m xs ≡ false → Got m v xs 27 0
+pub unread-by : {m v : ℕ} {xs : List ℕ} → room m xs ≡ false → Got m v xs wrongLength 0
 unread-by e = record { number = rw e refl; read = rw e refl }
 
 pub read-by : {m v w : ℕ} {xs : List ℕ} → room m xs ≡ true → w ≡ v → Got m v xs 0 w

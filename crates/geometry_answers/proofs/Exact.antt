@@ -7,6 +7,7 @@ use native.Mathlib.Omega.{arith}
 use borrow.Author.Tests.{eqb-true, lt-ltb, ltb-true}
 use lib.Dec.{eqb, ltb}
 use lib.ListN.{length}
+use Rattle.refusals.specs.Numbers.{notLeft}
 use Rattle.arith.proofs.Both.{both-true, left-true, right-true}
 use Rattle.geometry_answers.specs.declared.Named.{Named}
 use Rattle.geometry.specs.declared.Geometry.{Geometry}
@@ -27,7 +28,7 @@ fitting roomy n h = rw h
 fit-case : (roomy : Bool) (n : Named) (t : Bool) → namedFits n ≡ t → namedAnswer roomy n .number ≡ 0 → namedFits n ≡ true
 unfolding namedAnswer
 fit-case roomy n true h e = h
-fit-case roomy n false h e = absurd (let z : _≡_ {A = ℕ} 30 0 = sym (ap (λ (t : Bool). cond t (namedOn roomy n 512) (stepRefused 30) .number) h) ∙ e in omega arith)
+fit-case roomy n false h e = absurd (let z : _≡_ {A = ℕ} notLeft 0 = sym (ap (λ (t : Bool). cond t (namedOn roomy n 512) (stepRefused notLeft) .number) h) ∙ e in omega arith)
 
 pub accepted-fits : (roomy : Bool) (n : Named) → namedAnswer roomy n .number ≡ 0 → namedFits n ≡ true
 accepted-fits roomy n e = fit-case roomy n (namedFits n) refl e

@@ -11,6 +11,7 @@ use lib.Dec.{leb, ltb, eqb}
 use lib.ListN.{length, take, drop, replicate, length-replicate, replicate-append-replicate}
 use lib.Seq.{drop-at}
 use lib.Pow.{pow-add}
+use Rattle.refusals.specs.Numbers.{wrongLength}
 use Rattle.arith.specs.Choice.{when}
 use Rattle.endian.specs.Answer.{Put}
 use Rattle.endian.specs.Bytes.{patch}
@@ -37,12 +38,12 @@ module _ (g : Geometry) (n : ℕ) where
   unfolding logRefusal
   log-zero z =
       let o = or-zero (plansNumber g) _ z in
-      (o .0, eqb-true n (g .blocksize) (passed 27 0 (eqb n (g .blocksize)) (omega arith) (o .1) .0))
+      (o .0, eqb-true n (g .blocksize) (passed wrongLength 0 (eqb n (g .blocksize)) (omega arith) (o .1) .0))
 
   module _ (p : plansNumber g ≡ 0) where
-    pub other-block : (n ≡ g .blocksize → ⊥) → 27 ≡ logRefusal g n
+    pub other-block : (n ≡ g .blocksize → ⊥) → wrongLength ≡ logRefusal g n
     unfolding logRefusal
-    other-block h = or-second (plansNumber g) _ 27 p (rw (ne-eqb n (g .blocksize) h) refl)
+    other-block h = or-second (plansNumber g) _ wrongLength p (rw (ne-eqb n (g .blocksize) h) refl)
 
     pub block-fits : n ≡ g .blocksize → 0 ≡ logRefusal g n
     unfolding logRefusal

@@ -8,6 +8,7 @@ use native.Mathlib.Omega.{arith}
 use borrow.Author.Tests.{eq-eqb, ne-eqb, eqb-true, ltb-true, lt-ltb, le-ltb, lt-leb}
 use lib.Dec.{eqb, ltb}
 use lib.ListN.{length}
+use Rattle.refusals.specs.Numbers.{wrongLength, noPlace}
 use Rattle.arith.specs.Choice.{when}
 use Rattle.seqs.specs.Lists.{choose}
 use Rattle.crc.specs.Right.{alreadyRight}
@@ -37,8 +38,8 @@ module _ (g : Geometry) (k n : ℕ) where
   unfolding headRefusal
   head-zero z =
       let o = or-zero (plansNumber g) _ z in
-      let p = passed 27 (require 29 (ltb k (g .agcount)) 0) (eqb n (headLength g)) (omega arith) (o .1) in
-      let q = passed 29 0 (ltb k (g .agcount)) (omega arith) (p .1) in
+      let p = passed wrongLength (require noPlace (ltb k (g .agcount)) 0) (eqb n (headLength g)) (omega arith) (o .1) in
+      let q = passed noPlace 0 (ltb k (g .agcount)) (omega arith) (p .1) in
       (o .0, eqb-true n (headLength g) (p .0), ltb-true k (g .agcount) (q .0))
 
   module _ (p : plansNumber g ≡ 0) where
@@ -46,9 +47,9 @@ module _ (g : Geometry) (k n : ℕ) where
     unfolding headRefusal
     other-length h = or-second (plansNumber g) _ 27 p (rw (ne-eqb n (headLength g) h) refl)
 
-    pub no-group : n ≡ headLength g → g .agcount ≤ k → 29 ≡ headRefusal g k n
+    pub no-group : n ≡ headLength g → g .agcount ≤ k → noPlace ≡ headRefusal g k n
     unfolding headRefusal
-    no-group e h = or-second (plansNumber g) _ 29 p (rw (eq-eqb n (headLength g) e, le-ltb k (g .agcount) h) refl)
+    no-group e h = or-second (plansNumber g) _ noPlace p (rw (eq-eqb n (headLength g) e, le-ltb k (g .agcount) h) refl)
 
     pub head-fits : n ≡ headLength g → k < g .agcount → 0 ≡ headRefusal g k n
     unfolding headRefusal

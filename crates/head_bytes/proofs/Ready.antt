@@ -9,6 +9,7 @@ use native.Mathlib.Omega.{arith}
 use lib.Dec.{eqb}
 use lib.ListN.{length}
 use borrow.Author.Tests.{eq-eqb, ne-eqb}
+use Rattle.refusals.specs.Numbers.{noAnswer, wrongLength}
 use Rattle.arith.specs.Choice.{bit}
 use Rattle.seqs.specs.Lists.{choose}
 use Rattle.geometry.specs.declared.Geometry.{Geometry}
@@ -86,7 +87,7 @@ length-fits g p l h =
 
 -- ---- the number
 
-refused-at : (t : Bool) (n rest : ℕ) → n ≡ choose t 0 31 → (n ≡ 0 → ⊥) → t ≡ false
+refused-at : (t : Bool) (n rest : ℕ) → n ≡ choose t 0 noAnswer → (n ≡ 0 → ⊥) → t ≡ false
 refused-at true n rest e z = absurd (z e)
 refused-at false n rest e z = refl
 
@@ -94,11 +95,11 @@ pub head-refused : (g : Geometry) (p : AgPlan) (len : ℕ) → (framed g p .numb
 unfolding headNumber
 head-refused g p len z =
     let t = refused-at (isPlan g p) (framed g p .number) 0 (framed-number g p) z in
-    let a : headNumber g p len ≡ 31 = rw t refl in
-    let b : framed g p .number ≡ 31 = framed-number g p ∙ ap (λ (x : Bool). choose {A = ℕ} x 0 31) t in
+    let a : headNumber g p len ≡ noAnswer = rw t refl in
+    let b : framed g p .number ≡ noAnswer = framed-number g p ∙ ap (λ (x : Bool). choose {A = ℕ} x 0 noAnswer) t in
     a ∙ sym b
 
-pub head-wrong : (g : Geometry) (p : AgPlan) (len : ℕ) → isPlan g p ≡ true → (len ≡ headLength g → ⊥) → headNumber g p len ≡ 27
+pub head-wrong : (g : Geometry) (p : AgPlan) (len : ℕ) → isPlan g p ≡ true → (len ≡ headLength g → ⊥) → headNumber g p len ≡ wrongLength
 unfolding headNumber
 head-wrong g p len h z = rw (h, ne-eqb len (headLength g) z) refl
 

@@ -10,6 +10,7 @@ use native.Mathlib.Omega.{arith}
 use lib.Dec.{T, eqb, ltb, lit<}
 use lib.ListN.{length, length-append}
 use borrow.Author.Tests.{eq-eqb}
+use Rattle.refusals.specs.Numbers.{noAnswer}
 use Rattle.seqs.specs.Lists.{choose}
 use Rattle.seqs.proofs.Laws.{choose-elim, lt-or-le}
 use Rattle.geometry.specs.declared.Geometry.{Geometry}
@@ -168,11 +169,11 @@ module _ (g : Geometry) (p : AgPlan) (l : length (g .label) ≡ 12) (h : isPlan 
 
 -- ---- what an answer of `frame_of` says
 
-answered-at : (t : Bool) (w : Frame) → choose {A = Framed} t (record { number = 0; frame = w }) (record { number = 31; frame = noFrame }) .number ≡ choose t 0 31
+answered-at : (t : Bool) (w : Frame) → choose {A = Framed} t (record { number = 0; frame = w }) (record { number = noAnswer; frame = noFrame }) .number ≡ choose t 0 noAnswer
 answered-at true w = refl
 answered-at false w = refl
 
-pub framed-number : (g : Geometry) (p : AgPlan) → framed g p .number ≡ choose (isPlan g p) 0 31
+pub framed-number : (g : Geometry) (p : AgPlan) → framed g p .number ≡ choose (isPlan g p) 0 noAnswer
 unfolding framed
 framed-number g p = answered-at (isPlan g p) (frameOf g p)
 
@@ -181,7 +182,7 @@ unfolding framed
 framed-frame g p h = rw h
 
 -- a number of 0 is a plan of the planner
-told-at : (t : Bool) → choose {A = ℕ} t 0 31 ≡ 0 → t ≡ true
+told-at : (t : Bool) → choose {A = ℕ} t 0 noAnswer ≡ 0 → t ≡ true
 told-at true e = refl
 told-at false e = absurd (omega arith)
 

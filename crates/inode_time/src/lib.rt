@@ -2,6 +2,7 @@
 ghost use mathlib.Core.Path.{_≡_};
 ghost use Prim.Native.Nat.{_+_, _*_, _%_, _^_, _≤_, _<_};
 ghost use lib.Dec.{ltb};
+ghost use Rattle.refusals.specs.Numbers.{timeOutOfRange};
 ghost use Rattle.structs.specs.Written.{require};
 ghost use Rattle.inode_time.specs.Time.{ShiftedTime, StoredAs, valueIf, decoded};
 use params::Timestamp;
@@ -42,7 +43,7 @@ fn shift(secs: i64) -> Shifted
 }
 
 fn refused() -> Stored
-    ensures { λ r. ⌜ (r .number ≡ 26) × (r .value ≡ 0) ⌝ }
+    ensures { λ r. ⌜ (r .number ≡ timeOutOfRange) × (r .value ≡ 0) ⌝ }
 {
     Stored {
         number: refusals::TIME_OUT_OF_RANGE,
@@ -53,7 +54,7 @@ fn refused() -> Stored
 // With bigtime.
 fn encode_big(shifted: u64, nsecs: u64) -> Stored
     requires { ⌜ (shifted ≤ 18446744073) × (nsecs < 1000000000) ⌝ }
-    ensures { λ r. ⌜ (r .number ≡ require 26 (ltb (shifted * 1000000000 + nsecs) (2 ^ 64)) 0) × (r .value ≡ valueIf (ltb (shifted * 1000000000 + nsecs) (2 ^ 64)) (shifted * 1000000000 + nsecs)) ⌝ }
+    ensures { λ r. ⌜ (r .number ≡ require timeOutOfRange (ltb (shifted * 1000000000 + nsecs) (2 ^ 64)) 0) × (r .value ≡ valueIf (ltb (shifted * 1000000000 + nsecs) (2 ^ 64)) (shifted * 1000000000 + nsecs)) ⌝ }
 {
     if shifted < 18446744073 {
         return Stored {
@@ -73,7 +74,7 @@ fn encode_big(shifted: u64, nsecs: u64) -> Stored
 // Without bigtime.
 fn encode_small(shifted: u64, nsecs: u64) -> Stored
     requires { ⌜ (shifted ≤ 18446744073) × (nsecs < 1000000000) ⌝ }
-    ensures { λ r. ⌜ (r .number ≡ require 26 (ltb shifted (2 ^ 32)) 0) × (r .value ≡ valueIf (ltb shifted (2 ^ 32)) ((shifted + 2147483648) % 2 ^ 32 * 2 ^ 32 + nsecs)) ⌝ }
+    ensures { λ r. ⌜ (r .number ≡ require timeOutOfRange (ltb shifted (2 ^ 32)) 0) × (r .value ≡ valueIf (ltb shifted (2 ^ 32)) ((shifted + 2147483648) % 2 ^ 32 * 2 ^ 32 + nsecs)) ⌝ }
 {
     if 4294967295 < shifted {
         return refused();

@@ -8,6 +8,7 @@ use native.Mathlib.Omega.{arith}
 use lib.Dec.{leb}
 use lib.ListN.{length, length-append}
 use borrow.Author.Tests.{leb-false, le-leb, lt-leb}
+use Rattle.refusals.specs.Numbers.{wrongLength}
 use Rattle.endian.specs.Answer.{answer}
 use Rattle.endian.specs.Bytes.{patch}
 use Rattle.endian.proofs.Laws.{patch-append}
@@ -27,7 +28,7 @@ module _ (at : ℕ) (bytes old : List ℕ) {number end : ℕ} {left : List ℕ} 
   pub put-whole : leb (at + length bytes) (length old) ≡ true → number ≡ 0 → end ≡ at + length bytes → left ≡ patch at bytes old → PutLine at bytes old number end left
   put-whole t n e l = record { number-is = rw t n; end-is = rw t e; bytes-are = rw t l }
 
-  pub put-none : leb (at + length bytes) (length old) ≡ false → number ≡ 27 → end ≡ 0 → left ≡ old → PutLine at bytes old number end left
+  pub put-none : leb (at + length bytes) (length old) ≡ false → number ≡ wrongLength → end ≡ 0 → left ≡ old → PutLine at bytes old number end left
   put-none t n e l = record { number-is = rw t n; end-is = rw t e; bytes-are = rw t l }
 
 -- there was room for bytes, so they stand
@@ -43,7 +44,7 @@ module _ (at n : ℕ) (first second old : List ℕ) (long : n ≡ length first) 
   ends = omega (arith, length-append first second)
 
   -- there is no room for the first
-  pub first-short : leb (at + n) (length old) ≡ false → {number end : ℕ} → number ≡ 27 → end ≡ 0 → PutLine at whole old number end old
+  pub first-short : leb (at + n) (length old) ≡ false → {number end : ℕ} → number ≡ wrongLength → end ≡ 0 → PutLine at whole old number end old
   first-short t a b =
       let h = leb-false (at + n) (length old) t in
       put-none at whole old (lt-leb (at + length whole) (length old) (omega (arith, length-append first second))) a b refl

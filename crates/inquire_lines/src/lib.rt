@@ -1,6 +1,7 @@
 // What the lines of `inquire` are made of, written into a lent buffer: a word and a number, or a word alone. As in table_lines: 0 and where the
 // bytes end, or 27 where they don't fit, and then nothing has changed.
 ghost use mathlib.Core.Path.{_≡_};
+ghost use Rattle.refusals.specs.Numbers.{wrongLength};
 ghost use Rattle.seqs.specs.Lists.{choose};
 ghost use Rattle.table_lines.specs.Lines.{space, newline, PutLine};
 ghost use Rattle.inquire_lines.specs.Items.{withByte, wordBytes, itemBytes};
@@ -8,7 +9,7 @@ use table_lines::Written;
 use table_lines::put_number;
 
 fn refused() -> Written
-    ensures { λ r. ⌜ (r .number ≡ 27) × (r .end ≡ 0) ⌝ }
+    ensures { λ r. ⌜ (r .number ≡ wrongLength) × (r .end ≡ 0) ⌝ }
 {
     Written {
         number: refusals::WRONG_LENGTH,

@@ -8,6 +8,7 @@ use native.Mathlib.Nat.{div-mul-le-self, mul-le-mul-right}
 use borrow.Author.Tests.{eq-eqb, ne-eqb, ltb-false}
 use lib.Dec.{ltb}
 use lib.ListN.{length}
+use Rattle.refusals.specs.Numbers.{badRange}
 use Rattle.arith.specs.Choice.{when}
 use Rattle.params.specs.declared.Params.{Params}
 use Rattle.run.proofs.Accepted.{none}
@@ -17,7 +18,7 @@ use Rattle.inquire_sizes.proofs.Turns.{range-alike}
 use Rattle.inquire_sizes.proofs.Blocks.{few-blocks}
 use Rattle.inquire_sizes.proofs.Numbered.{step-is}
 
-not-36 : (t : Bool) → when t 36 0 ≡ 0 → t ≡ false
+not-36 : (t : Bool) → when t badRange 0 ≡ 0 → t ≡ false
 unfolding when
 not-36 true e = absurd (omega arith)
 not-36 false e = refl

@@ -7,6 +7,7 @@ use Prim.Native.Nat.{ℕ, _/_, _≤_, _<_, _^_}
 use native.Mathlib.Omega.{arith}
 use native.Mathlib.Nat.{div-mul-le-self, mul-le-mul-left}
 use borrow.Author.Tests.{ltb-false}
+use Rattle.refusals.specs.Numbers.{inobtcountAlone}
 use Rattle.refusals.specs.Table.{Refusal, _if_, first}
 use Rattle.refusals.proofs.Clear.{clear, passed}
 use Rattle.params.specs.declared.OptU64.{OptU64}
@@ -64,7 +65,7 @@ module _ (p : Params) (d e logical physical : ℕ) (h : d / blockBytes p ≡ e /
 
 -- the tests that the size has no part in
 abbrev pub early-part : Params → Sizes → List Refusal
-early-part p s = 1 if (p .features .inobtcount && not (p .features .finobt)) ∷ sizes-part s
+early-part p s = inobtcountAlone if (p .features .inobtcount && not (p .features .finobt)) ∷ sizes-part s
 
 -- the others, of what is chosen
 abbrev pub late-part : Params → ℕ → Sizes → Groups → Groups → List Refusal

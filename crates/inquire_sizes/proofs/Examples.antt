@@ -3,6 +3,7 @@
 use mathlib.Core.Path.{_≡_, refl}
 use mathlib.Core.Bool.{false}
 use Prim.Native.Nat.{ℕ, _+_, _*_, _-_, _/_, _^_}
+use Rattle.refusals.specs.Numbers.{badRange, blockOf512}
 use Rattle.arith.specs.Choice.{when, bit}
 use Rattle.arith.specs.Numbers.{ceilDiv}
 use Rattle.arith.specs.Powers.{powerIn, powerLog}
@@ -34,14 +35,14 @@ unfolding firstFrom smallestRefused rangeOf inBlocks limitsOf earlyNumber lateNu
 sized = (refl, refl)
 
 -- 36: 65,537 blocks apart, or a block the wrong way round, but not within a block
-pub ends : (sizesAnswer noOptions 512 512 (2 ^ 30) (2 ^ 30 + 65537 * 4096) ≡ sizesCallRefused 36)
-    × (sizesAnswer noOptions 512 512 (2 ^ 30 + 4096) (2 ^ 30 + 4095) ≡ sizesCallRefused 36)
+pub ends : (sizesAnswer noOptions 512 512 (2 ^ 30) (2 ^ 30 + 65537 * 4096) ≡ sizesCallRefused badRange)
+    × (sizesAnswer noOptions 512 512 (2 ^ 30 + 4096) (2 ^ 30 + 4095) ≡ sizesCallRefused badRange)
     × (noRange 262144 (262144 + 65536) ≡ false)
     × (noRange ((2 ^ 30 + 5) / 4096) ((2 ^ 30 + 3) / 4096) ≡ false)
 unfolding sizesAnswer sizesQuestion optionsNumber noRange sizesOf sizesRefusals defaultSector powerLog powerIn when
 ends = (refl, refl, refl, refl)
 
 -- blocks of 512 bytes are 3, whatever the ends
-pub early : sizesAnswer (withBlockSize noOptions 512) 512 512 1 0 ≡ sizesCallRefused 3
+pub early : sizesAnswer (withBlockSize noOptions 512) 512 512 1 0 ≡ sizesCallRefused blockOf512
 unfolding sizesAnswer sizesQuestion optionsNumber noRange sizesOf sizesRefusals defaultSector powerLog powerIn when
 early = refl

@@ -9,6 +9,7 @@ use native.Mathlib.Nat.{mul-div-cancel, le-refl}
 use borrow.Author.Tests.{le-ltb, eqb-true}
 use lib.Dec.{ltb, eqb}
 use lib.ListN.{length}
+use Rattle.refusals.specs.Numbers.{freeListShort, imaxpctAbove100, labelTooLong}
 use Rattle.arith.specs.Choice.{when}
 use Rattle.refusals.specs.Table.{Refusal, _if_, first}
 use Rattle.seqs.specs.Lists.{choose}
@@ -85,7 +86,7 @@ short-is g = short-after (siteOf g (g .logagno)) (has-log g)
 -- 25 of an answer
 answer-number : (g : Geometry) → length (g .label) ≡ 12 → isAnswer g ≡ true → plansNumber g ≡ when (ltb (behind g) (freelistOf (g .features))) 25 0
 unfolding constNumber
-answer-number g l h = plans-number g l ∙ rw (h, short-is g) (choose-when (ltb (behind g) (freelistOf (g .features))) 25 0)
+answer-number g l h = plans-number g l ∙ rw (h, short-is g) (choose-when (ltb (behind g) (freelistOf (g .features))) freeListShort 0)
 
 module _ (p : Params) (logical physical : ℕ) (z : optionsNumber p logical physical ≡ 0) (n : ℕ) where
   abbrev bs : ℕ
@@ -133,13 +134,13 @@ module _ (p : Params) (logical physical : ℕ) (z : optionsNumber p logical phys
 
   -- 25, of these groups
   abbrev last : ℕ
-  last = when (ltb (groupBlocks (g .dblocks) (g .agsize) (g .agcount) (g .agcount / 2) - f .head - log) (freelistOf (p .features))) 25 0
+  last = when (ltb (groupBlocks (g .dblocks) (g .agsize) (g .agcount) (g .agcount / 2) - f .head - log) (freelistOf (p .features))) freeListShort 0
 
   abbrev early-table : List Refusal
   early-table = optionsRefusals (p .agsize) (p .agcount) bs (minGroup bs) (minGroup bs) false
 
   abbrev late-table : List Refusal
-  late-table = 19 if ltb 100 (imaxpctOf (p .imaxpct) bs 0) ∷ 20 if ltb 12 (p .label .length) ∷ []
+  late-table = imaxpctAbove100 if ltb 100 (imaxpctOf (p .imaxpct) bs 0) ∷ labelTooLong if ltb 12 (p .label .length) ∷ []
 
   abbrev disk-part : ℕ
   disk-part = first (diskRefusals f g log) 0
@@ -206,7 +207,7 @@ module _ (p : Params) (logical physical : ℕ) (z : optionsNumber p logical phys
     plans-are : step .number ≡ 0 → plansNumber (step .geometry) ≡ last
     plans-are e =
         answer-number (step .geometry) (label-kept p device logical physical label e) (complete (step .geometry) (answered e))
-        ∙ ap (λ (x : Geometry). when (ltb (behind x) (freelistOf (x .features))) 25 0) (its-geometry p device logical physical e)
+        ∙ ap (λ (x : Geometry). when (ltb (behind x) (freelistOf (x .features))) freeListShort 0) (its-geometry p device logical physical e)
         ∙ rw (behind-is, features-is)
 
     number-at : (t : Bool) → eqb (step .number) 0 ≡ t → choose t (plansNumber (step .geometry)) (step .number) ≡ choose t last (step .number)

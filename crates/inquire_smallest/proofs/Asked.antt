@@ -4,6 +4,7 @@ use mathlib.Core.Path.{_≡_}
 use mathlib.Core.Bool.{true, false}
 use Prim.Native.Nat.{ℕ}
 use borrow.Author.Tests.{ne-eqb}
+use Rattle.refusals.specs.Numbers.{badSizes}
 use Rattle.arith.specs.Choice.{when}
 use Rattle.params.specs.declared.Params.{Params}
 use Rattle.inquire_sizes.specs.Ranges.{optionsNumber}
@@ -19,7 +20,7 @@ module _ (p : Params) (logical physical start count wanted : ℕ) where
   options-refused n e r = rw (← e, ne-eqb n 0 r, ne-eqb n 0 r)
 
   -- by 39
-  pub sizes-refused : optionsNumber q logical physical ≡ 0 → noSizes start count ≡ true → smallestCallRefused 39 ≡ smallestAnswer p logical physical start count wanted
+  pub sizes-refused : optionsNumber q logical physical ≡ 0 → noSizes start count ≡ true → smallestCallRefused badSizes ≡ smallestAnswer p logical physical start count wanted
   unfolding smallestAnswer smallestQuestion when
   sizes-refused z n = rw (z, n)
 

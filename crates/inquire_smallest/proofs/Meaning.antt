@@ -7,6 +7,7 @@ use Prim.Native.Nat.{ℕ, _-_, _^_, _≤_, _<_}
 use native.Mathlib.Omega.{arith}
 use borrow.Author.Tests.{eq-eqb, eqb-true, eqb-false, lt-ltb, le-ltb, ltb-true, ltb-false, leb-true, leb-false}
 use lib.Dec.{leb, ltb, eqb}
+use Rattle.refusals.specs.Numbers.{badSizes, noneReaches}
 use Rattle.arith.specs.Choice.{when}
 use Rattle.arith.proofs.Both.{left-true, right-true}
 use Rattle.seqs.specs.Lists.{choose}
@@ -50,32 +51,32 @@ question-at : (n : ℕ) (r : Found) (t : Bool) → eqb n 0 ≡ t → choose t r 
 question-at n r true e h = eqb-true n 0 e
 question-at n r false e h = absurd (eqb-false n 0 e h)
 
-found-at : (s : ℕ) (t : Bool) → choose {A = Found} t (record { number = 0; size = s }) (smallestCallRefused 38) .number ≡ 0 → t ≡ true
+found-at : (s : ℕ) (t : Bool) → choose {A = Found} t (record { number = 0; size = s }) (smallestCallRefused noneReaches) .number ≡ 0 → t ≡ true
 found-at s true e = refl
-found-at s false e = absurd (let z : _≡_ {A = ℕ} 38 0 = e in omega arith)
+found-at s false e = absurd (let z : _≡_ {A = ℕ} noneReaches 0 = e in omega arith)
 
-none-at : (n : ℕ) (s : ℕ) (t u : Bool) → eqb n 0 ≡ t → (n ≡ 38 → ⊥) → choose {A = Found} t (choose u (record { number = 0; size = s }) (smallestCallRefused 38)) (smallestCallRefused n) .number ≡ 38
+none-at : (n : ℕ) (s : ℕ) (t u : Bool) → eqb n 0 ≡ t → (n ≡ noneReaches → ⊥) → choose {A = Found} t (choose u (record { number = 0; size = s }) (smallestCallRefused noneReaches)) (smallestCallRefused n) .number ≡ noneReaches
     → u ≡ false
-none-at n s true true e h z = absurd (let y : _≡_ {A = ℕ} 0 38 = z in omega arith)
+none-at n s true true e h z = absurd (let y : _≡_ {A = ℕ} 0 noneReaches = z in omega arith)
 none-at n s true false e h z = refl
 none-at n s false u e h z = absurd (h z)
 
 -- 1 to 8, or 39, or 0
-not-38 : (o : ℕ) (t u : Bool) → eqb o 0 ≡ t → o ≤ 8 → choose t (when u 39 0) o ≡ 38 → ⊥
+not-38 : (o : ℕ) (t u : Bool) → eqb o 0 ≡ t → o ≤ 8 → choose t (when u badSizes 0) o ≡ noneReaches → ⊥
 unfolding when
-not-38 o true true e l z = let y : _≡_ {A = ℕ} 39 38 = z in omega arith
-not-38 o true false e l z = let y : _≡_ {A = ℕ} 0 38 = z in omega arith
+not-38 o true true e l z = let y : _≡_ {A = ℕ} badSizes noneReaches = z in omega arith
+not-38 o true false e l z = let y : _≡_ {A = ℕ} 0 noneReaches = z in omega arith
 not-38 o false u e l z = omega arith
 
 only-39 : (o : ℕ) (t u v : Bool) (s : ℕ) → eqb o 0 ≡ t → o ≤ 8
-    → choose {A = Found} (eqb (choose t (when u 39 0) o) 0) (choose v (record { number = 0; size = s }) (smallestCallRefused 38)) (smallestCallRefused (choose t (when u 39 0) o)) .number ≡ 39
+    → choose {A = Found} (eqb (choose t (when u badSizes 0) o) 0) (choose v (record { number = 0; size = s }) (smallestCallRefused noneReaches)) (smallestCallRefused (choose t (when u badSizes 0) o)) .number ≡ badSizes
     → (o ≡ 0) × (u ≡ true)
 unfolding when
 only-39 o true true v s e l z = (eqb-true o 0 e, refl)
-only-39 o true false true s e l z = absurd (let y : _≡_ {A = ℕ} 0 39 = z in omega arith)
-only-39 o true false false s e l z = absurd (let y : _≡_ {A = ℕ} 38 39 = z in omega arith)
+only-39 o true false true s e l z = absurd (let y : _≡_ {A = ℕ} 0 badSizes = z in omega arith)
+only-39 o true false false s e l z = absurd (let y : _≡_ {A = ℕ} noneReaches badSizes = z in omega arith)
 only-39 o false u v s e l z =
-    let y : _≡_ {A = ℕ} o 39 = sym (ap (λ (b : Bool). choose {A = Found} b (choose v (record { number = 0; size = s }) (smallestCallRefused 38)) (smallestCallRefused o) .number) e) ∙ z in
+    let y : _≡_ {A = ℕ} o badSizes = sym (ap (λ (b : Bool). choose {A = Found} b (choose v (record { number = 0; size = s }) (smallestCallRefused noneReaches)) (smallestCallRefused o) .number) e) ∙ z in
     absurd (omega arith)
 
 which-of : (start count : ℕ) (a b c : Bool) → eqb count 0 ≡ a → ltb 65536 count ≡ b → leb (2 ^ 64) (sizeTried start (count - 1)) ≡ c → (a || (b || c)) ≡ true
@@ -133,7 +134,7 @@ module _ (p : Params) (logical physical start count wanted : ℕ) where
   unfolding foundIn
   size-is z =
       ap (λ (r : Found). r .size) (is-found (question-zero z))
-      ∙ ap (λ (t : Bool). choose {A = Found} t (record { number = 0; size = sizeTried start index }) (smallestCallRefused 38) .size) (lt-ltb index count (index-below z))
+      ∙ ap (λ (t : Bool). choose {A = Found} t (record { number = 0; size = sizeTried start index }) (smallestCallRefused noneReaches) .size) (lt-ltb index count (index-below z))
 
   -- THE ANSWER IS AMONG THE SIZES, A CANDIDATE, REACHES THE COUNT, AND NO SMALLER CANDIDATE DOES
   pub smallest-found : its-answer .number ≡ 0 → SmallestSize p logical physical start count wanted (its-answer .size)
@@ -148,29 +149,29 @@ module _ (p : Params) (logical physical start count wanted : ℕ) where
         none-smaller = none-before index (omega arith);
       }
 
-  question-not-38 : question ≡ 38 → ⊥
+  question-not-38 : question ≡ noneReaches → ⊥
   unfolding smallestQuestion
   question-not-38 = not-38 (optionsNumber q logical physical) (eqb (optionsNumber q logical physical) 0) (noSizes start count) refl (early-most q logical physical)
 
   -- 38: NO CANDIDATE REACHES THE COUNT
-  pub none-reaches : its-answer .number ≡ 38 → NoneBelow p logical physical start wanted count
+  pub none-reaches : its-answer .number ≡ noneReaches → NoneBelow p logical physical start wanted count
   unfolding smallestAnswer foundIn
   none-reaches z =
       let u = none-at question (sizeTried start index) (eqb question 0) (ltb index count) refl question-not-38 z in
       none-before count (ltb-false index count u)
 
-  -- AND WHERE NONE DOES, 38, AFTER 1 TO 8 AND 39
-  pub none-is-38 : question ≡ 0 → NoneBelow p logical physical start wanted count → its-answer .number ≡ 38
+  -- AND WHERE NONE DOES, 38, AFTER 1 TO 8 AND badSizes
+  pub none-is-38 : question ≡ 0 → NoneBelow p logical physical start wanted count → its-answer .number ≡ noneReaches
   unfolding foundIn
   none-is-38 z n =
       let m : count ≤ index =
       ⊎-elim (λ l. absurd (let w = reached q logical physical wanted (sizeTried start index) (reaches-index l) in let f = n index l (w .0) in let g = w .1 in omega arith)) (λ l. l) (lt-or-le index count)
       in
       ap (λ (r : Found). r .number) (is-found z)
-      ∙ ap (λ (t : Bool). choose {A = Found} t (record { number = 0; size = sizeTried start index }) (smallestCallRefused 38) .number) (le-ltb index count m)
+      ∙ ap (λ (t : Bool). choose {A = Found} t (record { number = 0; size = sizeTried start index }) (smallestCallRefused noneReaches) .number) (le-ltb index count m)
 
   -- 39 AFTER 1 TO 8, WHERE THERE IS NO SIZE, TOO MANY, OR A LAST ONE THAT DOESN'T FIT
-  pub no-sizes-39 : its-answer .number ≡ 39 → (optionsNumber q logical physical ≡ 0) × (noSizes start count ≡ true)
+  pub no-sizes-39 : its-answer .number ≡ badSizes → (optionsNumber q logical physical ≡ 0) × (noSizes start count ≡ true)
   unfolding smallestAnswer smallestQuestion foundIn
   no-sizes-39 z =
       only-39 (optionsNumber q logical physical) (eqb (optionsNumber q logical physical) 0) (noSizes start count) (ltb index count) (sizeTried start index) refl (early-most q logical physical) z

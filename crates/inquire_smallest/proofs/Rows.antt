@@ -7,6 +7,7 @@ use native.Mathlib.Omega.{arith}
 use native.Mathlib.Nat.{pos-of-ne-zero}
 use borrow.Author.Tests.{lt-ltb, le-ltb, ltb-false, leb-false, eqb-false}
 use lib.Dec.{leb, ltb, eqb}
+use Rattle.refusals.specs.Numbers.{noneReaches}
 use Rattle.params.specs.declared.Params.{Params}
 use Rattle.inquire_sizes.specs.First.{firstFrom}
 use Rattle.inquire_sizes.proofs.First.{first-here, first-later, first-past}
@@ -40,7 +41,7 @@ module _ (p : Params) (logical physical start count wanted : ℕ) where
         let s : count - i - 1 ≡ count - (i + 1) = omega arith in
         left ∙ first-later test i (count - i) (omega arith) r ∙ rw s
 
-    pub nowhere : count ≤ i → i ≤ count → foundIn p logical physical start count wanted ≡ smallestCallRefused 38
+    pub nowhere : count ≤ i → i ≤ count → foundIn p logical physical start count wanted ≡ smallestCallRefused noneReaches
     unfolding foundIn
     nowhere h l = let e : its-first ≡ i = left ∙ first-past test i (count - i) (omega arith) in rw (e, le-ltb i count h)
 

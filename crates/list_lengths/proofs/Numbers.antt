@@ -6,6 +6,7 @@ use Prim.Native.Nat.{ℕ, _+_, _-_, _<_, _≤_, _^_}
 use native.Mathlib.Omega.{arith}
 use borrow.Author.Tests.{eq-eqb, ne-eqb, eqb-true, leb-true, leb-false, le-leb, lt-leb}
 use lib.Dec.{leb, eqb}
+use Rattle.refusals.specs.Numbers.{noPlace}
 use Rattle.arith.specs.Choice.{when}
 use Rattle.structs.specs.Written.{require}
 use Rattle.structs.proofs.Written.{passed}
@@ -26,7 +27,7 @@ module _ (run : Run) where
   unfolding formatNumber
   format-zero z = or-zero _ _ z
 
-  below-at : (n k : ℕ) (t : Bool) → leb n k ≡ t → when t 29 0 ≡ 0 → k < n
+  below-at : (n k : ℕ) (t : Bool) → leb n k ≡ t → when t noPlace 0 ≡ 0 → k < n
   unfolding when
   below-at n k true e z = absurd (omega arith)
   below-at n k false e z = leb-false n k e

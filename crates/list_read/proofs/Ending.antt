@@ -9,6 +9,7 @@ use native.Mathlib.Omega.{arith}
 use native.Mathlib.Nat.{add-zero}
 use lib.Dec.{leb, eqb}
 use borrow.Author.Tests.{leb-true, leb-false, eqb-true, eqb-false, le-leb, lt-leb, eq-eqb, ne-eqb}
+use Rattle.refusals.specs.Numbers.{malformed}
 use Rattle.seqs.specs.Lists.{total}
 use Rattle.seqs.proofs.Laws.{total-append}
 use Rattle.list_records.specs.Records.{Record, WZ, WB, FL, byKind, flushes}
@@ -34,13 +35,13 @@ module _ (n : ℕ) where
   unfolding endedDef
   whole-end e = rw (eq-eqb n 2 e) refl
 
-  pub cut-end : (n ≡ 2 → ⊥) → 28 ≡ endedDef n
+  pub cut-end : (n ≡ 2 → ⊥) → malformed ≡ endedDef n
   unfolding endedDef
   cut-end e = rw (ne-eqb n 2 e) refl
 
 -- ---- of a whole list
 -- A record behind the second flush is refused; before it, the rest of the list decides.
-more-refused : (n : ℕ) (w : Record) (ws : List Record) → 2 ≤ n → 28 ≡ ruled n (w ∷ ws)
+more-refused : (n : ℕ) (w : Record) (ws : List Record) → 2 ≤ n → malformed ≡ ruled n (w ∷ ws)
 unfolding ruled
 more-refused n w ws h = rw (← none-behind n (headSaid w .kind) h) refl
 
@@ -101,10 +102,10 @@ pub whole-list : (ws : List Record) → (ruled 0 ws ≡ 0) ↔ WholeList ws
 whole-list ws = (whole-from ws, λ h. ap (ruled 0) (h .last) ∙ accepts 0 (h .prefix) (omega (arith, h .two, ap flushes (h .last))))
 
 -- A list with fewer is cut, whatever its last record.
-fewer : (n : ℕ) (ws : List Record) → n + flushes ws < 2 → 28 ≡ ruled n ws
+fewer : (n : ℕ) (ws : List Record) → n + flushes ws < 2 → malformed ≡ ruled n ws
 unfolding ruled total
 fewer n [] h = cut-end n (λ e. omega arith)
 fewer n (w ∷ ws) h = fewer (n + byKind 0 0 1 w) ws (omega arith) ∙ goes-on n w ws (omega arith)
 
-pub cut-list : (ws : List Record) → flushes ws < 2 → 28 ≡ ruled 0 ws
+pub cut-list : (ws : List Record) → flushes ws < 2 → malformed ≡ ruled 0 ws
 cut-list ws h = fewer 0 ws (omega arith)

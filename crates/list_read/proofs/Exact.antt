@@ -10,6 +10,7 @@ use lib.Dec.{leb, eqb}
 use lib.ListN.{length, take, drop, getD, take-append-drop, length-drop}
 use lib.Seq.{take-suc, getD-drop, drop-drop, length-take-le}
 use borrow.Author.Tests.{leb-true, leb-false, eqb-true, eqb-false, le-leb}
+use Rattle.refusals.specs.Numbers.{malformed}
 use Rattle.endian.specs.Bytes.{beAt, beBytes}
 use Rattle.endian.specs.Fields.{part}
 use Rattle.endian.proofs.Laws.{at-more, at-bound}
@@ -156,7 +157,7 @@ module _ (most n : ℕ) (xs : List ℕ) (o : Octets xs)
   abbrev byCase : Bool → Bool → ListRead
   byCase a b =
       choose a (readStopped (endedDef n))
-      (choose b (readBefore (recordOf d (drop (d .size) xs)) (readFrom most (nextDef n (d .kind) .flushes) rest)) (readStopped 28))
+      (choose b (readBefore (recordOf d (drop (d .size) xs)) (readFrom most (nextDef n (d .kind) .flushes) rest)) (readStopped malformed))
 
   octets-rest : Octets rest
   octets-rest i = rw (getD-drop (own d) (drop (d .size) xs) i 0, getD-drop (d .size) xs (own d + i) 0) (o (d .size + (own d + i)))

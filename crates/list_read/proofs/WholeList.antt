@@ -9,6 +9,7 @@ use lib.Dec.{ltb, leb, eqb}
 use lib.ListN.{length, take, drop, length-append}
 use lib.Seq.{length-take-le, take-append-add}
 use borrow.Author.Tests.{le-leb, lt-leb, ne-eqb, eqb-true, eqb-false, ltb-true, ltb-false}
+use Rattle.refusals.specs.Numbers.{malformed}
 use Rattle.seqs.specs.Lists.{both, choose}
 use Rattle.list_records.specs.Records.{Record, WZ, WB, FL, byKind, recordBytes, listBytes}
 use Rattle.list_records.proofs.Sizes.{zeros-bytes, block-bytes, flush-bytes}
@@ -102,22 +103,22 @@ back-from (w ∷ ws) (suc most) n l z f =
 -- ---- a list that is cut
 
 -- no byte is here, and two flushes are not past
-none-left : (most n : ℕ) → n < 2 → readFrom (suc most) n [] ≡ readStopped 28
+none-left : (most n : ℕ) → n < 2 → readFrom (suc most) n [] ≡ readStopped malformed
 unfolding readFrom
 none-left most n h = ap readStopped (sym (cut-end n (λ e. omega arith)))
 
 -- bytes that no record begins
-no-head : (most n : ℕ) (xs : List ℕ) → (length xs ≡ 0 → ⊥) → headRefused ≡ decodeDef true xs → readFrom (suc most) n xs ≡ readStopped 28
+no-head : (most n : ℕ) (xs : List ℕ) → (length xs ≡ 0 → ⊥) → headRefused ≡ decodeDef true xs → readFrom (suc most) n xs ≡ readStopped malformed
 unfolding readFrom
 no-head most n xs l e = rw (ne-eqb (length xs) 0 l, ← e) refl
 
 -- a record whose bytes aren't all here
-never : (a b : Bool) (r : ListRead) → choose (both a (both b false)) r (readStopped 28) ≡ readStopped 28
+never : (a b : Bool) (r : ListRead) → choose (both a (both b false)) r (readStopped malformed) ≡ readStopped malformed
 never true true r = refl
 never true false r = refl
 never false b r = refl
 
-no-body : (most n : ℕ) (xs : List ℕ) (d : Decoded) → (length xs ≡ 0 → ⊥) → d ≡ decodeDef true xs → length (drop (d .size) xs) < own d → readFrom (suc most) n xs ≡ readStopped 28
+no-body : (most n : ℕ) (xs : List ℕ) (d : Decoded) → (length xs ≡ 0 → ⊥) → d ≡ decodeDef true xs → length (drop (d .size) xs) < own d → readFrom (suc most) n xs ≡ readStopped malformed
 unfolding readFrom
 no-body most n xs d l e b =
     rw (ne-eqb (length xs) 0 l, ← e, lt-leb (own d) (length (drop (d .size) xs)) b) (never (eqb (d .number) 0) (eqb (nextDef n (d .kind) .number) 0) _)
@@ -127,7 +128,7 @@ module _ (most n i : ℕ) (rest : List ℕ) (before : n < 2) where
   some-of : (w : Record) → i < length (recordBytes w) → length (take i (recordBytes w ++ rest)) ≡ i
   some-of w h = let l = length-append (recordBytes w) rest in length-take-le i (recordBytes w ++ rest) (omega arith)
 
-  body-cut : (w : Record) → RecordFits w → headSaid w .size ≤ i → i < length (recordBytes w) → readFrom (suc most) n (take i (recordBytes w ++ rest)) ≡ readStopped 28
+  body-cut : (w : Record) → RecordFits w → headSaid w .size ≤ i → i < length (recordBytes w) → readFrom (suc most) n (take i (recordBytes w ++ rest)) ≡ readStopped malformed
   unfolding own
   body-cut FL f s h = let l = flush-bytes in absurd (omega arith)
   body-cut (WZ at len) f s h = let l = zeros-bytes at len in absurd (omega arith)
@@ -140,7 +141,7 @@ module _ (most n i : ℕ) (rest : List ℕ) (before : n < 2) where
       no-body most n (take i (recordBytes (WB at bs) ++ rest)) (headSaid (WB at bs)) (λ z. omega arith) (rw e at (c .0)) (omega arith)
 
   record-cut : (w : Record) → RecordFits w → (a b c : Bool) → eqb i 0 ≡ a → ltb i 2 ≡ b → ltb i (headSaid w .size) ≡ c → i < length (recordBytes w)
-      → readFrom (suc most) n (take i (recordBytes w ++ rest)) ≡ readStopped 28
+      → readFrom (suc most) n (take i (recordBytes w ++ rest)) ≡ readStopped malformed
   record-cut w f true b c p q s h = rw (eqb-true i 0 p) (none-left most n before)
   record-cut w f false true c p q s h =
       let k = eqb-false i 0 p in

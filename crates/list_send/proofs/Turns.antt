@@ -7,7 +7,7 @@ use native.Mathlib.Omega.{arith}
 use lib.ListN.{length, take, drop}
 use borrow.Author.Tests.{eq-eqb, ne-eqb, le-leb, lt-leb}
 use borrow.Rule.Slice.PartMut.{putMid, put-same, same-len-mid}
-use Rattle.refusals.specs.Numbers.{noPlace}
+use Rattle.refusals.specs.Numbers.{noPlace, wrongLength}
 use Rattle.endian.specs.Bytes.{patch}
 use Rattle.request.specs.declared.Request.{Request}
 use Rattle.request.specs.Parse.{parseDef}
@@ -60,7 +60,7 @@ module _ (s : State) (work len : ℕ) (w : Counted) (is : w ≡ sendingWanted s)
   unfolding sendNumber
   not-wanted h = rw (← is, ne-eqb (w .number) 0 h) refl
 
-  pub too-short : w .number ≡ 0 → len < w .value → sendNumber s work len ≡ 27
+  pub too-short : w .number ≡ 0 → len < w .value → sendNumber s work len ≡ wrongLength
   unfolding sendNumber
   too-short z h = rw (← is, z, lt-leb (w .value) len h) refl
 

@@ -9,6 +9,7 @@ use borrow.Author.Tests.{leb-true}
 use lib.Dec.{T, leb, leb→le, eqb}
 use lib.ListN.{length, take, drop, replicate, set, length-replicate, replicate-append-replicate, take-append-drop}
 use lib.Seq.{take-at, drop-at}
+use Rattle.refusals.specs.Numbers.{wrongLength, sunitTooLarge}
 use Rattle.endian.specs.Bytes.{beBytes, beAt, patch}
 use Rattle.endian_little.specs.Bytes.{leBytes}
 use Rattle.endian.specs.Fields.{Field, Span, writeFields, spans}
@@ -146,7 +147,7 @@ laid uuid sunit lsn tailLsn cycle n u =
 within : (sunit len : ℕ) → recordNumber sunit len ≡ 0 → sunit ≤ 16384
 unfolding recordNumber
 within sunit len z =
-    let p = passed 27 (require 35 (leb sunit 16384) 0) (eqb len (512 * basicBlocksOf sunit)) (omega arith) z in
+    let p = passed wrongLength (require sunitTooLarge (leb sunit 16384) 0) (eqb len (512 * basicBlocksOf sunit)) (omega arith) z in
     leb-true sunit 16384 (passed 35 0 (leb sunit 16384) (omega arith) (p .1) .0)
 
 one : (sunit : ℕ) → sunit ≤ 16384 → headersOf sunit ≡ 1

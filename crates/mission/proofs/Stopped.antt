@@ -8,7 +8,7 @@ use native.Mathlib.Omega.{arith}
 use lib.ListN.{length, take, drop, length-append, length-take, take-append-drop}
 use lib.Seq.{take-append-le, take-at, drop-at, drop-append-add}
 use Rattle.arith.specs.Choice.{when}
-use Rattle.refusals.specs.Numbers.{notInProfile}
+use Rattle.refusals.specs.Numbers.{notInProfile, notLeft}
 use Rattle.seqs.specs.Lists.{total}
 use Rattle.seqs.proofs.Laws.{total-append}
 use Rattle.geometry.specs.declared.Geometry.{Geometry}
@@ -113,10 +113,10 @@ module _ (r : Request) (a : AcceptedRun r) (old : Device) where
       (run-early r a cut (drop n (prefix run (r .device))) (take-append-drop n (prefix run (r .device))) (omega (arith, length-take n (prefix run (r .device)))) old)
 
   -- and the reader refuses it, whether or not it is told to admit profile disks only
-  early-number : (d : Device) → Early run d → (told : Bool) → firstNumber told r d ≡ 30
+  early-number : (d : Device) → Early run d → (told : Bool) → firstNumber told r d ≡ notLeft
   early-number d e told =
       let f = readGroup0 (headOn (run .geometry) d 0) in
-      let n : f .number ≡ 30 = early-refused r a d e in
+      let n : f .number ≡ notLeft = early-refused r a d e in
       refused-kept told (f .geometry) (f .number) (λ z. omega (arith, n, z)) ∙ n
 
   finished : (n : ℕ) → beforeFinished (run .geometry) < n → stoppedAfter r n old ≡ formatted r old

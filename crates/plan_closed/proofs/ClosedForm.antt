@@ -8,6 +8,7 @@ use Prim.Native.Nat.{ℕ, _+_, _-_, _≤_, _<_, _^_}
 use native.Mathlib.Omega.{arith}
 use borrow.Author.Tests.{ltb-true, ltb-false, eqb-true, lt-ltb, le-ltb, eq-eqb}
 use lib.Dec.{ltb}
+use Rattle.refusals.specs.Numbers.{freeListShort}
 use Rattle.seqs.specs.Lists.{both, choose, upFrom}
 use Rattle.seqs.proofs.Laws.{lt-or-le}
 use Rattle.params.specs.declared.OptU64.{OptU64}
@@ -66,7 +67,7 @@ module _ (s : Site) (ok : SoundSite s) where
       let f = filled (s .need) (listAt s) (s .length - listAt s) (s .rmapbt) (rmapAtFirst s) (listedMap s (s .need)) (omega arith) (omega arith) (omega arith) h (list-mapped s ok (s .need) (omega arith) (omega arith)) in
       rw (free-first (omega arith)) (f ∙ ap (λ (b : ℕ). work 0 (s .rmapbt) (gap (listAt s + s .need) b) (upFrom (listAt s) (s .need)) (listedMap s (s .need))) e)
 
-  listed-short : s .«has_log» ≡ true → s .length - listAt s < s .need → listFilled s .number ≡ 25
+  listed-short : s .«has_log» ≡ true → s .length - listAt s < s .need → listFilled s .number ≡ freeListShort
   unfolding listFilled atFirst
   listed-short e h =
       let n = ok .need-least in
@@ -99,11 +100,11 @@ module _ (s : Site) (ok : SoundSite s) where
   never : {X : Type 0} (t : Bool) → t ≡ true → t ≡ false → X
   never t e f = let z : _≡_ {A = ℕ} 0 1 = cc in absurd (omega arith)
 
-  refused : (c : OptU64) (w : Work) → w .number ≡ 25 → planAnswer s c w ≡ refusedPlan 25
+  refused : (c : OptU64) (w : Work) → w .number ≡ freeListShort → planAnswer s c w ≡ refusedPlan freeListShort
   unfolding planAnswer
   refused c w e = rw e
 
-  log-refused : (t : Bool) → hasRootChunk s ≡ t → s .«has_log» ≡ true → s .length - listAt s < s .need → planOf s ≡ refusedPlan 25
+  log-refused : (t : Bool) → hasRootChunk s ≡ t → s .«has_log» ≡ true → s .length - listAt s < s .need → planOf s ≡ refusedPlan freeListShort
   unfolding planOf
   log-refused true z e h = never (s .«has_log») e (first-log z)
   log-refused false z e h = rw z (refused Absent (listFilled s) (listed-short e h))
@@ -158,7 +159,7 @@ module _ (s : Site) (ok : SoundSite s) where
   accepted true z h = rw (z, listed-full h, chunked-first z)
   accepted false z h = rw (z, listed-full h, other-free z, other-map z)
 
-  plan-at : (t u : Bool) → s .«has_log» ≡ t → ltb (s .length - listAt s) (s .need) ≡ u → planOf s ≡ choose (both t u) (refusedPlan 25) (record { number = 0; plan = closedAgPlan s })
+  plan-at : (t u : Bool) → s .«has_log» ≡ t → ltb (s .length - listAt s) (s .need) ≡ u → planOf s ≡ choose (both t u) (refusedPlan freeListShort) (record { number = 0; plan = closedAgPlan s })
   plan-at true true e f = log-refused (hasRootChunk s) refl e (ltb-true _ _ f)
   plan-at true false e f = accepted (hasRootChunk s) refl (ltb-false _ _ f)
   plan-at false u e f = accepted (hasRootChunk s) refl (elsewhere e)

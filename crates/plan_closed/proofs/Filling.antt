@@ -8,6 +8,7 @@ use native.Mathlib.Omega.{arith}
 use borrow.Author.Tests.{eq-eqb, ne-eqb, le-leb, lt-leb, le-ltb}
 use lib.Dec.{eqb}
 use lib.ListN.{length}
+use Rattle.refusals.specs.Numbers.{freeListShort}
 use Rattle.seqs.specs.Lists.{choose, appended, turns, upFrom}
 use Rattle.seqs.proofs.Laws.{appended-packed, turns-step}
 use Rattle.btree.specs.declared.records.AllocRec.{AllocRec}
@@ -49,7 +50,7 @@ work want b free list map =
     record { number = 0; want = want; rmapbt = b; free = packFree free; agfl = packAgfl list; rmap = packRmap map }
 
 -- nothing is free
-turn-none : (want : ℕ) (b : Bool) (list : List ℕ) (map : List RmapRec) → 0 < want → listTurn (work want b [] list map) .number ≡ 25
+turn-none : (want : ℕ) (b : Bool) (list : List ℕ) (map : List RmapRec) → 0 < want → listTurn (work want b [] list map) .number ≡ freeListShort
 unfolding listTurn failed
 turn-none want b list map h = rw (ne-eqb want 0 (λ e. omega arith), none-picked want)
 
@@ -86,17 +87,17 @@ module _ (want a c : ℕ) (b : Bool) (map map′ : List RmapRec) (wide : a + c <
 
   -- it has some, but not all: the first turn takes what there is, and the second finds nothing
   pub emptied : 0 < c → c < want → mapped b (packRmap map) (mapRec a c ownAg) ≡ record { number = 0; list = packRmap map′ }
-      → turns listTurn want (work want b (record { start = a; count = c } ∷ []) [] map) .number ≡ 25
+      → turns listTurn want (work want b (record { start = a; count = c } ∷ []) [] map) .number ≡ freeListShort
   emptied h k m =
       let o = turn-one want a c c b map map′ (omega arith) h (omega arith) (omega arith) wide (rw (lt-leb want c k)) m in
       let g : gap (a + c) (a + c) ≡ [] = rw (le-ltb (a + c) (a + c) (omega arith)) in
       let n = turn-none (want - c) b (upFrom a c) map′ (omega arith) in
-      let e : listTurn (listTurn (work want b (record { start = a; count = c } ∷ []) [] map)) .number ≡ 25 = rw (o, g) n in
+      let e : listTurn (listTurn (work want b (record { start = a; count = c } ∷ []) [] map)) .number ≡ freeListShort = rw (o, g) n in
       rw (turns-step listTurn want (work want b (record { start = a; count = c } ∷ []) [] map) (omega arith), turns-step listTurn (want - 1) (listTurn (work want b (record { start = a; count = c } ∷ []) [] map)) (omega arith))
       (ap (λ (w : Work). w .number) (turns-stuck (want - 1 - 1) (listTurn (listTurn (work want b (record { start = a; count = c } ∷ []) [] map))) (rw e)) ∙ e)
 
 -- nothing was free from the start
-pub starved : (want : ℕ) (b : Bool) (map : List RmapRec) → 0 < want → turns listTurn want (work want b [] [] map) .number ≡ 25
+pub starved : (want : ℕ) (b : Bool) (map : List RmapRec) → 0 < want → turns listTurn want (work want b [] [] map) .number ≡ freeListShort
 starved want b map h =
     let e = turn-none want b [] map h in
     rw (turns-step listTurn want (work want b [] [] map) h)

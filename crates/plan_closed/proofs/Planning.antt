@@ -9,6 +9,7 @@ use native.Mathlib.Omega.{arith}
 use borrow.Author.Tests.{eq-eqb, ne-eqb, eqb-true, le-ltb}
 use lib.Dec.{ltb, eqb}
 use lib.ListN.{length}
+use Rattle.refusals.specs.Numbers.{freeListShort}
 use Rattle.seqs.specs.Lists.{both, choose}
 use Rattle.seqs.specs.Runs.{weigh, runLength}
 use Rattle.seqs.proofs.Weights.{additive-blocks, weigh-append, weigh-one}
@@ -28,11 +29,11 @@ use Rattle.plan_closed.specs.Closed.{listAt, freeBeforeList, listShort, 
 use Rattle.plan_closed.proofs.ClosedForm.{closed-form}
 
 -- the number of a choice between 25 and a plan
-number-at : (t : Bool) (p : Planned) → p .number ≡ 0 → choose t (refusedPlan 25) p .number ≡ choose t 25 0
+number-at : (t : Bool) (p : Planned) → p .number ≡ 0 → choose t (refusedPlan freeListShort) p .number ≡ choose t freeListShort 0
 number-at true p e = refl
 number-at false p e = e
 
-either-at : (t : Bool) (n : ℕ) → n ≡ choose t 25 0 → (n ≡ 0) ⊎ (n ≡ 25)
+either-at : (t : Bool) (n : ℕ) → n ≡ choose t freeListShort 0 → (n ≡ 0) ⊎ (n ≡ freeListShort)
 either-at true n e = inr e
 either-at false n e = inl e
 
@@ -60,7 +61,7 @@ module _ (s : Site) (ok : SoundSite s) where
   short-means = rw free-blocks
 
   -- the number is 25 where the log group is short, else 0
-  pub its-number : closedPlan s .number ≡ choose (listShort s) 25 0
+  pub its-number : closedPlan s .number ≡ choose (listShort s) freeListShort 0
   unfolding closedPlan
   its-number = number-at (listShort s) (record { number = 0; plan = closedAgPlan s }) refl
 
@@ -70,7 +71,7 @@ module _ (g : Geometry) (l : length (g .label) ≡ 12) (h : isAnswer g ≡ true)
   unfolding planned
   closed-plan k i = rw (group-there g k h i) (closed-form (siteOf g k) (site-sound g k l h))
 
-  pub planned-number : (k : ℕ) → k < g .agcount → planned g k .number ≡ choose (listShort (siteOf g k)) 25 0
+  pub planned-number : (k : ℕ) → k < g .agcount → planned g k .number ≡ choose (listShort (siteOf g k)) freeListShort 0
   planned-number k i = ap (λ (p : Planned). p .number) (closed-plan k i) ∙ its-number (siteOf g k) (site-sound g k l h)
 
   -- the plan of a group that isn't short
@@ -79,7 +80,7 @@ module _ (g : Geometry) (l : length (g .label) ≡ 12) (h : isAnswer g ≡ true)
   planned-plan k i f = rw (closed-plan k i, f)
 
   -- NO NUMBER BUT 25 COMES UP INSIDE
-  pub refused-or-not : (k : ℕ) → k < g .agcount → (planned g k .number ≡ 0) ⊎ (planned g k .number ≡ 25)
+  pub refused-or-not : (k : ℕ) → k < g .agcount → (planned g k .number ≡ 0) ⊎ (planned g k .number ≡ freeListShort)
   refused-or-not k i = either-at (listShort (siteOf g k)) (planned g k .number) (planned-number k i)
 
   pub elsewhere-long : (k : ℕ) → eqb k (g .logagno) ≡ false → listShort (siteOf g k) ≡ false
@@ -95,7 +96,7 @@ module _ (g : Geometry) (l : length (g .label) ≡ 12) (h : isAnswer g ≡ true)
   log-short = short-means (siteOf g (g .logagno)) (site-sound g (g .logagno) l h) ∙ rw (eq-eqb (g .logagno) (g .logagno) refl)
 
   -- THE LOG GROUP IS REFUSED EXACTLY WHERE ITS FREE BLOCKS ARE FEWER THAN ITS FREE LIST
-  pub log-group-refused : planned g (g .logagno) .number ≡ choose (ltb (freeBeforeList (siteOf g (g .logagno))) (freelistOf (g .features))) 25 0
+  pub log-group-refused : planned g (g .logagno) .number ≡ choose (ltb (freeBeforeList (siteOf g (g .logagno))) (freelistOf (g .features))) freeListShort 0
   log-group-refused = planned-number (g .logagno) (answer-bounds g l h .places .log-inside) ∙ rw log-short
 
   roomy-long : g .roomy ≡ true → listShort (siteOf g (g .logagno)) ≡ false
@@ -108,7 +109,7 @@ module _ (g : Geometry) (l : length (g .label) ≡ 12) (h : isAnswer g ≡ true)
 
   -- IN ROOMY SIZING NO GROUP IS REFUSED
   pub roomy-planned : g .roomy ≡ true → (k : ℕ) → k < g .agcount → planned g k .number ≡ 0
-  roomy-planned e k i = planned-number k i ∙ ap (λ (t : Bool). choose t 25 0) (by-group k (eqb k (g .logagno)) refl)
+  roomy-planned e k i = planned-number k i ∙ ap (λ (t : Bool). choose t freeListShort 0) (by-group k (eqb k (g .logagno)) refl)
     where
       by-group : (k : ℕ) (t : Bool) → eqb k (g .logagno) ≡ t → listShort (siteOf g k) ≡ false
       by-group k true q = rw (eqb-true k (g .logagno) q) (roomy-long e)

@@ -9,6 +9,7 @@ use borrow.Author.Tests.{lt-ltb, ltb-true, eq-eqb, eqb-true}
 use lib.Dec.{ltb, eqb}
 use lib.ListN.{length, length-append}
 use lib.Seq.{append-snoc}
+use Rattle.refusals.specs.Numbers.{notHoldable, tooManyRecords}
 use Rattle.arith.proofs.Both.{left-true, right-true}
 use Rattle.seqs.specs.Lists.{choose, fold}
 use Rattle.seqs.specs.Runs.{valid, has}
@@ -55,7 +56,7 @@ pub held-with : (s : Holds) (a n : ℕ) → Holdable s a n → heldWith s a n �
 unfolding heldWith
 held-with s a n h = rw (lt-ltb 0 n (h .some), eq-eqb _ 0 (h .free), lt-ltb _ 8 (h .few))
 
-holdable-at : (x y : Bool) (t : Held) → t .number ≡ 0 → choose x (choose y t (holdRefused 34)) (holdRefused 42) .number ≡ 0 → (x ≡ true) × (y ≡ true)
+holdable-at : (x y : Bool) (t : Held) → t .number ≡ 0 → choose x (choose y t (holdRefused tooManyRecords)) (holdRefused notHoldable) .number ≡ 0 → (x ≡ true) × (y ≡ true)
 holdable-at true true t e f = (refl, refl)
 holdable-at true false t e f = absurd (omega arith)
 holdable-at false y t e f = absurd (omega arith)

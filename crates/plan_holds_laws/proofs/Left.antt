@@ -10,6 +10,7 @@ use borrow.Author.Tests.{eqb-true}
 use lib.Dec.{eqb}
 use lib.ListN.{length}
 use lib.Seq.{append-snoc}
+use Rattle.refusals.specs.Numbers.{notHeld}
 use Rattle.seqs.specs.Lists.{choose, fold, total}
 use Rattle.seqs.specs.Runs.{valid, has, runLength, weigh}
 use Rattle.seqs.proofs.Laws.{lt-or-le}
@@ -66,7 +67,7 @@ module _ (g : Geometry) (l : length (g .label) ≡ 12) (k : ℕ) (q : planned g 
   unfolding holdDef
   hold-is hs s p a n = rw (kept-passes hs s p)
 
-  pub release-is : (hs : List AllocRec) (s : Holds) → Kept g k hs s → (a n : ℕ) → releaseDef g s a n ≡ choose (anyRun a n hs) (replayed g k (dropRun a hs)) (holdRefused 43)
+  pub release-is : (hs : List AllocRec) (s : Holds) → Kept g k hs s → (a n : ℕ) → releaseDef g s a n ≡ choose (anyRun a n hs) (replayed g k (dropRun a hs)) (holdRefused notHeld)
   unfolding releaseDef
   release-is hs s p a n = rw (kept-passes hs s p, kept-runs g k hs s p, p .group)
 
@@ -108,10 +109,10 @@ module _ (g : Geometry) (l : length (g .label) ≡ 12) (k : ℕ) (q : planned g 
   given-moves hs s p a n e =
       let z = release-is hs s p a n in
       let m = ap (λ (t : Held). t .number) (sym z) ∙ eqb-true _ 0 e in
-      let x = held-at (anyRun a n hs) (replayed g k (dropRun a hs)) 43 (omega arith) m in
+      let x = held-at (anyRun a n hs) (replayed g k (dropRun a hs)) notHeld (omega arith) m in
       let y = drop-ins a n 0 hs (p .sorted) x in
       let r = gives-back hs s p a n x in
-      let w : releaseDef g s a n ≡ heldAs (r .0) = z ∙ ap (λ (t : Bool). choose t (replayed g k (dropRun a hs)) (holdRefused 43)) x ∙ r .1 .0 in
+      let w : releaseDef g s a n ≡ heldAs (r .0) = z ∙ ap (λ (t : Bool). choose t (replayed g k (dropRun a hs)) (holdRefused notHeld)) x ∙ r .1 .0 in
       record {
         runs = dropRun a hs;
         kept = rw w (r .1 .1);

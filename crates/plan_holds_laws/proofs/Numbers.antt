@@ -9,6 +9,7 @@ use native.Mathlib.Omega.{arith}
 use borrow.Author.Tests.{lt-ltb, eq-eqb, ltb-true, ltb-false, eqb-true}
 use lib.Dec.{ltb, eqb}
 use lib.ListN.{length}
+use Rattle.refusals.specs.Numbers.{noAnswer, notHeld, notHoldable, tooManyRecords}
 use Rattle.arith.proofs.Both.{left-true, right-true, both-true}
 use Rattle.seqs.specs.Lists.{choose, total}
 use Rattle.seqs.proofs.Laws.{never}
@@ -27,19 +28,19 @@ use Rattle.plan_holds_laws.proofs.Exactly.{passed-keeps}
 use Rattle.plan_holds_laws.proofs.Left.{hold-is, release-is, gives-back, passed-reached, reached-passed}
 
 -- ---- the numbers of a choice
-held-number : (x y : Bool) (t : Held) → t .number ≡ 0 → choose x (choose y t (holdRefused 34)) (holdRefused 42) .number ≡ choose x (choose y 0 34) 42
+held-number : (x y : Bool) (t : Held) → t .number ≡ 0 → choose x (choose y t (holdRefused tooManyRecords)) (holdRefused notHoldable) .number ≡ choose x (choose y 0 tooManyRecords) notHoldable
 held-number true true t e = e
 held-number true false t e = refl
 held-number false y t e = refl
 
 -- w: the run is wholly free; m runs are held
 pub record Cases (num m : ℕ) (w : Type 0) : Type 0 where
-  pub known : num ≡ 31 → ⊥
-  pub not-holdable : (num ≡ 42) ↔ (w → ⊥)
-  pub full : (num ≡ 34) ↔ (w × (m ≡ 8))
+  pub known : num ≡ noAnswer → ⊥
+  pub not-holdable : (num ≡ notHoldable) ↔ (w → ⊥)
+  pub full : (num ≡ tooManyRecords) ↔ (w × (m ≡ 8))
   pub held : (num ≡ 0) ↔ (w × (m < 8))
 
-cases-at : (num m : ℕ) (w : Type 0) (x y : Bool) → num ≡ choose x (choose y 0 34) 42 → (x ≡ true → w) → (w → x ≡ true) → ltb m 8 ≡ y → m ≤ 8 → Cases num m w
+cases-at : (num m : ℕ) (w : Type 0) (x y : Bool) → num ≡ choose x (choose y 0 tooManyRecords) notHoldable → (x ≡ true → w) → (w → x ≡ true) → ltb m 8 ≡ y → m ≤ 8 → Cases num m w
 cases-at num m w true true e f h q k =
     let u : m < 8 = ltb-true _ _ q in
     record {
@@ -82,7 +83,7 @@ module _ (g : Geometry) (l : length (g .label) ≡ 12) (s : Holds) (a n : ℕ) w
   reached-cases : Reached g s → Cases (holdDef g s a n .number) (s .held .len) (WhollyFree s a n)
   reached-cases r = let p = passed-keeps g l s (reached-passed g l s r) in kept-cases (s .agno) (p .planned) (p .runs) (p .kept)
 
-  unknown-hold : isState g s ≡ false → holdDef g s a n .number ≡ 31
+  unknown-hold : isState g s ≡ false → holdDef g s a n .number ≡ noAnswer
   unfolding holdDef
   unknown-hold e = rw e
 
@@ -101,7 +102,7 @@ module _ (g : Geometry) (l : length (g .label) ≡ 12) (s : Holds) (a n : ℕ) w
       }
 
   -- ---- release
-  unknown-release : isState g s ≡ false → releaseDef g s a n .number ≡ 31
+  unknown-release : isState g s ≡ false → releaseDef g s a n .number ≡ noAnswer
   unfolding releaseDef
   unknown-release e = rw e
 
@@ -116,11 +117,11 @@ any-times a n [] = (λ e. never e, λ e. refl)
 any-times a n (r ∷ rs) = let i = any-times a n rs in any-times-at a n (times a n rs) (isRun a n r) (anyRun a n rs) (i .0) (i .1)
 
 pub record GivenCases (num m : ℕ) : Type 0 where
-  pub known : num ≡ 31 → ⊥
-  pub not-held : (num ≡ 43) ↔ (m ≡ 0)
+  pub known : num ≡ noAnswer → ⊥
+  pub not-held : (num ≡ notHeld) ↔ (m ≡ 0)
   pub given : (num ≡ 0) ↔ (0 < m)
 
-given-at : (num m : ℕ) (x : Bool) → (x ≡ true → num ≡ 0) → (x ≡ false → num ≡ 43) → (x ≡ true → 0 < m) → (x ≡ false → m ≡ 0) → GivenCases num m
+given-at : (num m : ℕ) (x : Bool) → (x ≡ true → num ≡ 0) → (x ≡ false → num ≡ notHeld) → (x ≡ true → 0 < m) → (x ≡ false → m ≡ 0) → GivenCases num m
 given-at num m true e f h k =
     let u = e refl in
     let v = h refl in
@@ -136,8 +137,8 @@ module _ (g : Geometry) (l : length (g .label) ≡ 12) (s : Holds) (a n : ℕ) w
       let i = any-times a n hs in
       let z = release-is g l k q hs s p a n in
       given-at (releaseDef g s a n .number) (times a n hs) (anyRun a n hs)
-      (λ t. ap (λ (h : Held). h .number) (z ∙ ap (λ (x : Bool). choose x (replayed g k (dropRun a hs)) (holdRefused 43)) t ∙ gives-back g l k q hs s p a n t .1 .0))
-      (λ t. ap (λ (h : Held). h .number) (z ∙ ap (λ (x : Bool). choose x (replayed g k (dropRun a hs)) (holdRefused 43)) t))
+      (λ t. ap (λ (h : Held). h .number) (z ∙ ap (λ (x : Bool). choose x (replayed g k (dropRun a hs)) (holdRefused notHeld)) t ∙ gives-back g l k q hs s p a n t .1 .0))
+      (λ t. ap (λ (h : Held). h .number) (z ∙ ap (λ (x : Bool). choose x (replayed g k (dropRun a hs)) (holdRefused notHeld)) t))
       (i .0)
       (i .1)
 

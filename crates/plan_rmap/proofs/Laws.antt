@@ -9,6 +9,7 @@ use borrow.Author.Tests.{ltb-true, eqb-true, le-leb, lt-leb}
 use lib.Dec.{ltb, eqb}
 use lib.ListN.{length, take, drop, getD}
 use lib.Seq.{slice, length-take-le, getD-take}
+use Rattle.refusals.specs.Numbers.{tooManyRecords}
 use Rattle.seqs.specs.Lists.{both, spliced, packed, pushed, appended}
 use Rattle.seqs.specs.Runs.{follows, valid, endAt, nextOk}
 use Rattle.seqs.proofs.Laws.{both-left, both-right, length-spliced, splice-packed}
@@ -36,7 +37,7 @@ takes-facts xs p r h t =
     (v, ltb-true _ _ (follows-end (endAt rmapStart rmapCount zeroRmapRec 0 xs p) (r .start) (r .count) f))
 
 module _ (xs : List RmapRec) (n i j : ℕ) (x : RmapRec) (k : n ≤ length xs) (h : i ≤ n) where
-  pub kept-full : 64 < i + 1 + (n - j) → insertedList (spliced (take n xs) i j (x ∷ [])) ≡ insertRefused 34
+  pub kept-full : 64 < i + 1 + (n - j) → insertedList (spliced (take n xs) i j (x ∷ [])) ≡ insertRefused tooManyRecords
   kept-full m =
       let l = length-spliced zeroRmapRec xs n i j (x ∷ []) k h in
       let t : 64 < length (spliced (take n xs) i j (x ∷ [])) = omega arith in

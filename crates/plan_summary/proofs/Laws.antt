@@ -9,6 +9,7 @@ use borrow.Author.Tests.{eq-eqb, eqb-true}
 use lib.Dec.{ltb, eqb}
 use lib.ListN.{length}
 use lib.Pow.{pow-pos}
+use Rattle.refusals.specs.Numbers.{freeListShort, noAnswer}
 use Rattle.seqs.specs.Lists.{both, choose}
 use Rattle.geometry.specs.declared.Geometry.{Geometry}
 use Rattle.geometry_answers.specs.Named.{isAnswer}
@@ -33,11 +34,11 @@ unfolding listShort listAt
 short-after s e = rw e
 
 module _ (g : Geometry) where
-  pub no-answer : isAnswer g ≡ false → constNumber g ≡ 31
+  pub no-answer : isAnswer g ≡ false → constNumber g ≡ noAnswer
   unfolding constNumber
   no-answer e = rw e
 
-  pub log-short : isAnswer g ≡ true → listShort (siteOf g (g .logagno)) ≡ true → constNumber g ≡ 25
+  pub log-short : isAnswer g ≡ true → listShort (siteOf g (g .logagno)) ≡ true → constNumber g ≡ freeListShort
   unfolding constNumber
   log-short e h = rw (e, h)
 

@@ -7,6 +7,7 @@ use Prim.Native.Nat.{ℕ, _+_, _-_, _^_, _≤_, _<_, max}
 use native.Mathlib.Omega.{arith}
 use lib.Dec.{ltb, eqb}
 use lib.ListN.{length, length-append}
+use Rattle.refusals.specs.Numbers.{freeListShort}
 use Rattle.arith.specs.Choice.{when}
 use Rattle.seqs.specs.Lists.{choose}
 use Rattle.seqs.proofs.Laws.{choose-elim}
@@ -76,8 +77,8 @@ site-records s ok = records-narrow (packFree (closedFree s)) (free-least s ok) (
 
 -- ---- a plan of the planner in closed form
 
-plan-at : (t : Bool) (p : AgPlan) → choose {A = Planned} t (refusedPlan 25) (record { number = 0; plan = p }) .number ≡ 0
-    → choose {A = Planned} t (refusedPlan 25) (record { number = 0; plan = p }) .plan ≡ p
+plan-at : (t : Bool) (p : AgPlan) → choose {A = Planned} t (refusedPlan freeListShort) (record { number = 0; plan = p }) .number ≡ 0
+    → choose {A = Planned} t (refusedPlan freeListShort) (record { number = 0; plan = p }) .plan ≡ p
 plan-at true p e = absurd (omega arith)
 plan-at false p e = refl
 

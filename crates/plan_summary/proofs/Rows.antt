@@ -7,6 +7,7 @@ use native.Mathlib.Omega.{arith}
 use borrow.Author.Tests.{eqb-true, eqb-false, eq-eqb, ne-eqb, lt-ltb, le-ltb, ltb-true, ltb-false}
 use lib.Dec.{ltb, eqb}
 use lib.ListN.{length}
+use Rattle.refusals.specs.Numbers.{noPlace}
 use Rattle.arith.specs.Choice.{when}
 use Rattle.seqs.specs.Lists.{both, choose}
 use Rattle.geometry.specs.declared.Geometry.{Geometry}
@@ -138,7 +139,7 @@ module _ (g : Geometry) (k : ℕ) where
   not-short-at true e h = ap (λ (x : ℕ). listShort (siteOf g x)) (eqb-true k (g .logagno) e) ∙ h
   not-short-at false e h = no-log e
 
-  missing : g .agcount ≤ k → rowBySummary m k ≡ noRow 29
+  missing : g .agcount ≤ k → rowBySummary m k ≡ noRow noPlace
   unfolding rowBySummary
   missing h = rw (count-is, le-ltb k (g .agcount) h)
 
@@ -154,7 +155,7 @@ module _ (g : Geometry) (l : length (g .label) ≡ 12) (e : plansNumber g ≡ 0)
   here = all-planned g l e .0
 
   -- rowOf above the last group is 29
-  no-row : (k : ℕ) → g .agcount ≤ k → rowOf g k ≡ noRow 29
+  no-row : (k : ℕ) → g .agcount ≤ k → rowOf g k ≡ noRow noPlace
   unfolding rowOf planned
   no-row k h = rw (group-missing g k here h)
 

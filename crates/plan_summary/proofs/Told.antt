@@ -5,6 +5,7 @@ use mathlib.Core.Bool.{Bool, true, false}
 use Prim.Native.Nat.{ℕ}
 use native.Mathlib.Omega.{arith}
 use lib.Dec.{eqb}
+use Rattle.refusals.specs.Numbers.{noAnswer}
 use Rattle.seqs.specs.Lists.{choose}
 use Rattle.geometry.specs.declared.Geometry.{Geometry}
 use Rattle.geometry_counts.specs.declared.Value32.{Value32}
@@ -18,18 +19,18 @@ use Rattle.plan_summary.specs.Summaries.{freeTotals}
 
 -- the totals of a plan of the planner, or those of a refusal
 abbrev pub totalsAt : Bool → ℕ → ℕ → FreeTotals
-totalsAt t a b = choose t (record { number = 0; blocks = a; longest = b }) (record { number = 31; blocks = 0; longest = 0 })
+totalsAt t a b = choose t (record { number = 0; blocks = a; longest = b }) (record { number = noAnswer; blocks = 0; longest = 0 })
 
-number-at : (t : Bool) (a b : ℕ) → totalsAt t a b .number ≡ choose t 0 31
+number-at : (t : Bool) (a b : ℕ) → totalsAt t a b .number ≡ choose t 0 noAnswer
 number-at true a b = refl
 number-at false a b = refl
 
-totals-number : (g : Geometry) (p : AgPlan) → freeTotals g p .number ≡ choose (isPlan g p) 0 31
+totals-number : (g : Geometry) (p : AgPlan) → freeTotals g p .number ≡ choose (isPlan g p) 0 noAnswer
 unfolding freeTotals
 totals-number g p = number-at (isPlan g p) (freeblksOf (p .free)) (longestOf (p .free))
 
 -- a number of 0 is a plan of the planner
-plan-at : (t : Bool) → choose {A = ℕ} t 0 31 ≡ 0 → t ≡ true
+plan-at : (t : Bool) → choose {A = ℕ} t 0 noAnswer ≡ 0 → t ≡ true
 plan-at true e = refl
 plan-at false e = absurd (omega arith)
 
@@ -37,7 +38,7 @@ pub totals-plan : (g : Geometry) (p : AgPlan) → freeTotals g p .number ≡ 0 �
 totals-plan g p e = plan-at (isPlan g p) (sym (totals-number g p) ∙ e)
 
 -- and any other number is none
-none-at : (t : Bool) → (choose {A = ℕ} t 0 31 ≡ 0 → ⊥) → t ≡ false
+none-at : (t : Bool) → (choose {A = ℕ} t 0 noAnswer ≡ 0 → ⊥) → t ≡ false
 none-at true n = absurd (n refl)
 none-at false n = refl
 

@@ -8,6 +8,7 @@ use native.Mathlib.Omega.{arith}
 use borrow.Author.Tests.{lt-ltb, eqb-false}
 use lib.Dec.{ltb, leb, eqb}
 use lib.ListN.{length, drop, replicate}
+use Rattle.refusals.specs.Numbers.{wrongLength}
 use Rattle.seqs.specs.Lists.{both, choose, turns}
 use Rattle.plan_table.specs.declared.Table.{Table}
 use Rattle.plan_table.specs.Filling.{afterLine, afterLines, linesOf, linesJoined, restOf, linesFitting, partLines, tablePart, tableBehind, tableFilled, partsOf, afterParts, ReachedByParts, Printing}
@@ -95,10 +96,10 @@ printing-whole n t s p =
 
 -- ---- that it ends
 
-some-put : (left k : ℕ) → 0 < left → choose {A = ℕ} (both (ltb 0 left) (eqb k 0)) 27 0 ≡ 0 → 0 < k
+some-put : (left k : ℕ) → 0 < left → choose {A = ℕ} (both (ltb 0 left) (eqb k 0)) wrongLength 0 ≡ 0 → 0 < k
 some-put left k h = rw (lt-ltb 0 left h) (by (eqb k 0) refl)
   where
-    by : (t : Bool) → eqb k 0 ≡ t → choose {A = ℕ} t 27 0 ≡ 0 → 0 < k
+    by : (t : Bool) → eqb k 0 ≡ t → choose {A = ℕ} t wrongLength 0 ≡ 0 → 0 < k
     by true e z = absurd (omega arith)
     by false e z = let w = eqb-false k 0 e in omega arith
 

@@ -8,6 +8,7 @@ use native.Mathlib.Omega.{arith}
 use borrow.Author.Tests.{eqb-true, eqb-false, eq-eqb, ne-eqb, ltb-true}
 use lib.Dec.{ltb, leb, eqb}
 use lib.ListN.{length, length-append}
+use Rattle.refusals.specs.Numbers.{wrongLength}
 use Rattle.seqs.specs.Lists.{both, choose, turns}
 use Rattle.endian.specs.Answer.{answer}
 use Rattle.endian.specs.Bytes.{patch}
@@ -167,13 +168,13 @@ module _ (t : Table) (old : List ℕ) (s : Table) (at : ℕ) (full : Bool) (new 
   left-at : s .left ≡ t .left - length (partLines t (length old))
   left-at = ap (λ (x : Table). x .left) state-at ∙ left-after (length (partLines t (length old))) t
 
-  number-at : {r : ℕ} → r ≡ choose (both (ltb 0 (t .left)) (eqb (s .left) (t .left))) 27 0
-      → r ≡ choose (both (ltb 0 (t .left)) (eqb (length (partLines t (length old))) 0)) 27 0
+  number-at : {r : ℕ} → r ≡ choose (both (ltb 0 (t .left)) (eqb (s .left) (t .left))) wrongLength 0
+      → r ≡ choose (both (ltb 0 (t .left)) (eqb (length (partLines t (length old))) 0)) wrongLength 0
   number-at e =
-      e ∙ ap (λ (x : ℕ). choose {A = ℕ} (both (ltb 0 (t .left)) (eqb x (t .left))) 27 0) left-at
-      ∙ ap (λ (x : Bool). choose {A = ℕ} x 27 0) (same-left (t .left) (length (partLines t (length old))))
+      e ∙ ap (λ (x : ℕ). choose {A = ℕ} (both (ltb 0 (t .left)) (eqb x (t .left))) wrongLength 0) left-at
+      ∙ ap (λ (x : Bool). choose {A = ℕ} x wrongLength 0) (same-left (t .left) (length (partLines t (length old))))
 
-  pub ends-filled : {r : ℕ} → r ≡ choose (both (ltb 0 (t .left)) (eqb (s .left) (t .left))) 27 0
+  pub ends-filled : {r : ℕ} → r ≡ choose (both (ltb 0 (t .left)) (eqb (s .left) (t .left))) wrongLength 0
       → record { number = r; end = at; table = s } ≡ tableFilled t (length old)
   unfolding tableFilled
   ends-filled e = rw (number-at e, end-at, state-at) refl

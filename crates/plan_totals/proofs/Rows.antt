@@ -9,6 +9,7 @@ use native.Mathlib.Omega.{arith}
 use borrow.Author.Tests.{ltb-false, lt-ltb, le-ltb}
 use lib.Dec.{ltb, eqb}
 use lib.ListN.{length}
+use Rattle.refusals.specs.Numbers.{freeListShort}
 use Rattle.seqs.specs.Lists.{choose, fold}
 use Rattle.seqs.proofs.Laws.{lt-or-le}
 use Rattle.params.specs.declared.OptU64.the-variants.{Absent, Given}
@@ -92,9 +93,9 @@ chunk-at false a n = refl
 -- the row of a plan in closed form
 module _ (g : Geometry) (k : ℕ) where
   row-at : (t : Bool) → listShort (siteOf g k) ≡ t
-      → choose (eqb (choose t (refusedPlan 25) (record { number = 0; plan = closedAgPlan (siteOf g k) }) .number) 0)
-      (rowFrom g k (choose t (refusedPlan 25) (record { number = 0; plan = closedAgPlan (siteOf g k) }) .plan))
-      (noRow (choose t (refusedPlan 25) (record { number = 0; plan = closedAgPlan (siteOf g k) }) .number))
+      → choose (eqb (choose t (refusedPlan freeListShort) (record { number = 0; plan = closedAgPlan (siteOf g k) }) .number) 0)
+      (rowFrom g k (choose t (refusedPlan freeListShort) (record { number = 0; plan = closedAgPlan (siteOf g k) }) .plan))
+      (noRow (choose t (refusedPlan freeListShort) (record { number = 0; plan = closedAgPlan (siteOf g k) }) .number))
       ≡ closedRow (siteOf g k)
   unfolding closedRow siteOf
   row-at true e = rw e

@@ -7,6 +7,7 @@ use native.Mathlib.Omega.{arith}
 use borrow.Author.Tests.{ltb-false, eqb-true, eqb-false}
 use lib.Dec.{ltb, eqb}
 use lib.ListN.{length}
+use Rattle.refusals.specs.Numbers.{freeListShort, noAnswer}
 use Rattle.seqs.specs.Lists.{both, choose}
 use Rattle.geometry.specs.declared.Geometry.{Geometry}
 use Rattle.geometry.specs.Log.{preallocOf}
@@ -60,14 +61,14 @@ module _ (g : Geometry) (l : length (g .label) ≡ 12) (h : isAnswer g ≡ true)
   abbrev logSite : Site
   logSite = siteOf g (g .logagno)
 
-  one-number-at : (k : ℕ) → k < g .agcount → (t : Bool) → eqb k (g .logagno) ≡ t → planned g k .number ≡ choose t (choose (listShort logSite) 25 0) 0
-  one-number-at k i true e = planned-number g l h k i ∙ ap (λ (n : ℕ). choose (listShort (siteOf g n)) 25 0) (eqb-true k (g .logagno) e)
+  one-number-at : (k : ℕ) → k < g .agcount → (t : Bool) → eqb k (g .logagno) ≡ t → planned g k .number ≡ choose t (choose (listShort logSite) freeListShort 0) 0
+  one-number-at k i true e = planned-number g l h k i ∙ ap (λ (n : ℕ). choose (listShort (siteOf g n)) freeListShort 0) (eqb-true k (g .logagno) e)
   one-number-at k i false e = others-planned g l h k i (eqb-false k (g .logagno) e)
 
   -- some group is refused exactly where the log group is
-  pub all-numbers : firstTo (g .agcount) (λ k. planned g k .number) ≡ choose (listShort logSite) 25 0
+  pub all-numbers : firstTo (g .agcount) (λ k. planned g k .number) ≡ choose (listShort logSite) freeListShort 0
   all-numbers =
-      first-only (g .logagno) (choose (listShort logSite) 25 0) (λ k. planned g k .number) (g .agcount) (answer-bounds g l h .places .log-inside)
+      first-only (g .logagno) (choose (listShort logSite) freeListShort 0) (λ k. planned g k .number) (g .agcount) (answer-bounds g l h .places .log-inside)
       (λ k i. one-number-at k i (eqb k (g .logagno)) refl)
 
   some-groups : 1 < g .agcount
@@ -179,7 +180,7 @@ module _ (g : Geometry) (l : length (g .label) ≡ 12) (h : isAnswer g ≡ true)
 -- ---- every geometry, an answer or not
 
 module _ (g : Geometry) (l : length (g .label) ≡ 12) where
-  number-at : (t : Bool) → isAnswer g ≡ t → choose t (firstTo (g .agcount) (λ k. planned g k .number)) 31 ≡ choose t (choose (listShort (siteOf g (g .logagno))) 25 0) 31
+  number-at : (t : Bool) → isAnswer g ≡ t → choose t (firstTo (g .agcount) (λ k. planned g k .number)) noAnswer ≡ choose t (choose (listShort (siteOf g (g .logagno))) freeListShort 0) noAnswer
   number-at true h = all-numbers g l h
   number-at false h = refl
 
@@ -188,7 +189,7 @@ module _ (g : Geometry) (l : length (g .label) ≡ 12) where
   unfolding plansNumber constNumber
   plans-number = number-at (isAnswer g) refl
 
-  planned-at : (t u : Bool) → choose {A = ℕ} t (choose u 25 0) 31 ≡ 0 → (t ≡ true) × (u ≡ false)
+  planned-at : (t u : Bool) → choose {A = ℕ} t (choose u freeListShort 0) noAnswer ≡ 0 → (t ≡ true) × (u ≡ false)
   planned-at true true e = absurd (omega arith)
   planned-at true false e = (refl, refl)
   planned-at false u e = absurd (omega arith)

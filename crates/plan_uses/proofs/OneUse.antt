@@ -7,6 +7,7 @@ use Prim.Native.Nat.{ℕ, _+_, _-_, _≤_, _<_}
 use native.Mathlib.Omega.{arith}
 use lib.ListN.{length, replicate}
 use lib.Seq.{take-append-seam}
+use Rattle.refusals.specs.Numbers.{freeListShort}
 use Rattle.seqs.specs.Lists.{choose}
 use Rattle.seqs.specs.Runs.{valid, runLength, has}
 use Rattle.seqs.proofs.Weights.{additive-has, additive-blocks, inside-in, inside-above}
@@ -29,7 +30,7 @@ use Rattle.plan_uses.proofs.Sorted.{none-joins, map-valid, list-starts}
 rmap-packed : (rs : List RmapRec) → rmapOf (packRmap rs) ≡ rs
 rmap-packed rs = take-append-seam rs (replicate (64 - length rs) zeroRmapRec)
 
-not-short : (t : Bool) → choose {A = ℕ} t 25 0 ≡ 0 → t ≡ false
+not-short : (t : Bool) → choose {A = ℕ} t freeListShort 0 ≡ 0 → t ≡ false
 not-short true e = absurd (omega arith)
 not-short false e = refl
 

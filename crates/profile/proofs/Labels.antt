@@ -9,6 +9,7 @@ use borrow.Author.Tests.{eqb-true, ne-eqb, leb-true, le-leb}
 use lib.Dec.{leb, eqb}
 use lib.ListN.{length, take, replicate}
 use lib.Seq.{length-take-le, take-append-seam}
+use Rattle.refusals.specs.Numbers.{notInProfile}
 use Rattle.arith.specs.Choice.{when}
 use Rattle.arith.proofs.Both.{right-true, left-true, both-true}
 use Rattle.seqs.specs.Lists.{choose}
@@ -25,7 +26,7 @@ pub not-under : (g : Geometry) (l : Label) → profileNumber false g l ≡ 0
 unfolding when
 not-under g l = refl
 
-outside : (t : Bool) → when (not t) 37 0 ≡ 0 → t ≡ true
+outside : (t : Bool) → when (not t) notInProfile 0 ≡ 0 → t ≡ true
 unfolding when
 outside true e = refl
 outside false e = absurd (omega arith)
@@ -39,7 +40,7 @@ unfolding when
 allowed-number true g l e = rw e refl
 allowed-number false g l e = refl
 
-pub refused-number : (g : Geometry) (l : Label) → inProfile g l ≡ false → profileNumber true g l ≡ 37
+pub refused-number : (g : Geometry) (l : Label) → inProfile g l ≡ false → profileNumber true g l ≡ notInProfile
 unfolding when
 refused-number g l e = rw e refl
 

@@ -7,6 +7,7 @@ use Prim.Native.Nat.{ℕ, _<_, _≤_}
 use borrow.Author.Tests.{eq-eqb, ne-eqb, lt-ltb, le-ltb, lt-leb}
 use lib.Dec.{eqb}
 use lib.ListN.{length, replicate}
+use Rattle.refusals.specs.Numbers.{notLeft}
 use Rattle.arith.specs.Choice.{when}
 use Rattle.refusals.specs.Table.{first}
 use Rattle.geometry.specs.declared.Geometry.{Geometry}
@@ -43,7 +44,7 @@ module _ (roomy : Bool) (xs : List ℕ) where
   short h = rw (lt-ltb (length xs) 512 h) refl
 
   module _ (l : 512 ≤ length xs) where
-    pub not-named : (namedBy roomy xs .number ≡ 0 → ⊥) → notFound 30 ≡ readSized roomy xs
+    pub not-named : (namedBy roomy xs .number ≡ 0 → ⊥) → notFound notLeft ≡ readSized roomy xs
     unfolding readSized firstTests foundAs when
     not-named h = rw (le-ltb (length xs) 512 l, ne-eqb (namedBy roomy xs .number) 0 h) refl
 

@@ -7,6 +7,7 @@ use Prim.Native.Nat.{ℕ, _<_, _≤_}
 use native.Mathlib.Omega.{arith}
 use borrow.Author.Tests.{lt-ltb, le-ltb}
 use lib.ListN.{length}
+use Rattle.refusals.specs.Numbers.{notLeft}
 use Rattle.seqs.specs.Lists.{choose}
 use Rattle.geometry.specs.declared.Computed.{Computed}
 use Rattle.geometry_answers.specs.Named.{isAnswer}
@@ -29,7 +30,7 @@ module _ (roomy : Bool) (xs : List ℕ) (l : 512 ≤ length xs) (r : Computed) (
   number-named : r .number ≡ namedBy roomy xs .number
   number-named = ap (λ (c : Computed). c .number) is-named
 
-  pub unnamed : (r .number ≡ 0 → ⊥) → notFound 30 ≡ readSized roomy xs
+  pub unnamed : (r .number ≡ 0 → ⊥) → notFound notLeft ≡ readSized roomy xs
   unnamed h = not-named roomy xs l (λ z. h (number-named ∙ z))
 
   module _ (z : r .number ≡ 0) where

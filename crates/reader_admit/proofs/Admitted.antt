@@ -8,6 +8,7 @@ use mathlib.Core.Logic.{_↔_}
 use Prim.Native.Nat.{ℕ, _<_}
 use borrow.Author.Tests.{eqb-true, ne-eqb}
 use lib.Dec.{eqb}
+use Rattle.refusals.specs.Numbers.{notInProfile}
 use Rattle.arith.specs.Choice.{when}
 use Rattle.seqs.specs.Lists.{choose}
 use Rattle.geometry.specs.declared.Geometry.{Geometry}
@@ -55,7 +56,7 @@ unfolding admitted
 zero-admitted g n z e = rw z (allowed-number true g (labelOn g) e)
 
 -- 37 where the reader's own number is none
-pub outside-37 : (g : Geometry) (n : ℕ) → n ≡ 0 → inProfile g (labelOn g) ≡ false → admitted true g n ≡ 37
+pub outside-37 : (g : Geometry) (n : ℕ) → n ≡ 0 → inProfile g (labelOn g) ≡ false → admitted true g n ≡ notInProfile
 unfolding admitted
 outside-37 g n z e = rw z (refused-number g (labelOn g) e)
 
@@ -117,7 +118,7 @@ pub left-number : (told : Bool) (g : Geometry) (u : List ℕ) → Source g u
 unfolding admitted
 left-number told g u s =
     ap (λ (x : Found). orNext (x .number) (profileNumber told (x .geometry) (labelOn (x .geometry)))) (complete-first g u s)
-    ∙ ap (λ (t : Bool). when (told && not t) 37 0) (reported-within g)
+    ∙ ap (λ (t : Bool). when (told && not t) notInProfile 0) (reported-within g)
 
 -- what a run under the profile leaves there is admitted
 pub first-admitted : (xs : List ℕ) → ProfileFirst xs → admitted true (readGroup0 xs .geometry) (readGroup0 xs .number) ≡ 0
@@ -159,16 +160,16 @@ true-or-false false h = refl
 
 -- where a run leaves the bytes, and none under the profile does
 module _ (g : Geometry) (u : List ℕ) (k : ℕ) (xs : List ℕ) where
-  pub group-37 : HeadLeftBy g u k xs → (ProfileLeaves g u k xs → ⊥) → admitted true g (readGroup g u k xs .number) ≡ 37
+  pub group-37 : HeadLeftBy g u k xs → (ProfileLeaves g u k xs → ⊥) → admitted true g (readGroup g u k xs .number) ≡ notInProfile
   group-37 l h =
       outside-37 g (readGroup g u k xs .number) (ap (λ (p : Planned). p .number) (complete-group g u k xs l))
       (true-or-false (inProfile g (labelOn g)) (λ e. h (head-leaves g u k xs l e)))
 
-pub log-37 : (g : Geometry) (u xs : List ℕ) → Handed g u → LeftLog g u xs → (ProfileLeavesLog g u xs → ⊥) → admitted true g (readLog g u xs) ≡ 37
+pub log-37 : (g : Geometry) (u xs : List ℕ) → Handed g u → LeftLog g u xs → (ProfileLeavesLog g u xs → ⊥) → admitted true g (readLog g u xs) ≡ notInProfile
 log-37 g u xs h l n =
     outside-37 g (readLog g u xs) (exact-log g u xs h .1 l) (true-or-false (inProfile g (labelOn g)) (λ e. n (log-leaves g u xs l e)))
 
-pub first-37 : (xs : List ℕ) → Octets xs → readGroup0 xs .number ≡ 0 → (ProfileFirst xs → ⊥) → admitted true (readGroup0 xs .geometry) (readGroup0 xs .number) ≡ 37
+pub first-37 : (xs : List ℕ) → Octets xs → readGroup0 xs .number ≡ 0 → (ProfileFirst xs → ⊥) → admitted true (readGroup0 xs .geometry) (readGroup0 xs .number) ≡ notInProfile
 first-37 xs o z n =
     outside-37 (readGroup0 xs .geometry) (readGroup0 xs .number) z
     (true-or-false (inProfile (readGroup0 xs .geometry) (labelOn (readGroup0 xs .geometry)))

@@ -9,6 +9,7 @@ use Prim.Native.Nat.{ℕ}
 use native.Mathlib.Omega.{arith}
 use borrow.Author.Tests.{eqb-true}
 use lib.Dec.{T, eqb}
+use Rattle.refusals.specs.Numbers.{notInProfile}
 use Rattle.seqs.specs.Lists.{choose}
 use Rattle.geometry.specs.declared.Geometry.{Geometry}
 use Rattle.profile.specs.Rules.{profileNumber, labelOn}
@@ -21,20 +22,20 @@ use Rattle.reader_admit.specs.Profile.{ProfileLeaves, ProfileLeavesLog, 
 use Rattle.reader_admit.proofs.Admitted.{first-admitted, admit-group, admit-log, first-37, group-37, log-37}
 
 -- the reader's own number was none
-only-zero : (g : Geometry) (n : ℕ) → (n ≡ 37 → ⊥) → admitted true g n ≡ 37 → n ≡ 0
+only-zero : (g : Geometry) (n : ℕ) → (n ≡ notInProfile → ⊥) → admitted true g n ≡ notInProfile → n ≡ 0
 unfolding admitted
 only-zero g n h e = go (eqb n 0) refl e
   where
-    go : (t : Bool) → eqb n 0 ≡ t → choose t (profileNumber true g (labelOn g)) n ≡ 37 → n ≡ 0
+    go : (t : Bool) → eqb n 0 ≡ t → choose t (profileNumber true g (labelOn g)) n ≡ notInProfile → n ≡ 0
     go true d f = eqb-true n 0 d
     go false d f = absurd (h f)
 
-not-both : (n : ℕ) → n ≡ 37 → n ≡ 0 → ⊥
+not-both : (n : ℕ) → n ≡ notInProfile → n ≡ 0 → ⊥
 not-both n e f = omega (arith, e, f)
 
 -- GROUP 0'S HEAD
 pub first-exactly : (xs : List ℕ) → Octets xs
-    → (admitted true (readGroup0 xs .geometry) (readGroup0 xs .number) ≡ 37) ↔ ((readGroup0 xs .number ≡ 0) × (ProfileFirst xs → ⊥))
+    → (admitted true (readGroup0 xs .geometry) (readGroup0 xs .number) ≡ notInProfile) ↔ ((readGroup0 xs .number ≡ 0) × (ProfileFirst xs → ⊥))
 first-exactly xs o = (
   (λ e. (
     only-zero (readGroup0 xs .geometry) (readGroup0 xs .number) (λ q. subst (λ (k : ℕ). T (oneOf firstNumbers k)) q (first-numbers xs)) e,
@@ -45,7 +46,7 @@ first-exactly xs o = (
 
 -- A GROUP'S HEAD
 pub group-exactly : (g : Geometry) (u : List ℕ) (k : ℕ) (xs : List ℕ) → Handed g u
-    → (admitted true g (readGroup g u k xs .number) ≡ 37) ↔ (HeadLeftBy g u k xs × (ProfileLeaves g u k xs → ⊥))
+    → (admitted true g (readGroup g u k xs .number) ≡ notInProfile) ↔ (HeadLeftBy g u k xs × (ProfileLeaves g u k xs → ⊥))
 group-exactly g u k xs h = (
   (λ e. (
     group-sound g u k xs h (only-zero g (readGroup g u k xs .number) (λ q. subst (λ (j : ℕ). T (oneOf groupNumbers j)) q (group-numbers g u k xs)) e),
@@ -55,7 +56,7 @@ group-exactly g u k xs h = (
 )
 
 -- THE LOG BLOCK
-pub log-exactly : (g : Geometry) (u xs : List ℕ) → Handed g u → (admitted true g (readLog g u xs) ≡ 37) ↔ (LeftLog g u xs × (ProfileLeavesLog g u xs → ⊥))
+pub log-exactly : (g : Geometry) (u xs : List ℕ) → Handed g u → (admitted true g (readLog g u xs) ≡ notInProfile) ↔ (LeftLog g u xs × (ProfileLeavesLog g u xs → ⊥))
 log-exactly g u xs h = (
   (λ e. (
     exact-log g u xs h .0 (only-zero g (readLog g u xs) (λ q. subst (λ (j : ℕ). T (oneOf logNumbers j)) q (log-numbers g u xs)) e),

@@ -5,6 +5,7 @@ use mathlib.Core.Bool.{true}
 use mathlib.Core.List.{List, _∷_}
 use Prim.Native.Nat.{ℕ}
 use lib.ListN.{replicate}
+use Rattle.refusals.specs.Numbers.{notInProfile}
 use Rattle.geometry.specs.declared.Geometry.{Geometry}
 use Rattle.profile.specs.Rules.{inProfile, labelOn}
 use Rattle.run.specs.Runs.{runOf}
@@ -51,9 +52,9 @@ pub record Admitted : Type 0 where
   pub field : runOf named .geometry .label ≡ 65 ∷ 66 ∷ replicate 10 0
   pub admits : (old : Device) → let xs = headOn (runOf named .geometry) (formatted named old) 0 in admitted true (readGroup0 xs .geometry) (readGroup0 xs .number) ≡ 0
   -- the disk without a label
-  pub refuses : let xs = headLeft (runOf disk .geometry) (runOf disk .uuid) 0 in admitted true (readGroup0 xs .geometry) (readGroup0 xs .number) ≡ 37
+  pub refuses : let xs = headLeft (runOf disk .geometry) (runOf disk .uuid) 0 in admitted true (readGroup0 xs .geometry) (readGroup0 xs .number) ≡ notInProfile
 
-disk-37 : let xs = headLeft (runOf disk .geometry) (runOf disk .uuid) 0 in admitted true (readGroup0 xs .geometry) (readGroup0 xs .number) ≡ 37
+disk-37 : let xs = headLeft (runOf disk .geometry) (runOf disk .uuid) 0 in admitted true (readGroup0 xs .geometry) (readGroup0 xs .number) ≡ notInProfile
 disk-37 =
     let xs = headLeft (runOf disk .geometry) (runOf disk .uuid) 0 in
     let e = complete-first (runOf disk .geometry) (runOf disk .uuid) (source-of disk disk-accepted) in

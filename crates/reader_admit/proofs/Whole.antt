@@ -6,6 +6,7 @@ use mathlib.Core.Bool.{Bool, true, false}
 use mathlib.Core.List.{List}
 use mathlib.Core.Logic.{_↔_}
 use Prim.Native.Nat.{ℕ, _+_, _<_, _≤_}
+use Rattle.refusals.specs.Numbers.{notInProfile}
 use Rattle.geometry.specs.declared.Geometry.{Geometry}
 use Rattle.profile.specs.Rules.{inProfile, labelOn}
 use Rattle.request.specs.declared.Request.{Request}
@@ -113,7 +114,7 @@ module _ (d : Device) (n : ℕ) where
   admit-disk b h = (disk-left b, left-within b h)
 
   -- 37 WHERE A RUN LEAVES IT, AND NONE UNDER THE PROFILE DOES
-  pub disk-37 : ByteDevice d → turnsNeeded d ≤ n → LeftByRun d → (ProfileDisk d → ⊥) → admitted true (passVerdict (passedTurns d n) .geometry) (passVerdict (passedTurns d n) .number) ≡ 37
+  pub disk-37 : ByteDevice d → turnsNeeded d ≤ n → LeftByRun d → (ProfileDisk d → ⊥) → admitted true (passVerdict (passedTurns d n) .geometry) (passVerdict (passedTurns d n) .number) ≡ notInProfile
   disk-37 b h l q =
       let z = left-accepted d b n h l in
       outside-37 geometry number z (go (inProfile geometry (labelOn geometry)) refl z)

@@ -7,6 +7,7 @@ use Prim.Native.Nat.{ℕ, _+_, _*_, _<_}
 use native.Mathlib.Omega.{arith}
 use lib.ListN.{length, take}
 use lib.Seq.{take-take}
+use Rattle.refusals.specs.Numbers.{notLeft}
 use Rattle.geometry_layout.specs.Places.{diskBlocksBefore, byteOf}
 use Rattle.request.specs.declared.Request.{Request}
 use Rattle.run.specs.Runs.{runOf}
@@ -40,7 +41,7 @@ module _ (r : Request) (a : AcceptedRun r) where
       ap (λ (off : ℕ). take (g .blocksize) (read d off (headLength g))) z ∙ sym (read-first d 0 (g .blocksize) (headLength g) (head-block g))
 
   -- where group 0's first block is zeros or the unfinished one, its head is refused
-  pub early-refused : (d : Device) → Early (runOf r) d → readGroup0 (headOn (runOf r .geometry) d 0) .number ≡ 30
+  pub early-refused : (d : Device) → Early (runOf r) d → readGroup0 (headOn (runOf r .geometry) d 0) .number ≡ notLeft
   unfolding headOn
   early-refused d (inl e) =
       let g = runOf r .geometry in
@@ -72,5 +73,5 @@ module _ (r : Request) (a : AcceptedRun r) (old : Device) where
 
   -- after every cut of the list up to its first flush, group 0's head is refused
   pub cut-refused : (cut rest : List Record) → cut ++ rest ≡ unfinished (runOf r) (r .device) ++ (FL ∷ []) → 0 < length cut
-      → readGroup0 (headOn (runOf r .geometry) (applied cut old) 0) .number ≡ 30
+      → readGroup0 (headOn (runOf r .geometry) (applied cut old) 0) .number ≡ notLeft
   cut-refused cut rest e h = early-refused r a (applied cut old) (early (runOf r) (r .device) (sound r a) cut rest e h old)

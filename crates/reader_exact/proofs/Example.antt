@@ -8,6 +8,7 @@ use native.Mathlib.Nat.{le-refl}
 use native.Mathlib.Omega.{arith}
 use lib.Dec.{lit<}
 use lib.ListN.{length, replicate}
+use Rattle.refusals.specs.Numbers.{freeListShort, noAnswer, noPlace, notLeft, wrongLength}
 use Rattle.arith.specs.Choice.{when, bit}
 use Rattle.arith.specs.Numbers.{ceilDiv}
 use Rattle.arith.specs.Powers.{powerIn, powerLog, leastFrom, log2Up}
@@ -67,7 +68,7 @@ record Computed : Type 0 where
   pub named-number : runNumber named ≡ 0
   pub named-field : stepOf named .geometry .label ≡ 65 ∷ 66 ∷ replicate 10 0
   pub tight-answer : isAnswer tight ≡ true
-  pub tight-plans : plansNumber tight ≡ 25
+  pub tight-plans : plansNumber tight ≡ freeListShort
   pub zero-answer : isAnswer zeroGeometry ≡ false
 
 computed : Computed
@@ -114,17 +115,17 @@ u = runOf disk .uuid
 -- ONE REFUSED FOR EACH NUMBER
 pub record Refusals : Type 0 where
   -- no bytes
-  pub short : readGroup0 [] .number ≡ 27
+  pub short : readGroup0 [] .number ≡ wrongLength
   -- the disk before it was finished
-  pub unfinished : readGroup0 (headWritten g u 0) .number ≡ 30
+  pub unfinished : readGroup0 (headWritten g u 0) .number ≡ notLeft
   -- a group behind the last
-  pub past : readGroup g u (g .agcount) [] .number ≡ 29
+  pub past : readGroup g u (g .agcount) [] .number ≡ noPlace
   -- group 0's with no byte
-  pub cut : readGroup g u 0 [] .number ≡ 27
+  pub cut : readGroup g u 0 [] .number ≡ wrongLength
   -- the geometry of zeros
-  pub stranger : readGroup zeroGeometry u 0 [] .number ≡ 31
+  pub stranger : readGroup zeroGeometry u 0 [] .number ≡ noAnswer
   -- any head, where only planning refuses
-  pub unplanned : (k : ℕ) (xs : List ℕ) → k < tight .agcount → length xs ≡ headLength tight → readGroup tight u k xs .number ≡ 30
+  pub unplanned : (k : ℕ) (xs : List ℕ) → k < tight .agcount → length xs ≡ headLength tight → readGroup tight u k xs .number ≡ notLeft
 
 pub refusals-given : Refusals
 refusals-given =

@@ -9,6 +9,7 @@ use native.Mathlib.Omega.{arith}
 use borrow.Author.Tests.{eqb-true, eqb-false, eq-eqb, ne-eqb, le-ltb}
 use lib.Dec.{eqb}
 use lib.ListN.{length}
+use Rattle.refusals.specs.Numbers.{notLeft, wrongLength}
 use Rattle.arith.specs.Choice.{when}
 use Rattle.refusals.specs.Table.{first}
 use Rattle.seqs.specs.Lists.{choose}
@@ -49,22 +50,22 @@ module _ (roomy : Bool) (xs : List ℕ) (l : 512 ≤ length xs) where
   abbrev g : Geometry
   g = namedBy roomy xs .geometry
 
-  unnamed-is : (namedBy roomy xs .number ≡ 0 → ⊥) → readSized roomy xs .number ≡ 30
+  unnamed-is : (namedBy roomy xs .number ≡ 0 → ⊥) → readSized roomy xs .number ≡ notLeft
   unfolding firstTests when
   unnamed-is n = number-as roomy xs ∙ rw (le-ltb (length xs) 512 l, ne-eqb (namedBy roomy xs .number) 0 n)
 
-  length-is : namedBy roomy xs .number ≡ 0 → (length xs ≡ headLength g → ⊥) → readSized roomy xs .number ≡ 27
+  length-is : namedBy roomy xs .number ≡ 0 → (length xs ≡ headLength g → ⊥) → readSized roomy xs .number ≡ wrongLength
   unfolding firstTests when
   length-is z n = number-as roomy xs ∙ rw (le-ltb (length xs) 512 l, eq-eqb (namedBy roomy xs .number) 0 z, ne-eqb (length xs) (headLength g) n)
 
   last-is : namedBy roomy xs .number ≡ 0 → length xs ≡ headLength g → (t s : Bool) → eqb (plansNumber g) 0 ≡ t → eqList eqb xs (headLeft g (uuidAt xs) 0) ≡ s
-      → (first (firstTests xs (namedBy roomy xs) (uuidAt xs)) 0 ≡ 0 → ⊥) → first (firstTests xs (namedBy roomy xs) (uuidAt xs)) 0 ≡ 30
+      → (first (firstTests xs (namedBy roomy xs) (uuidAt xs)) 0 ≡ 0 → ⊥) → first (firstTests xs (namedBy roomy xs) (uuidAt xs)) 0 ≡ notLeft
   unfolding firstTests when
   last-is z h false s e f n = rw (le-ltb (length xs) 512 l, eq-eqb (namedBy roomy xs .number) 0 z, eq-eqb (length xs) (headLength g) h, e)
   last-is z h true false e f n = rw (le-ltb (length xs) 512 l, eq-eqb (namedBy roomy xs .number) 0 z, eq-eqb (length xs) (headLength g) h, e, f)
   last-is z h true true e f n = absurd (n (rw (le-ltb (length xs) 512 l, eq-eqb (namedBy roomy xs .number) 0 z, eq-eqb (length xs) (headLength g) h, e, f)))
 
-  left-is : namedBy roomy xs .number ≡ 0 → length xs ≡ headLength g → (readSized roomy xs .number ≡ 0 → ⊥) → readSized roomy xs .number ≡ 30
+  left-is : namedBy roomy xs .number ≡ 0 → length xs ≡ headLength g → (readSized roomy xs .number ≡ 0 → ⊥) → readSized roomy xs .number ≡ notLeft
   left-is z h n =
       number-as roomy xs
       ∙ last-is z h (eqb (plansNumber g) 0) (eqList eqb xs (headLeft g (uuidAt xs) 0)) refl refl (λ e. n (number-as roomy xs ∙ e))
@@ -73,7 +74,7 @@ module _ (roomy : Bool) (xs : List ℕ) (l : 512 ≤ length xs) where
 
 module _ (xs : List ℕ) (l : 512 ≤ length xs) (z : namedBy false xs .number ≡ 0) where
   module _ (n : length xs ≡ headLength (namedBy false xs .geometry) → ⊥) where
-    no-less : (t : Bool) → eqb (namedBy true xs .number) 0 ≡ t → 27 ≤ readSized true xs .number
+    no-less : (t : Bool) → eqb (namedBy true xs .number) 0 ≡ t → wrongLength ≤ readSized true xs .number
     no-less true e =
         let y = eqb-true (namedBy true xs .number) 0 e in
         let r = length-is true xs l y (λ h. n (h ∙ one-length xs true false y z)) in
@@ -81,7 +82,7 @@ module _ (xs : List ℕ) (l : 512 ≤ length xs) (z : namedBy false xs .number �
     no-less false e = let r = unnamed-is true xs l (eqb-false (namedBy true xs .number) 0 e) in omega arith
 
     -- another length than the head's
-    pub other-length : readGroup0 xs .number ≡ 27
+    pub other-length : readGroup0 xs .number ≡ wrongLength
     unfolding readGroup0
     other-length =
         let m = no-less (eqb (namedBy true xs .number) 0) refl in
@@ -92,12 +93,12 @@ module _ (xs : List ℕ) (l : 512 ≤ length xs) (z : namedBy false xs .number �
     not-as : (roomy : Bool) → readSized roomy xs .number ≡ 0 → ⊥
     not-as roomy e = n (record { geometry = namedBy roomy xs .geometry; uuid = uuidAt xs; left = sound roomy xs o e })
 
-    each-is : (roomy : Bool) (t : Bool) → eqb (namedBy roomy xs .number) 0 ≡ t → readSized roomy xs .number ≡ 30
+    each-is : (roomy : Bool) (t : Bool) → eqb (namedBy roomy xs .number) 0 ≡ t → readSized roomy xs .number ≡ notLeft
     each-is roomy true e =
         let y = eqb-true (namedBy roomy xs .number) 0 e in
         left-is roomy xs l y (h ∙ one-length xs false roomy z y) (not-as roomy)
     each-is roomy false e = unnamed-is roomy xs l (eqb-false (namedBy roomy xs .number) 0 e)
 
     -- the head's length, and neither sizing leaves the bytes
-    pub neither-left : readGroup0 xs .number ≡ 30
-    neither-left = one-of xs (λ (f : Found). f .number ≡ 30) (λ roomy. each-is roomy (eqb (namedBy roomy xs .number) 0) refl)
+    pub neither-left : readGroup0 xs .number ≡ notLeft
+    neither-left = one-of xs (λ (f : Found). f .number ≡ notLeft) (λ roomy. each-is roomy (eqb (namedBy roomy xs .number) 0) refl)

@@ -8,6 +8,7 @@ use native.Mathlib.Omega.{arith}
 use borrow.Author.Tests.{eqb-true, eq-eqb, ne-eqb, lt-ltb, le-ltb, le-leb, lt-leb}
 use lib.Dec.{eqb}
 use lib.ListN.{length, take}
+use Rattle.refusals.specs.Numbers.{noAnswer, noPlace, notLeft, wrongLength}
 use Rattle.arith.specs.Choice.{when, bit}
 use Rattle.endian.specs.Bytes.{beAt}
 use Rattle.refusals.specs.Table.{first}
@@ -38,11 +39,11 @@ use Rattle.reader_exact.proofs.Others.{number-read}
 
 -- ---- group 0
 
-short-as : (roomy : Bool) (xs : List ℕ) → length xs < 512 → first (firstTests xs (namedBy roomy xs) (uuidAt xs)) 0 ≡ 27
+short-as : (roomy : Bool) (xs : List ℕ) → length xs < 512 → first (firstTests xs (namedBy roomy xs) (uuidAt xs)) 0 ≡ wrongLength
 unfolding firstTests when
 short-as roomy xs h = rw (lt-ltb (length xs) 512 h)
 
-unnamed-as : (roomy : Bool) (xs : List ℕ) → 512 ≤ length xs → (namedBy roomy xs .number ≡ 0 → ⊥) → first (firstTests xs (namedBy roomy xs) (uuidAt xs)) 0 ≡ 30
+unnamed-as : (roomy : Bool) (xs : List ℕ) → 512 ≤ length xs → (namedBy roomy xs .number ≡ 0 → ⊥) → first (firstTests xs (namedBy roomy xs) (uuidAt xs)) 0 ≡ notLeft
 unfolding firstTests when
 unnamed-as roomy xs h n = rw (le-ltb (length xs) 512 h, ne-eqb (namedBy roomy xs .number) 0 n)
 
@@ -52,12 +53,12 @@ either-unnamed xs n true z = n (old-accepts (namesAt xs) z .0)
 either-unnamed xs n false z = n z
 
 -- under 512 bytes
-pub short-refused : (xs : List ℕ) → length xs < 512 → readGroup0 xs .number ≡ 27
-short-refused xs h = one-of xs (λ (f : Found). f .number ≡ 27) (λ roomy. number-as roomy xs ∙ short-as roomy xs h)
+pub short-refused : (xs : List ℕ) → length xs < 512 → readGroup0 xs .number ≡ wrongLength
+short-refused xs h = one-of xs (λ (f : Found). f .number ≡ wrongLength) (λ roomy. number-as roomy xs ∙ short-as roomy xs h)
 
 -- a superblock that names no accepted geometry: what plain sizing refuses, roomy sizing refuses too
-pub unnamed-refused : (xs : List ℕ) → 512 ≤ length xs → (namedBy false xs .number ≡ 0 → ⊥) → readGroup0 xs .number ≡ 30
-unnamed-refused xs h n = one-of xs (λ (f : Found). f .number ≡ 30) (λ roomy. number-as roomy xs ∙ unnamed-as roomy xs h (either-unnamed xs n roomy))
+pub unnamed-refused : (xs : List ℕ) → 512 ≤ length xs → (namedBy false xs .number ≡ 0 → ⊥) → readGroup0 xs .number ≡ notLeft
+unnamed-refused xs h n = one-of xs (λ (f : Found). f .number ≡ notLeft) (λ roomy. number-as roomy xs ∙ unnamed-as roomy xs h (either-unnamed xs n roomy))
 
 differs : (xs ys : List ℕ) (t : Bool) → eqList eqb xs ys ≡ t → (xs ≡ ys → ⊥) → eqList eqb xs ys ≡ false
 differs xs ys true e n = absurd (n (same-bytes xs ys e))
@@ -72,7 +73,7 @@ module _ (roomy : Bool) (xs : List ℕ) (l : 512 ≤ length xs) (o : Other roomy
   abbrev g : Geometry
   g = namedBy roomy xs .geometry
 
-  last-refuses : (t : Bool) → eqb (namedBy roomy xs .number) 0 ≡ t → (s : Bool) → eqb (plansNumber g) 0 ≡ s → first (firstTests xs (namedBy roomy xs) (uuidAt xs)) 0 ≡ 30
+  last-refuses : (t : Bool) → eqb (namedBy roomy xs .number) 0 ≡ t → (s : Bool) → eqb (plansNumber g) 0 ≡ s → first (firstTests xs (namedBy roomy xs) (uuidAt xs)) 0 ≡ notLeft
   unfolding firstTests when
   last-refuses false e s f = rw (le-ltb (length xs) 512 l, e)
   last-refuses true e false f =
@@ -89,9 +90,9 @@ module _ (roomy : Bool) (xs : List ℕ) (l : 512 ≤ length xs) (o : Other roomy
       )
 
 -- 30 where neither sizing leaves the bytes
-pub other-refused : (xs : List ℕ) → 512 ≤ length xs → ((roomy : Bool) → Other roomy xs) → readGroup0 xs .number ≡ 30
+pub other-refused : (xs : List ℕ) → 512 ≤ length xs → ((roomy : Bool) → Other roomy xs) → readGroup0 xs .number ≡ notLeft
 other-refused xs l o =
-    one-of xs (λ (f : Found). f .number ≡ 30)
+    one-of xs (λ (f : Found). f .number ≡ notLeft)
     (λ roomy. number-as roomy xs ∙ last-refuses roomy xs l (o roomy) (eqb (namedBy roomy xs .number) 0) refl (eqb (plansNumber (namedBy roomy xs .geometry)) 0) refl)
 
 -- AN UNFINISHED GROUP 0 IS REFUSED: bytes whose first sector is the unfinished superblock
@@ -119,7 +120,7 @@ module _ (g : Geometry) (u : List ℕ) (s : Source g u) (xs : List ℕ) (b : tak
       let d = e .1 .1 ∙ ap (λ (n : Named). n .blocksize) unfinished-names in
       λ i. preallocOf (f i) (c i) (d i) * d i
 
-  pub begun-refused : length xs ≡ headLength g → readGroup0 xs .number ≡ 30
+  pub begun-refused : length xs ≡ headLength g → readGroup0 xs .number ≡ notLeft
   begun-refused n =
       let l : 512 ≤ length xs = omega (arith, n, head-least g (source-bounds g u s)) in
       other-refused xs l
@@ -132,7 +133,7 @@ module _ (g : Geometry) (u : List ℕ) (s : Source g u) (xs : List ℕ) (b : tak
       ))
 
 -- the whole head before the finished superblock is written
-pub unfinished-refused : (g : Geometry) (u : List ℕ) → Source g u → readGroup0 (headWritten g u 0) .number ≡ 30
+pub unfinished-refused : (g : Geometry) (u : List ℕ) → Source g u → readGroup0 (headWritten g u 0) .number ≡ notLeft
 unfinished-refused g u s = begun-refused g u s (headWritten g u 0) refl (written-length g u s 0 (some-group g u s))
 
 -- ---- the other heads and the log
@@ -146,32 +147,32 @@ unlike xs ys n = by-test (eqList eqb xs ys) refl
 
 module _ (g : Geometry) (u xs : List ℕ) where
   -- a geometry that is no answer
-  pub stranger-refused : (k : ℕ) → isAnswer g ≡ false → readGroup g u k xs .number ≡ 31
+  pub stranger-refused : (k : ℕ) → isAnswer g ≡ false → readGroup g u k xs .number ≡ noAnswer
   unfolding groupNumber placeTests when
   stranger-refused k a = number-read g u k xs ∙ rw a
 
   -- a group that is not there
-  pub past-refused : (k : ℕ) → isAnswer g ≡ true → g .agcount ≤ k → readGroup g u k xs .number ≡ 29
+  pub past-refused : (k : ℕ) → isAnswer g ≡ true → g .agcount ≤ k → readGroup g u k xs .number ≡ noPlace
   unfolding groupNumber placeTests when
   past-refused k a h = number-read g u k xs ∙ rw (a, le-leb (g .agcount) k h)
 
   -- a head that is not of the geometry's length
-  pub length-refused : (k : ℕ) → isAnswer g ≡ true → k < g .agcount → (length xs ≡ headLength g → ⊥) → readGroup g u k xs .number ≡ 27
+  pub length-refused : (k : ℕ) → isAnswer g ≡ true → k < g .agcount → (length xs ≡ headLength g → ⊥) → readGroup g u k xs .number ≡ wrongLength
   unfolding groupNumber placeTests when
   length-refused k a h n = number-read g u k xs ∙ rw (a, lt-leb (g .agcount) k h, ne-eqb (length xs) (headLength g) n)
 
   -- whichever the group, and whichever the bytes, where planning refuses some group of the geometry
-  pub unplanned-refused : (k : ℕ) → isAnswer g ≡ true → k < g .agcount → length xs ≡ headLength g → (plansNumber g ≡ 0 → ⊥) → readGroup g u k xs .number ≡ 30
+  pub unplanned-refused : (k : ℕ) → isAnswer g ≡ true → k < g .agcount → length xs ≡ headLength g → (plansNumber g ≡ 0 → ⊥) → readGroup g u k xs .number ≡ notLeft
   unfolding groupNumber placeTests when
   unplanned-refused k a h l p =
       number-read g u k xs ∙ rw (a, lt-leb (g .agcount) k h, eq-eqb (length xs) (headLength g) l, ne-eqb (plansNumber g) 0 p)
 
   -- bytes of the right length that no run leaves there
-  pub unlike-refused : (k : ℕ) → isAnswer g ≡ true → k < g .agcount → length xs ≡ headLength g → plansNumber g ≡ 0 → (xs ≡ headLeft g u k → ⊥) → readGroup g u k xs .number ≡ 30
+  pub unlike-refused : (k : ℕ) → isAnswer g ≡ true → k < g .agcount → length xs ≡ headLength g → plansNumber g ≡ 0 → (xs ≡ headLeft g u k → ⊥) → readGroup g u k xs .number ≡ notLeft
   unfolding groupNumber placeTests when
   unlike-refused k a h l p n =
       number-read g u k xs ∙ rw (a, lt-leb (g .agcount) k h, eq-eqb (length xs) (headLength g) l, eq-eqb (plansNumber g) 0 p, unlike xs (headLeft g u k) n)
 
-  pub unplanned-log : isAnswer g ≡ true → length xs ≡ g .blocksize → (plansNumber g ≡ 0 → ⊥) → readLog g u xs ≡ 30
+  pub unplanned-log : isAnswer g ≡ true → length xs ≡ g .blocksize → (plansNumber g ≡ 0 → ⊥) → readLog g u xs ≡ notLeft
   unfolding readLog placeTests when
   unplanned-log a l p = rw (a, eq-eqb (length xs) (g .blocksize) l, ne-eqb (plansNumber g) 0 p)

@@ -9,6 +9,7 @@ use native.Mathlib.Omega.{arith}
 use borrow.Author.Tests.{eq-eqb}
 use lib.Dec.{lit<}
 use lib.ListN.{length}
+use Rattle.refusals.specs.Numbers.{freeListShort, notLeft}
 use Rattle.endian.specs.Bytes.{beAt}
 use Rattle.params.specs.declared.Features.{Features}
 use Rattle.params.specs.declared.OptU64.the-variants.{Given}
@@ -75,7 +76,7 @@ corner roomy = asked withoutRmapbt (39_980_459 * 4096) (40_000_000 * 4096) roomy
 record Computed : Type 0 where
   pub ample-number : runNumber ample ≡ 0
   pub ample-plain : isAnswer (plain (stepOf ample .geometry)) ≡ true
-  pub old-number : runNumber (crowded false) ≡ 25
+  pub old-number : runNumber (crowded false) ≡ freeListShort
   pub crowded-number : runNumber (crowded true) ≡ 0
   pub crowded-plain : isAnswer (plain (stepOf (crowded true) .geometry)) ≡ false
   pub corner-numbers : (runNumber (corner false) ≡ 0) × (runNumber (corner true) ≡ 0)
@@ -106,7 +107,7 @@ typed : (f : Features) (agsize device : ℕ) (roomy : Bool) → agsize < 2 ^ 64 
 typed f agsize device roomy a d = plain-typed f (Given agsize) roomy device a d
 
 -- plain sizing refuses the second in planning
-pub crowded-refused : runNumber (crowded false) ≡ 25
+pub crowded-refused : runNumber (crowded false) ≡ freeListShort
 crowded-refused = computed .old-number
 
 pub ample-accepted : AcceptedRun ample
@@ -212,7 +213,7 @@ corner-length roomy =
     left-length g (runOf (corner roomy) .uuid) s 0 (some-group g (runOf (corner roomy) .uuid) s) ∙ corner-lengths roomy
 
 -- AND IS REFUSED WITH THE OTHER'S GEOMETRY
-pub corner-other : (roomy : Bool) → readGroup (runOf (corner (not roomy)) .geometry) (runOf (corner (not roomy)) .uuid) 0 (corner-head roomy) .number ≡ 30
+pub corner-other : (roomy : Bool) → readGroup (runOf (corner (not roomy)) .geometry) (runOf (corner (not roomy)) .uuid) 0 (corner-head roomy) .number ≡ notLeft
 corner-other roomy =
     let o = not roomy in
     let s = source-of (corner o) (corner-accepted o) in

@@ -5,6 +5,7 @@ use mathlib.Core.Bool.{Bool, true, false, not}
 use mathlib.Core.List.{List, [], _∷_, _++_}
 use Prim.Native.Nat.{ℕ, _<_}
 use lib.Dec.{eqb, leb}
+use Rattle.refusals.specs.Numbers.{noAnswer, noPlace}
 use Rattle.refusals.specs.Table.{_if_, first}
 use Rattle.seqs.specs.Lists.{choose}
 use Rattle.seqs.proofs.Laws.{choose-elim}
@@ -53,7 +54,7 @@ log-plain g u = refl
 module _ (g : Geometry) (a : isAnswer g ≡ true) (b : isAnswer (plain g) ≡ true) where
   refusal-plain : (k : ℕ) → groupRefusal (plain g) k ≡ groupRefusal g k
   unfolding groupRefusal
-  refusal-plain k = ap (λ (t : Bool). first (31 if not t ∷ 29 if leb (g .agcount) k ∷ []) 0) (b ∙ sym a)
+  refusal-plain k = ap (λ (t : Bool). first (noAnswer if not t ∷ noPlace if leb (g .agcount) k ∷ []) 0) (b ∙ sym a)
 
   pub planned-plain : (k : ℕ) → planned (plain g) k ≡ planned g k
   unfolding planned siteOf
@@ -61,7 +62,7 @@ module _ (g : Geometry) (a : isAnswer g ≡ true) (b : isAnswer (plain g) ≡ tr
 
   pub plans-plain : plansNumber (plain g) ≡ plansNumber g
   unfolding plansNumber
-  plans-plain = ap₂ (λ (t : Bool) (f : ℕ → Planned). choose t (firstTo (g .agcount) (λ k. f k .number)) 31) (b ∙ sym a) (λ i k. planned-plain k i)
+  plans-plain = ap₂ (λ (t : Bool) (f : ℕ → Planned). choose t (firstTo (g .agcount) (λ k. f k .number)) noAnswer) (b ∙ sym a) (λ i k. planned-plain k i)
 
   free-plain : freeCount (plain g) ≡ freeCount g
   unfolding freeCount

@@ -8,6 +8,7 @@ use native.Mathlib.Omega.{arith}
 use lib.Dec.{lit≤}
 use lib.ListN.{take, length-replicate, replicate-append-replicate}
 use lib.Seq.{take-at, drop-at}
+use Rattle.refusals.specs.Numbers.{blockNoPower}
 use Rattle.arith.specs.Choice.{when, bit}
 use Rattle.arith.specs.Numbers.{ceilDiv}
 use Rattle.arith.specs.Powers.{powerIn, powerLog, leastFrom, log2Up}
@@ -34,12 +35,12 @@ part-zeros off k n h =
     ∙ take-at (zeros k) (zeros m) k (length-replicate k 0)
 
 -- a block size of 0 is no power of two
-number-of-zeros : namedBy false (zeros 512) .number ≡ 2
+number-of-zeros : namedBy false (zeros 512) .number ≡ blockNoPower
 unfolding when bit ceilDiv powerIn powerLog leastFrom log2Up beAt defaultSector sizesOf sizesRefusals withGroups withSizes chosenOf refusals refusalOf compute.answer computeDef namedOptions namedOn namedFits namedAnswer hasBit featuresAt namesAt namedBy
 number-of-zeros = refl
 
 -- bytes that begin with n zeros, in which every named place lies
-pub zeros-named : (xs : List ℕ) (n : ℕ) → 220 ≤ n → take n xs ≡ zeros n → namedBy false xs .number ≡ 2
+pub zeros-named : (xs : List ℕ) (n : ℕ) → 220 ≤ n → take n xs ≡ zeros n → namedBy false xs .number ≡ blockNoPower
 zeros-named xs n h e =
     let p : (off k : ℕ) → off + k ≤ 220 → part off k xs ≡ zeros k = λ off k l. part-first n off k xs (zeros n) (omega arith) e ∙ part-zeros off k n (omega arith) in
     ap (λ (c : Computed). c .number)

@@ -6,6 +6,7 @@ use mathlib.Core.List.{List}
 use Prim.Native.Nat.{ℕ, _≤_, _<_}
 use lib.ListN.{length, replicate}
 use borrow.Author.Tests.{lt-ltb, le-ltb}
+use Rattle.refusals.specs.Numbers.{wrongLength}
 use Rattle.geometry.specs.declared.Computed.{Computed}
 use Rattle.geometry.specs.declared.Geometry.{Geometry}
 use Rattle.geometry.specs.Compute.{stepRefused, zeroGeometry}
@@ -14,11 +15,11 @@ use Rattle.reader_names.specs.Named.{namesAt, namedBy, uuidAt}
 use Rattle.reader_names.specs.Read.{namedRead, uuidRead}
 
 module _ (xs : List ℕ) where
-  pub short-name : (roomy : Bool) → length xs < 512 → namedRead roomy xs ≡ stepRefused 27
+  pub short-name : (roomy : Bool) → length xs < 512 → namedRead roomy xs ≡ stepRefused wrongLength
   unfolding namedRead
   short-name roomy h = rw (lt-ltb (length xs) 512 h) refl
 
-  pub short-read : (roomy : Bool) → length xs < 512 → (g : Geometry) → g ≡ zeroGeometry → _≡_ {A = Computed} (record { number = 27; geometry = g }) (namedRead roomy xs)
+  pub short-read : (roomy : Bool) → length xs < 512 → (g : Geometry) → g ≡ zeroGeometry → _≡_ {A = Computed} (record { number = wrongLength; geometry = g }) (namedRead roomy xs)
   short-read roomy h g e = rw e (sym (short-name roomy h))
 
   pub full-name : (roomy : Bool) → 512 ≤ length xs → namedRead roomy xs ≡ namedBy roomy xs

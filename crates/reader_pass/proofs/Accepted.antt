@@ -8,6 +8,7 @@ use native.Mathlib.Omega.{arith}
 use borrow.Author.Tests.{eqb-true, eqb-false}
 use lib.Dec.{eqb, ltb}
 use lib.ListN.{length, take}
+use Rattle.refusals.specs.Numbers.{wrongLength, notLeft}
 use Rattle.seqs.proofs.Laws.{choose-elim}
 use Rattle.geometry.specs.declared.Geometry.{Geometry}
 use Rattle.geometry.specs.declared.Computed.{Computed}
@@ -237,8 +238,8 @@ module _ (d : Device) where
   unnamed-ends : (n : ℕ) → (namedBy false (read d 0 512) .number ≡ 0 → ⊥) → Ends (passTurns d (suc n) passBegun) (AcceptedWhole d)
   unfolding passTurns
   unnamed-ends n o =
-      let s : passTurn d passBegun ≡ passEndedBy passBegun 30 = begin-turn ∙ sym (unnamed passBegun sector (namedBy false sector) (sym (full-name sector false (omega (arith, length-read d 0 512)))) o) in
-      let e : passTurns d n (passTurn d passBegun) ≡ passEndedBy passBegun 30 = ap (passTurns d n) s ∙ turns-ended d n (passEndedBy passBegun 30) refl in
+      let s : passTurn d passBegun ≡ passEndedBy passBegun notLeft = begin-turn ∙ sym (unnamed passBegun sector (namedBy false sector) (sym (full-name sector false (omega (arith, length-read d 0 512)))) o) in
+      let e : passTurns d n (passTurn d passBegun) ≡ passEndedBy passBegun notLeft = ap (passTurns d n) s ∙ turns-ended d n (passEndedBy passBegun notLeft) refl in
       rw e (record { ended = refl; from = λ x. absurd (omega (arith, x)); to = λ w. absurd (o (whole-named w)) })
 
   -- ---- more turns
@@ -284,7 +285,7 @@ is-ended Ended e = refl
 no-verdict : (p : Pass) (t : Bool) → isEnded (p .stage) ≡ t → passVerdict p .number ≡ 0 → p .stage ≡ Ended
 unfolding passVerdict
 no-verdict p true e z = is-ended (p .stage) e
-no-verdict p false e z = absurd (let w : 27 ≡ 0 = rw e at z in omega (arith, w))
+no-verdict p false e z = absurd (let w : wrongLength ≡ 0 = rw e at z in omega (arith, w))
 
 -- without a refusal it has ended
 pub ended-zero : (p : Pass) → passVerdict p .number ≡ 0 → (p .stage ≡ Ended) × (p .number ≡ 0)
@@ -316,7 +317,7 @@ module _ (d : Device) (n : ℕ) where
 
 pub verdict-geometry : (p : Pass) → passVerdict p .geometry ≡ p .geometry
 unfolding passVerdict
-verdict-geometry p = choose-elim (λ (v : Verdict). v .geometry ≡ p .geometry) (isEnded (p .stage)) (saying p (p .number)) (saying p 27) (λ t. refl) (λ t. refl)
+verdict-geometry p = choose-elim (λ (v : Verdict). v .geometry ≡ p .geometry) (isEnded (p .stage)) (saying p (p .number)) (saying p wrongLength) (λ t. refl) (λ t. refl)
 
 -- once all was fed, it is the one that group 0's head gave
 whole-geometry : (d : Device) → AcceptedWhole d → passedTurns d (turnsNeeded d) .geometry ≡ readGroup0 (headOn (sectorNamed d) d 0) .geometry

@@ -10,6 +10,7 @@ use native.Mathlib.Omega.{arith}
 use borrow.Author.Tests.{eqb-true, eqb-false, ltb-true, ltb-false, not-false}
 use lib.Dec.{eqb, ltb}
 use lib.ListN.{length, take, length-take}
+use Rattle.refusals.specs.Numbers.{wrongLength, notLeft}
 use Rattle.refusals.specs.Table.{first}
 use Rattle.refusals.proofs.Clear.{clear, passed}
 use Rattle.seqs.proofs.Laws.{choose-elim}
@@ -121,9 +122,9 @@ module _ (parts : ℕ → List ℕ) where
   unfolding fedNamed namedSo
   named-at p l =
       choose-elim (λ (q : Pass). Known 1 (q .stage) q) (eqb (namedRead false (parts 0) .number) 0)
-      (record { stage = First; number = 0; place = 0; geometry = namedRead false (parts 0) .geometry; uuid = p .uuid }) (passEndedBy p 30)
+      (record { stage = First; number = 0; place = 0; geometry = namedRead false (parts 0) .geometry; uuid = p .uuid }) (passEndedBy p notLeft)
       (λ t. (refl, record { long = l; number = eqb-true (namedRead false (parts 0) .number) 0 t; geometry = refl }))
-      (λ t. refused 1 30 p (λ z. omega (arith, z)))
+      (λ t. refused 1 notLeft p (λ z. omega (arith, z)))
 
   named-known : (n : ℕ) (p : Pass) → n ≡ 0 → length (parts n) ≡ 512 → Known (suc n) (fedNamed p (parts n) .stage) (fedNamed p (parts n))
   named-known n p e l =
@@ -222,10 +223,10 @@ module _ (parts : ℕ → List ℕ) where
 
   short-known : (n : ℕ) (s : Stage) (p : Pass) → Known n s p → p .stage ≡ s → Known (suc n) (fedShort s p .stage) (fedShort s p)
   unfolding fedShort
-  short-known n Naming p k e = refused (suc n) 27 p (λ z. omega (arith, z))
-  short-known n First p k e = refused (suc n) 27 p (λ z. omega (arith, z))
-  short-known n Heads p k e = refused (suc n) 27 p (λ z. omega (arith, z))
-  short-known n Log p k e = refused (suc n) 27 p (λ z. omega (arith, z))
+  short-known n Naming p k e = refused (suc n) wrongLength p (λ z. omega (arith, z))
+  short-known n First p k e = refused (suc n) wrongLength p (λ z. omega (arith, z))
+  short-known n Heads p k e = refused (suc n) wrongLength p (λ z. omega (arith, z))
+  short-known n Log p k e = refused (suc n) wrongLength p (λ z. omega (arith, z))
   short-known n Ended p k e = ended-known n p k e
 
   -- ---- after any number of feeds

@@ -6,6 +6,7 @@ use mathlib.Core.List.{List}
 use Prim.Native.Nat.{ℕ, _<_, _≤_}
 use borrow.Author.Tests.{eq-eqb, ne-eqb, lt-ltb, le-ltb}
 use lib.ListN.{length}
+use Rattle.refusals.specs.Numbers.{wrongLength, notLeft}
 use Rattle.geometry.specs.declared.Geometry.{Geometry}
 use Rattle.geometry.specs.declared.Computed.{Computed}
 use Rattle.reader_names.specs.Read.{namedRead}
@@ -34,7 +35,7 @@ module _ (p : Pass) (n : ℕ) (g : Geometry) (u : List ℕ) (k : ℕ) where
   went s z e = rw (eq-eqb n 0 z, e) refl
 
 module _ (p : Pass) (xs : List ℕ) where
-  pub unnamed : (c : Computed) → c ≡ namedRead false xs → (c .number ≡ 0 → ⊥) → passEndedBy p 30 ≡ fedNamed p xs
+  pub unnamed : (c : Computed) → c ≡ namedRead false xs → (c .number ≡ 0 → ⊥) → passEndedBy p notLeft ≡ fedNamed p xs
   unfolding fedNamed namedSo
   unnamed c e h = rw (← e, ne-eqb (c .number) 0 h) refl
 
@@ -77,7 +78,7 @@ module _ (p : Pass) where
   unfolding passVerdict
   over e = rw (← e) refl
 
-  pub missing : false ≡ isEnded (p .stage) → saying p 27 ≡ passVerdict p
+  pub missing : false ≡ isEnded (p .stage) → saying p wrongLength ≡ passVerdict p
   unfolding passVerdict
   missing e = rw (← e) refl
 
@@ -85,6 +86,6 @@ pub nothing-more : (s : Stage) (p : Pass) → true ≡ isEnded s → p ≡ fedSh
 unfolding fedShort
 nothing-more s p e = rw (← e) refl
 
-pub cut-short : (s : Stage) (p : Pass) → false ≡ isEnded s → passEndedBy p 27 ≡ fedShort s p
+pub cut-short : (s : Stage) (p : Pass) → false ≡ isEnded s → passEndedBy p wrongLength ≡ fedShort s p
 unfolding fedShort
 cut-short s p e = rw (← e) refl

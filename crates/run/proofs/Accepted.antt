@@ -6,6 +6,7 @@ use mathlib.Core.List.{List, []}
 use Prim.Native.Nat.{ℕ}
 use borrow.Author.Tests.{eqb-true, eqb-false, eq-eqb}
 use lib.Dec.{eqb}
+use Rattle.refusals.specs.Numbers.{malformed}
 use Rattle.seqs.specs.Lists.{choose}
 use Rattle.request_input.specs.Records.{recordAt, splitRecords, records, startsWithDevice, wellFormed}
 use Rattle.request.specs.declared.Request.{Request}
@@ -52,11 +53,11 @@ step-plans r e =
     let t = timeRefusal (stepOf r .geometry) (timeOf (r .params)) in
     none p t (none (stepOf r .number) (orNext p t) (none (r .number) (orNext (stepOf r .number) (orNext p t)) e .1) .1) .0
 
-first-refusal : (r : Request) → r .number ≡ 28 → runNumber r ≡ 28
+first-refusal : (r : Request) → r .number ≡ malformed → runNumber r ≡ malformed
 unfolding runNumber bareNumber
 first-refusal r e = rw e
 
-first-number : (r : Request) → r .number ≡ 28 → runOf r .number ≡ 28
+first-number : (r : Request) → r .number ≡ malformed → runOf r .number ≡ malformed
 unfolding runOf
 first-number r e = rw (first-refusal r e)
 
@@ -68,10 +69,10 @@ plans-zero xs e =
     ap plansNumber (its-geometry (parseDef xs) z) ∙ step-plans (parseDef xs) (bare-zero (parseDef xs) z)
 
 -- AN EMPTY INPUT IS NO RUN: 28
-pub empty-malformed : parseDef [] .number ≡ 28
+pub empty-malformed : parseDef [] .number ≡ malformed
 unfolding recordAt splitRecords records startsWithDevice wellFormed parseDef
 empty-malformed = refl
 
-pub empty-refused : accepted [] .number ≡ 28
+pub empty-refused : accepted [] .number ≡ malformed
 unfolding accepted
 empty-refused = first-number (parseDef []) empty-malformed

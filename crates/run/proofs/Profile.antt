@@ -8,6 +8,7 @@ use Prim.Native.Nat.{ℕ}
 use native.Mathlib.Omega.{arith}
 use borrow.Author.Tests.{eqb-true, eqb-false, eq-eqb, ne-eqb}
 use lib.Dec.{eqb}
+use Rattle.refusals.specs.Numbers.{notInProfile}
 use Rattle.seqs.specs.Lists.{choose}
 use Rattle.request.specs.declared.Request.{Request}
 use Rattle.request.specs.Parse.{under}
@@ -60,5 +61,5 @@ module _ (r : Request) where
   pub refused-before : (runNumber (under false r) ≡ 0 → ⊥) → runNumber (under true r) ≡ runNumber (under false r)
   refused-before n = number-under true ∙ rw (ne-eqb (bareNumber r) 0 (λ z. n (without ∙ z))) (sym without)
 
-  pub outside-refused : runNumber (under false r) ≡ 0 → inProfile (stepOf r .geometry) (r .params .label) ≡ false → runNumber (under true r) ≡ 37
+  pub outside-refused : runNumber (under false r) ≡ 0 → inProfile (stepOf r .geometry) (r .params .label) ≡ false → runNumber (under true r) ≡ notInProfile
   outside-refused z e = number-under true ∙ rw (eq-eqb (bareNumber r) 0 (sym without ∙ z)) (refused-number (stepOf r .geometry) (r .params .label) e)

@@ -6,6 +6,7 @@ use Prim.Native.Nat.{ℕ, _+_, _^_, _≤_, _<_}
 use native.Mathlib.Omega.{arith}
 use borrow.Author.Tests.{eqb-true, eq-eqb, le-leb, lt-leb}
 use lib.Dec.{leb, eqb}
+use Rattle.refusals.specs.Numbers.{noPlace}
 use Rattle.arith.specs.Choice.{when}
 use lib.ListN.{length}
 use Rattle.seqs.specs.Lists.{choose}
@@ -63,10 +64,10 @@ there-at n m false e z = z
 
 pub plans-there : (g : Geometry) (k : ℕ) → stateNumber g k ≡ 0 → plansNumber g ≡ 0
 unfolding stateNumber
-plans-there g k e = there-at (plansNumber g) (when (leb (g .agcount) k) 29 0) (eqb (plansNumber g) 0) refl e
+plans-there g k e = there-at (plansNumber g) (when (leb (g .agcount) k) noPlace 0) (eqb (plansNumber g) 0) refl e
 
 -- its number, of accepted plans: 29 for a group that is not there
-pub no-group : (g : Geometry) (k n : ℕ) → n ≡ plansNumber g → n ≡ 0 → g .agcount ≤ k → stateNumber g k ≡ 29
+pub no-group : (g : Geometry) (k n : ℕ) → n ≡ plansNumber g → n ≡ 0 → g .agcount ≤ k → stateNumber g k ≡ noPlace
 unfolding stateNumber when
 no-group g k n p e h = rw (← p, eq-eqb n 0 e, le-leb (g .agcount) k h)
 

@@ -8,13 +8,14 @@ use native.Mathlib.Omega.{arith}
 use lib.Dec.{leb}
 use lib.ListN.{length, length-append}
 use borrow.Author.Tests.{leb-true}
+use Rattle.refusals.specs.Numbers.{wrongLength}
 use Rattle.endian.specs.Answer.{valued}
 use Rattle.endian.specs.Bytes.{patch}
 use Rattle.endian.proofs.Laws.{patch-append}
 use Rattle.table_lines.specs.Lines.{PutLine}
 
 module _ (at n : ℕ) (bytes old : List ℕ) (len : n ≡ length bytes) where
-  pub refused-line : leb (at + n) (length old) ≡ false → {number end : ℕ} → number ≡ 27 → end ≡ 0 → PutLine at bytes old number end old
+  pub refused-line : leb (at + n) (length old) ≡ false → {number end : ℕ} → number ≡ wrongLength → end ≡ 0 → PutLine at bytes old number end old
   refused-line t a b =
       let u = rw len at t in
       record { number-is = rw u a; end-is = rw u b; bytes-are = rw u refl }

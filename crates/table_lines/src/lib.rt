@@ -6,6 +6,7 @@ ghost use mathlib.Core.Path.{_≡_};
 ghost use mathlib.Core.List.{[], _∷_, _++_};
 ghost use Prim.Native.Nat.{_+_, _≤_};
 ghost use lib.ListN.{length};
+ghost use Rattle.refusals.specs.Numbers.{wrongLength};
 ghost use Rattle.endian.specs.Bytes.{patch};
 ghost use Rattle.table_lines.specs.Decimal.{decimal};
 ghost use Rattle.table_lines.specs.Lines.{line, rowBytes, headerBytes, totalBytes, refusedBytes, answerBytes, runLine, PutLine};
@@ -69,7 +70,7 @@ fn store_line(numbers: &[u64], buf: &mut [u8], end: usize) -> usize
 }
 
 fn refused() -> Written
-    ensures { λ r. ⌜ (r .number ≡ 27) × (r .end ≡ 0) ⌝ }
+    ensures { λ r. ⌜ (r .number ≡ wrongLength) × (r .end ≡ 0) ⌝ }
 {
     Written {
         number: refusals::WRONG_LENGTH,
