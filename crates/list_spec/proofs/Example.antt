@@ -10,8 +10,7 @@ use Rattle.geometry_sizes.specs.Sizes.{defaultSector, sizesOf, sizesRefusals}
 use Rattle.geometry.specs.Groups.{askedBlocks, defaultSize, initialGroups, isShort, trim, optionsRefusals, groupsRefusals}
 use Rattle.geometry.specs.Log.{headerOf, preallocOf, logLimit, logBlocks, defaultImaxpct, lastRefusals}
 use Rattle.geometry.specs.declared.Geometry.{Geometry}
-use Rattle.geometry.specs.Compute.{withGroups, withSizes, chosenOf, refusals, refusalOf, labelOf, geometryOf, zeroGeometry, computeDef}
-use Rattle.geometry.specs.Compute as compute
+use Rattle.geometry.specs.Compute.{withGroups, withSizes, chosenOf, refusals, refusalOf, labelOf, geometryOf, zeroGeometry, computeDef, stepAnswer}
 use Rattle.geometry_layout.specs.Places.{chunkOf}
 use Rattle.run.specs.declared.Run.{Run}
 use Rattle.list_records.specs.Records.{zeroings, blockWrites, flushes}
@@ -22,7 +21,7 @@ abbrev gib : Geometry
 gib = computeDef noOptions 1073741824 512 512 .geometry
 
 pub example : (recordCount gib ≡ 43) × (blockCount gib ≡ 38) × (listLength gib ≡ 156390)
-unfolding when bit ceilDiv powerIn powerLog leastFrom log2Up defaultSector sizesOf sizesRefusals askedBlocks defaultSize initialGroups isShort trim optionsRefusals groupsRefusals headerOf preallocOf logLimit logBlocks defaultImaxpct lastRefusals withGroups withSizes chosenOf refusals refusalOf labelOf geometryOf zeroGeometry compute.answer computeDef chunkOf recordCount listLength blockCount
+unfolding when bit ceilDiv powerIn powerLog leastFrom log2Up defaultSector sizesOf sizesRefusals askedBlocks defaultSize initialGroups isShort trim optionsRefusals groupsRefusals headerOf preallocOf logLimit logBlocks defaultImaxpct lastRefusals withGroups withSizes chosenOf refusals refusalOf labelOf geometryOf zeroGeometry stepAnswer computeDef chunkOf recordCount listLength blockCount
 example = (refl, refl, refl)
 
 -- the list of every run with its geometry

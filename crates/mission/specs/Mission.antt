@@ -14,7 +14,7 @@
 --   reported g     what the reader reports of a run with geometry g: g with plain sizing of the log where that gives the same log, else g
 --                  itself. `plain g` is g with plain sizing.
 --   heads k        whatever bytes stand where the head of group k should be; `log` what stands in the log's first block.
---   recordsOf r    the run's written records, in order; `stopped r n old` a device that held `old`, after the first n of them. The finishing one,
+--   runRecords r   the run's written records, in order; `stoppedAfter r n old` a device that held `old`, after the first n of them. The finishing one,
 --                  with the finished superblock, stands behind `beforeFinished` others.
 -- A name such as `readGroup0` is a definition, and the contract of the function `read_group0` says that this is its answer, on every input.
 -- Assumes nothing.
@@ -45,7 +45,7 @@ pub record Demand1 : Type 0 where
   pub by-the-table : (p : Params) (device logical physical : ℕ)
       → computeDef p device logical physical .number ≡ first (refusals p device (chosenOf p device logical physical)) 0
   -- The table's numbers rise, so where several tests hold the number is the smallest of theirs.
-  pub smallest-number : (p : Params) (device logical physical m : ℕ) → Applies m (refusals p device (chosenOf p device logical physical))
+  pub smallest-number : (p : Params) (device logical physical m : ℕ) → Listed m (refusals p device (chosenOf p device logical physical))
       → (0 < computeDef p device logical physical .number) × (computeDef p device logical physical .number ≤ m)
   -- No disk gets a layout for smaller sectors than its own.
   pub own-sectors : (p : Params) (device logical physical : ℕ) → computeDef p device logical physical .number ≡ 0
@@ -58,7 +58,7 @@ pub record Demand1 : Type 0 where
   pub no-stranger : (g : Geometry) → TypedGeometry g → (isAnswer g ≡ true) ↔ AskedFor g
   -- Planning a group answers 0 or 25: 25 exactly in the log's group, where fewer blocks are free than the free list takes.
   pub refused-plans : (g : Geometry) → Answered g → (k : ℕ) → k < g .agcount
-      → planned g k .number ≡ when (both (eqb k (g .logagno)) (ltb (freeBlocks (siteOf g k)) (freelistOf (g .features)))) freeListShort 0
+      → planned g k .number ≡ when (both (eqb k (g .logagno)) (ltb (freeBeforeList (siteOf g k)) (freelistOf (g .features)))) freeListShort 0
   -- In roomy sizing no group is refused.
   pub roomy-plans : (g : Geometry) → Answered g → g .roomy ≡ true → (k : ℕ) → k < g .agcount → planned g k .number ≡ 0
   -- What the step accepts in roomy sizing it accepts in plain sizing, with a log no shorter.
@@ -105,15 +105,15 @@ pub record Demand2 : Type 0 where
   -- The bytes that are sent for an accepted input, turn by turn through buffers that hold the longest chunk, are its list of written
   -- records, one after the other; and these bytes, read by themselves, are that list again.
   pub sent-and-read : (xs : List ℕ) → Octets xs → accepted xs .number ≡ 0
-      → (room : ℕ) (buf : List ℕ) → longestOf (begun xs) ≤ room → longestOf (begun xs) ≤ length buf
-      → (handed (begun xs .left) (begun xs) room buf ≡ listBytes (listOf (accepted xs) (parseDef xs .device)))
-      × (readList (handed (begun xs .left) (begun xs) room buf) ≡ readAs (listOf (accepted xs) (parseDef xs .device)))
+      → (room : ℕ) (buf : List ℕ) → longestPiece (sendingBegun xs) ≤ room → longestPiece (sendingBegun xs) ≤ length buf
+      → (handed (sendingBegun xs .left) (sendingBegun xs) room buf ≡ listBytes (listOf (accepted xs) (parseDef xs .device)))
+      × (readList (handed (sendingBegun xs .left) (sendingBegun xs) room buf) ≡ wholeList (listOf (accepted xs) (parseDef xs .device)))
   -- Every record lies at a block's start and inside the device; there are three of zeros, two flushes, the rest single blocks, as many as
   -- `Ordered` says.
   pub ordered-list : (r : Request) → AcceptedRun r → Ordered (runOf r) (r .device)
-  -- Applied to a device that held anything, the records leave every head, the log, the root chunk and the zeros that `Left` names, byte for
+  -- Applied to a device that held anything, the records leave every head, the log, the root chunk and the zeros that `DeviceLeft` names, byte for
   -- byte.
-  pub left-behind : (r : Request) → AcceptedRun r → (old : Device) → Left (runOf r) (r .device) (formatted r old)
+  pub left-behind : (r : Request) → AcceptedRun r → (old : Device) → DeviceLeft (runOf r) (r .device) (formatted r old)
   -- Every checksum in every head that they leave verifies: superblock, AGF, AGI, free list, and each root.
   pub checksums-left : (r : Request) → AcceptedRun r → (old : Device) (k : ℕ) → k < runOf r .geometry .agcount
       → Checked (runOf r .geometry) (headOn (runOf r .geometry) (formatted r old) k)
@@ -146,36 +146,36 @@ pub record Demand2 : Type 0 where
 
 pub record PowerCut (r : Request) (old : Device) : Type 0 where
   -- Before the first record the old contents stand there.
-  pub old-contents : stopped r 0 old ≡ old
+  pub old-contents : stoppedAfter r 0 old ≡ old
   -- From the first record on, and until the finishing one has been applied, group 0 gets 30.
-  pub refused : (n : ℕ) → 0 < n → n ≤ beforeFinished (runOf r .geometry) → (told : Bool) → firstNumber told r (stopped r n old) ≡ notLeft
+  pub refused : (n : ℕ) → 0 < n → n ≤ beforeFinished (runOf r .geometry) → (told : Bool) → firstNumber told r (stoppedAfter r n old) ≡ notLeft
   -- The finishing record is the one behind the first flush, and `beforeFinished` counts those before it.
   pub finishing : Finishing r
   -- From it on all is read back, whatever of the later records is missing.
-  pub recovered : (n : ℕ) → beforeFinished (runOf r .geometry) < n → ReadBack r (stopped r n old)
+  pub recovered : (n : ℕ) → beforeFinished (runOf r .geometry) < n → ReadBack r (stoppedAfter r n old)
   -- A reader that admits profile disks only then gives every place 0, or 37 where the disk breaks a rule of the profile;
   pub admitted-then : (n : ℕ) → beforeFinished (runOf r .geometry) < n
-      → Admits (profileNumber true (runOf r .geometry) (labelOn (runOf r .geometry))) r (stopped r n old)
+      → Admits (profileNumber true (runOf r .geometry) (labelOn (runOf r .geometry))) r (stoppedAfter r n old)
   -- 0 of every run under the profile.
   pub profile-run : r .profile ≡ true → profileNumber true (runOf r .geometry) (labelOn (runOf r .geometry)) ≡ 0
   -- These records are those of the bytes that are sent for the run (`sent-and-read`).
-  pub sent : readList (listBytes (recordsOf r)) ≡ readAs (recordsOf r)
+  pub sent : readList (listBytes (runRecords r)) ≡ wholeList (runRecords r)
   -- Taken up from an input that ends after any number i of these bytes, they leave the device as it is after some of the first: whole records
   -- alone, and the first one is flushed before anything else is done. The buffer holds a block.
-  pub received : (size limit i : ℕ) → maxSupportedBlock ≤ size → r .device ≤ limit → r .device ≤ largest → AppliesFront size limit (recordsOf r) i
+  pub received : (size limit i : ℕ) → maxSupportedBlock ≤ size → r .device ≤ limit → r .device ≤ largestOffset → AppliesFront size limit (runRecords r) i
   -- A disk's cache may lose any of the records behind the last flush, and write them in any order. Once the first record is kept, or the first
   -- n, group 0 gets 30 whichever of those before the finishing one came besides, in whichever order, and however often.
   pub any-subset : (n : ℕ) → 0 < n → n ≤ beforeFinished (runOf r .geometry) → (rs : List Record)
-      → Among (drop 1 (take (beforeFinished (runOf r .geometry)) (recordsOf r))) rs → (told : Bool)
-      → firstNumber told r (applied rs (stopped r n old)) ≡ notLeft
+      → Among (drop 1 (take (beforeFinished (runOf r .geometry)) (runRecords r))) rs → (told : Bool)
+      → firstNumber told r (applied rs (stoppedAfter r n old)) ≡ notLeft
   -- Acceptance is promised once all records up to the first flush are kept (a head that was lost is refused: `other-head`). Group 0 still gets 30
   -- while the finishing record is lost,
-  pub finished-lost : (rs : List Record) → Among (drop (beforeFinished (runOf r .geometry) + 1) (recordsOf r)) rs
-      → (told : Bool) → firstNumber told r (applied rs (stopped r (beforeFinished (runOf r .geometry)) old)) ≡ notLeft
+  pub finished-lost : (rs : List Record) → Among (drop (beforeFinished (runOf r .geometry) + 1) (runRecords r)) rs
+      → (told : Bool) → firstNumber told r (applied rs (stoppedAfter r (beforeFinished (runOf r .geometry)) old)) ≡ notLeft
   -- and all is read back where that record is among those that came, whichever came before it and behind it.
-  pub finished-kept : (xs ys : List Record) → Among (drop (beforeFinished (runOf r .geometry)) (recordsOf r)) xs
-      → Among (drop (beforeFinished (runOf r .geometry)) (recordsOf r)) ys
-      → ReadBack r (applied (xs ++ (finishingRecord (runOf r) ∷ ys)) (stopped r (beforeFinished (runOf r .geometry)) old))
+  pub finished-kept : (xs ys : List Record) → Among (drop (beforeFinished (runOf r .geometry)) (runRecords r)) xs
+      → Among (drop (beforeFinished (runOf r .geometry)) (runRecords r)) ys
+      → ReadBack r (applied (xs ++ (finishingRecord (runOf r) ∷ ys)) (stoppedAfter r (beforeFinished (runOf r .geometry)) old))
 
 -- ==== DEMAND 3: a reader that sees only the heads and the first log block, and what it vouches for
 
@@ -199,17 +199,17 @@ pub record Demand3 : Type 0 where
   pub whole-disk : (heads : ℕ → List ℕ) (log : List ℕ) → Octets (heads 0) → ReadWhole heads log ↔ ByRecords heads log
   -- A pass over a disk says which bytes it wants next and is fed with them: the first sector, each head, the log block. Fed from any
   -- device, to the end, its verdict is 0 exactly where the records of one accepted run leave every head and the log block that stand there.
-  pub pass-accepts : (d : Device) → Bytes d → (n : ℕ) → turnsNeeded d ≤ n → (verdictOf (passed d n) .number ≡ 0) ↔ LeftByRun d
+  pub pass-accepts : (d : Device) → ByteDevice d → (n : ℕ) → turnsNeeded d ≤ n → (passVerdict (passedTurns d n) .number ≡ 0) ↔ LeftByRun d
   -- Before its end, on such a disk, it says 27 at the place that comes next (group 0 for the first sector, agcount for the log block).
   pub pass-unfinished : (d : Device) → LeftByRun d → (n : ℕ) → n < turnsNeeded d
-      → (verdictOf (passed d n) .number ≡ wrongLength) × (verdictOf (passed d n) .place ≡ n - 1)
+      → (passVerdict (passedTurns d n) .number ≡ wrongLength) × (passVerdict (passedTurns d n) .place ≡ n - 1)
   -- Whatever it is fed, part by part, from a file that changes while it is read too: its verdict is 0 exactly where one accepted run leaves
   -- these parts (the heads behind a first sector that says how long they are, and the log block behind them), and all were fed: the first
   -- sector, as many heads as there are groups, and the log block.
-  pub pass-vouches : (parts : ℕ → List ℕ) → Octets (parts 1) → (n : ℕ) → (verdictOf (fedBy parts n) .number ≡ 0) ↔ (RunParts parts × (partsNeeded parts ≤ n))
+  pub pass-vouches : (parts : ℕ → List ℕ) → Octets (parts 1) → (n : ℕ) → (passVerdict (fedBy parts n) .number ≡ 0) ↔ (RunParts parts × (partsNeeded parts ≤ n))
   -- With fewer of them it says 27 at the place that comes next; whatever the parts, those behind the last that is needed change nothing.
   pub pass-counted : (parts : ℕ → List ℕ) (n : ℕ)
-      → (RunParts parts → n < partsNeeded parts → (verdictOf (fedBy parts n) .number ≡ wrongLength) × (verdictOf (fedBy parts n) .place ≡ n - 1))
+      → (RunParts parts → n < partsNeeded parts → (passVerdict (fedBy parts n) .number ≡ wrongLength) × (passVerdict (fedBy parts n) .place ≡ n - 1))
       × (partsNeeded parts ≤ n → fedBy parts n ≡ fedBy parts (partsNeeded parts))
   -- A head too many is that of a group that isn't there, and gets 29 whatever its bytes.
   pub no-such-group : (g : Geometry) (u : List ℕ) (k : ℕ) (xs : List ℕ) → isAnswer g ≡ true → g .agcount ≤ k → readGroup g u k xs .number ≡ noPlace
@@ -221,7 +221,7 @@ pub record Demand3 : Type 0 where
   -- blocks.
   pub totals : (heads : ℕ → List ℕ) (log : List ℕ) → Octets (heads 0) → ReadWhole heads log → (g : Geometry) → readGroup0 (heads 0) .geometry ≡ g
       → (freeTotal g heads + listTotal g heads ≡ countIn (heads 0))
-      × (countIn (heads 0) + g .agcount * headBlocks g + logIn g (heads 0) .blocks + chunkTotal g heads ≡ g .dblocks)
+      × (countIn (heads 0) + g .agcount * headBlocks g + logRunIn g (heads 0) .blocks + chunkTotal g heads ≡ g .dblocks)
   -- Wherever power is lost while an accepted run formats a device, and whatever that held: the sentences of `PowerCut`, above.
   pub power-cut : (r : Request) → AcceptedRun r → (old : Device) → PowerCut r old
   -- None of this is said of nothing: with no option at all, a device of 1 GiB with sectors of 512 bytes is accepted.

@@ -11,8 +11,7 @@ use Rattle.arith.specs.Powers.{powerIn, powerLog, leastFrom, log2Up}
 use Rattle.geometry_sizes.specs.Sizes.{defaultSector, sizesOf, sizesRefusals}
 use Rattle.geometry.specs.Groups.{askedBlocks, defaultSize, initialGroups, isShort, trim, optionsRefusals, groupsRefusals}
 use Rattle.geometry.specs.Log.{headerOf, preallocOf, logLimit, logBlocks, defaultImaxpct, lastRefusals}
-use Rattle.geometry.specs.Compute.{withGroups, withSizes, chosenOf, refusals, refusalOf, labelOf, geometryOf, computeDef}
-use Rattle.geometry.specs.Compute as compute
+use Rattle.geometry.specs.Compute.{withGroups, withSizes, chosenOf, refusals, refusalOf, labelOf, geometryOf, computeDef, stepAnswer}
 use Rattle.geometry_answers.specs.Same.{sameFeatures, numbersOf, sameFrom, sameGeometry}
 use Rattle.geometry_answers.specs.Named.{namedOptions, namedOn, namedFits, namedAnswer, namesOf, isAnswer}
 use Rattle.geometry_layout.specs.Places.{freelistOf, chunkOf, clusterOf, alignOf, roundUp, aligned, rootChunkOf, groupBlocks}
@@ -43,7 +42,7 @@ record Computed : Type 0 where
   row-longest : longestIn (summaryOf largestGroups) 2 ≡ 2 ^ 30 - 10
 
 computed : Computed
-unfolding largestGroups when bit ceilDiv powerIn powerLog leastFrom log2Up defaultSector sizesOf sizesRefusals askedBlocks defaultSize initialGroups isShort trim optionsRefusals groupsRefusals headerOf preallocOf logLimit logBlocks defaultImaxpct lastRefusals withGroups withSizes chosenOf refusals refusalOf labelOf geometryOf computeDef compute.answer sameFeatures numbersOf sameFrom sameGeometry namedOptions namedOn namedFits namedAnswer namesOf isAnswer freelistOf chunkOf clusterOf alignOf roundUp aligned rootChunkOf groupBlocks siteOf listAt listShort constNumber summaryOf lengthIn logBlocksIn chunkBlocksIn freeBlocksIn longestIn
+unfolding largestGroups when bit ceilDiv powerIn powerLog leastFrom log2Up defaultSector sizesOf sizesRefusals askedBlocks defaultSize initialGroups isShort trim optionsRefusals groupsRefusals headerOf preallocOf logLimit logBlocks defaultImaxpct lastRefusals withGroups withSizes chosenOf refusals refusalOf labelOf geometryOf computeDef stepAnswer sameFeatures numbersOf sameFrom sameGeometry namedOptions namedOn namedFits namedAnswer namesOf isAnswer freelistOf chunkOf clusterOf alignOf roundUp aligned rootChunkOf groupBlocks siteOf listAt listShort constNumber summaryOf lengthIn logBlocksIn chunkBlocksIn freeBlocksIn longestIn
 computed = record { label = refl; groups = refl; answer = refl; number = refl; full = refl; free = refl; longest = refl; row-free = refl; row-longest = refl }
 
 -- THE BOUND IS NEAR

@@ -22,8 +22,7 @@ use Rattle.geometry_sizes.specs.Sizes.{defaultSector, sizesOf, sizesRefusals}
 use Rattle.geometry.specs.declared.Geometry.{Geometry}
 use Rattle.geometry.specs.Groups.{askedBlocks, defaultSize, initialGroups, isShort, trim, optionsRefusals, groupsRefusals}
 use Rattle.geometry.specs.Log.{headerOf, preallocOf, logLimit, logBlocks, defaultImaxpct, lastRefusals}
-use Rattle.geometry.specs.Compute.{withGroups, withSizes, chosenOf, refusals, refusalOf, labelOf, geometryOf, zeroGeometry, computeDef}
-use Rattle.geometry.specs.Compute as compute
+use Rattle.geometry.specs.Compute.{withGroups, withSizes, chosenOf, refusals, refusalOf, labelOf, geometryOf, zeroGeometry, computeDef, stepAnswer}
 use Rattle.geometry_answers.specs.Same.{sameFeatures, numbersOf, sameFrom, sameGeometry}
 use Rattle.geometry_answers.specs.Named.{namedOptions, namedOn, namedFits, namedAnswer, namesOf, isAnswer}
 use Rattle.geometry_layout.specs.Places.{ibtBlock, rmapBlock, refcBlock, freelistOf, chunkOf, clusterOf, alignOf, roundUp, aligned, rootChunkOf, groupBlocks, fsbOf, inoOf}
@@ -87,7 +86,7 @@ record Computed : Type 0 where
   pub corner-plain : isAnswer (plain (stepOf (corner true) .geometry)) ≡ false
 
 computed : Computed
-unfolding ample crowded corner when bit ceilDiv powerIn powerLog leastFrom log2Up defaultSector sizesOf sizesRefusals askedBlocks defaultSize initialGroups isShort trim optionsRefusals groupsRefusals headerOf preallocOf logLimit logBlocks defaultImaxpct lastRefusals withGroups withSizes chosenOf refusals refusalOf labelOf geometryOf zeroGeometry compute.answer computeDef sameFeatures numbersOf sameFrom sameGeometry namedOptions namedOn namedFits namedAnswer namesOf isAnswer ibtBlock rmapBlock refcBlock freelistOf chunkOf clusterOf alignOf roundUp aligned rootChunkOf groupBlocks fsbOf inoOf groupRefusal siteOf firstIndex pushed appended fold turns upFrom valid weigh runLength negative withoutRun takenAt takenFrom taken fitter bigger pickedFrom pickAnswer joinsLeft joinsRight insertedAt takes inserted freeAtFirst rmapAtFirst atFirst failed noted moved listTurn listFilled chunked planAnswer planOf planned firstTo plansNumber timeInside notEarly shifted timeOf stepOf timeRefusal bareNumber runNumber headLength
+unfolding ample crowded corner when bit ceilDiv powerIn powerLog leastFrom log2Up defaultSector sizesOf sizesRefusals askedBlocks defaultSize initialGroups isShort trim optionsRefusals groupsRefusals headerOf preallocOf logLimit logBlocks defaultImaxpct lastRefusals withGroups withSizes chosenOf refusals refusalOf labelOf geometryOf zeroGeometry stepAnswer computeDef sameFeatures numbersOf sameFrom sameGeometry namedOptions namedOn namedFits namedAnswer namesOf isAnswer ibtBlock rmapBlock refcBlock freelistOf chunkOf clusterOf alignOf roundUp aligned rootChunkOf groupBlocks fsbOf inoOf groupRefusal siteOf firstIndex pushed appended fold turns upFrom valid weigh runLength negative withoutRun takenAt takenFrom taken fitter bigger pickedFrom pickAnswer joinsLeft joinsRight insertedAt takes inserted freeAtFirst rmapAtFirst atFirst failed noted moved listTurn listFilled chunked planAnswer planOf planned firstTo plansNumber timeInside notEarly shifted timeOf stepOf timeRefusal bareNumber runNumber headLength
 computed =
     record {
       ample-number = refl;

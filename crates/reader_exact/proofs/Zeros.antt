@@ -16,8 +16,7 @@ use Rattle.endian.specs.Bytes.{beAt}
 use Rattle.endian.specs.Fields.{part}
 use Rattle.geometry_sizes.specs.Sizes.{defaultSector, sizesOf, sizesRefusals}
 use Rattle.geometry.specs.declared.Computed.{Computed}
-use Rattle.geometry.specs.Compute.{withGroups, withSizes, chosenOf, refusals, refusalOf, computeDef}
-use Rattle.geometry.specs.Compute as compute
+use Rattle.geometry.specs.Compute.{withGroups, withSizes, chosenOf, refusals, refusalOf, computeDef, stepAnswer}
 use Rattle.geometry_answers.specs.Named.{namedOptions, namedOn, namedFits, namedAnswer}
 use Rattle.head_bytes.specs.Head.{zeros}
 use Rattle.reader_names.specs.Named.{hasBit, featuresAt, namesAt, namedBy}
@@ -36,7 +35,7 @@ part-zeros off k n h =
 
 -- a block size of 0 is no power of two
 number-of-zeros : namedBy false (zeros 512) .number ≡ blockNoPower
-unfolding when bit ceilDiv powerIn powerLog leastFrom log2Up beAt defaultSector sizesOf sizesRefusals withGroups withSizes chosenOf refusals refusalOf compute.answer computeDef namedOptions namedOn namedFits namedAnswer hasBit featuresAt namesAt namedBy
+unfolding when bit ceilDiv powerIn powerLog leastFrom log2Up beAt defaultSector sizesOf sizesRefusals withGroups withSizes chosenOf refusals refusalOf stepAnswer computeDef namedOptions namedOn namedFits namedAnswer hasBit featuresAt namesAt namedBy
 number-of-zeros = refl
 
 -- bytes that begin with n zeros, in which every named place lies
