@@ -72,4 +72,5 @@ agiOf xs =
 abbrev pub agiFits : Agi → Type 0
 agiFits a =
     below (2 ^ 32)
-    (a .seqno ∷ a .length ∷ a .count ∷ a .root ∷ a .level ∷ a .freecount ∷ a .newino ∷ a .«free_root» ∷ a .«free_level» ∷ a .iblocks ∷ a .fblocks ∷ [])
+    (a .seqno ∷ a .length ∷ a .count ∷ a .root ∷ a .level ∷ a .freecount ∷ a .newino ∷ a .«free_root» ∷ a .«free_level»
+    ∷ a .iblocks ∷ a .fblocks ∷ [])

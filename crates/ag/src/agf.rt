@@ -46,7 +46,8 @@ impl Agf {
     // The named bytes, and the checksum over the sector, and whether that stood there already; every other byte stays. 27 unless the
     // sector is one.
     pub fn encode(self, uuid: &[u8; 16], sector: &mut [u8]) -> Stamped
-        ensures { λ r. ⌜ Encoded (sectorNumber (length (now (sector .entry)))) (agfCrcAt ∷ []) (agfBytes self (now (uuid .entry)) (now (sector .entry))) (now (sector .entry)) (r .number) (r .right) (now (sector .exit)) ⌝ }
+        ensures { λ r. ⌜ Encoded (sectorNumber (length (now (sector .entry)))) (agfCrcAt ∷ [])
+            (agfBytes self (now (uuid .entry)) (now (sector .entry))) (now (sector .entry)) (r .number) (r .right) (now (sector .exit)) ⌝ }
     {
         if !is_sector(sector.len()) {
             return Stamped {

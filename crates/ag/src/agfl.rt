@@ -32,7 +32,9 @@ pub mod off {
 // The first `count` blocks of `list` go into the slots of `sector`, the first into slot `first`, and around at the end.
 fn put_slots(sector: &mut [u8], first: u32, list: [u32; 64], count: usize)
     requires { ⌜ (count ≤ 64) × (512 ≤ length (now sector)) ⌝ }
-    ensures { λ _. ⌜ now (sector .exit) ≡ patch 36 (numbersBytes 4 (placed (slotsOf (length (now (sector .entry)))) first (take count list) (replicate (slotsOf (length (now (sector .entry)))) null32))) (now (sector .entry)) ⌝ }
+    ensures { λ _. ⌜ now (sector .exit) ≡ patch 36
+        (numbersBytes 4 (placed (slotsOf (length (now (sector .entry)))) first (take count list)
+        (replicate (slotsOf (length (now (sector .entry)))) null32))) (now (sector .entry)) ⌝ }
 {
     let slots = (sector.len() - off::BNO) / 4;
     endian::put_same(sector, off::BNO, 4 * slots, 255);
@@ -46,7 +48,8 @@ fn put_slots(sector: &mut [u8], first: u32, list: [u32; 64], count: usize)
 
 fn put_header(sector: &mut [u8], seqno: u32, uuid: &[u8; 16])
     requires { ⌜ 512 ≤ length (now sector) ⌝ }
-    ensures { λ _. ⌜ (now (sector .exit) ≡ writeFields (agflHeader seqno (now (uuid .entry))) (now (sector .entry))) × (length (now (uuid .entry)) ≡ 16) ⌝ }
+    ensures { λ _. ⌜ (now (sector .exit) ≡ writeFields (agflHeader seqno (now (uuid .entry))) (now (sector .entry)))
+        × (length (now (uuid .entry)) ≡ 16) ⌝ }
 {
     let at: [usize; 6] = [off::MAGICNUM, 4, off::SEQNO, 4, off::LSN, 8];
     let v: [u64; 3] = [AGFL_MAGIC, seqno as u64, 0]; // agfl_magicnum, agfl_seqno, agfl_lsn
@@ -64,7 +67,9 @@ pub fn encode_agfl(
     count: usize,
     sector: &mut [u8],
 ) -> Stamped
-    ensures { λ r. ⌜ Encoded (agflNumber count (length (now (sector .entry)))) (agflCrcAt ∷ []) (agflBytes seqno (now (uuid .entry)) first (take count list) (now (sector .entry))) (now (sector .entry)) (r .number) (r .right) (now (sector .exit)) ⌝ }
+    ensures { λ r. ⌜ Encoded (agflNumber count (length (now (sector .entry)))) (agflCrcAt ∷ [])
+        (agflBytes seqno (now (uuid .entry)) first (take count list) (now (sector .entry))) (now (sector .entry)) (r .number) (r .right)
+        (now (sector .exit)) ⌝ }
 {
     if !is_sector(sector.len()) {
         return Stamped {

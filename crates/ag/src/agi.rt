@@ -45,7 +45,8 @@ pub struct Agi {
 // What stands before the checksum: numbers, lists of unlinked inodes, all empty, and UUID.
 fn put_prefix(sector: &mut [u8], prefix: [u32; 10], uuid: &[u8; 16])
     requires { ⌜ 512 ≤ length (now sector) ⌝ }
-    ensures { λ _. ⌜ (now (sector .exit) ≡ writeFields (agiPrefix prefix (now (uuid .entry))) (now (sector .entry))) × (length (now (uuid .entry)) ≡ 16) ⌝ }
+    ensures { λ _. ⌜ (now (sector .exit) ≡ writeFields (agiPrefix prefix (now (uuid .entry))) (now (sector .entry)))
+        × (length (now (uuid .entry)) ≡ 16) ⌝ }
 {
     endian::put32_run(sector, 0, &prefix);
     endian::put_same(sector, UNLINKED, 4 * UNLINKED_BUCKETS, 255); // agi_unlinked
@@ -56,7 +57,8 @@ impl Agi {
     // The named bytes, and the checksum over the sector, and whether that stood there already; every other byte stays. 27 unless the
     // sector is one.
     pub fn encode(self, uuid: &[u8; 16], sector: &mut [u8]) -> Stamped
-        ensures { λ r. ⌜ Encoded (sectorNumber (length (now (sector .entry)))) (agiCrcAt ∷ []) (agiBytes self (now (uuid .entry)) (now (sector .entry))) (now (sector .entry)) (r .number) (r .right) (now (sector .exit)) ⌝ }
+        ensures { λ r. ⌜ Encoded (sectorNumber (length (now (sector .entry)))) (agiCrcAt ∷ [])
+            (agiBytes self (now (uuid .entry)) (now (sector .entry))) (now (sector .entry)) (r .number) (r .right) (now (sector .exit)) ⌝ }
     {
         if !is_sector(sector.len()) {
             return Stamped {

@@ -1,7 +1,7 @@
-// Applies a list of written records, read from standard input, in order to an existing file or device. It makes no file and shortens none, and
-// extends a plain file only where it is told to: a record that ends behind the file or device stops it, and where that is one of a run's first
-// two, nothing was changed.
-// `list_apply` says what is to be read next and what is to be done with it; here bytes are only moved.
+// Applies a list of written records, read from standard input, in order to an existing file or device. It makes no file and shortens none,
+// and extends a plain file only where it is told to: a record that ends behind the file or device stops it, and where that is one of a
+// run's first two, nothing was changed. `list_apply` says what is to be read next and what is to be done with it; here bytes are only
+// moved.
 mod clock; // a line of progress
 mod device; // a device's sector
 mod input; // reading
@@ -47,8 +47,8 @@ pub(crate) const NOTHING_TAKEN: u8 = 3; // a write that took no byte, and named 
 
 pub(crate) const FLUSH_FAILED: u8 = 4;
 
-// The list so far, which call failed, the record in hand or at which it failed, whether the list goes on, and how many of the bytes that were
-// read ahead are used.
+// The list so far, which call failed, the record in hand or at which it failed, whether the list goes on, and how many of the bytes that
+// were read ahead are used.
 struct Progress {
     applying: Applying,
     failed: u8,

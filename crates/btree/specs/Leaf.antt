@@ -41,4 +41,5 @@ leafFields magic daddr agno uuid recs numrecs = leafHeader magic daddr agno uuid
 
 -- every byte that no field names is zero; then the checksum
 unfoldable pub leafBytes : ℕ → ℕ → ℕ → List ℕ → List ℕ → ℕ → ℕ → List ℕ
-leafBytes magic daddr agno uuid recs numrecs len = stamped leafCrcAt (writeFields (leafFields magic daddr agno uuid recs numrecs) (replicate len 0))
+leafBytes magic daddr agno uuid recs numrecs len = stamped leafCrcAt
+    (writeFields (leafFields magic daddr agno uuid recs numrecs) (replicate len 0))

@@ -81,7 +81,8 @@ fn fill(
     block: &mut [u8],
 )
     requires { ⌜ (1024 ≤ length (now block)) × (56 + length (now recs) ≤ length (now block)) ⌝ }
-    ensures { λ _. ⌜ now (block .exit) ≡ leafBytes magic daddr agno (now (uuid .entry)) (now (recs .entry)) numrecs (length (now (block .entry))) ⌝ }
+    ensures { λ _. ⌜ now (block .exit) ≡ leafBytes magic daddr agno (now (uuid .entry)) (now (recs .entry)) numrecs
+        (length (now (block .entry))) ⌝ }
 {
     endian::put_same(block, 0, block.len(), 0);
     put_header(magic, daddr, agno, uuid, numrecs, block);
@@ -100,7 +101,9 @@ pub fn leaf_block(
     numrecs: u16,
     block: &mut [u8],
 ) -> Stamped
-    ensures { λ r. ⌜ Encoded (leafNumber (length (now (recs .entry))) (length (now (block .entry)))) (leafCrcAt ∷ []) (leafBytes magic daddr agno (now (uuid .entry)) (now (recs .entry)) numrecs (length (now (block .entry)))) (now (block .entry)) (r .number) (r .right) (now (block .exit)) ⌝ }
+    ensures { λ r. ⌜ Encoded (leafNumber (length (now (recs .entry))) (length (now (block .entry)))) (leafCrcAt ∷ [])
+        (leafBytes magic daddr agno (now (uuid .entry)) (now (recs .entry)) numrecs (length (now (block .entry)))) (now (block .entry))
+        (r .number) (r .right) (now (block .exit)) ⌝ }
 {
     if !is_block(block.len()) {
         return Stamped {

@@ -39,9 +39,11 @@ fn put_alloc(out: &mut [u8], o: usize, r: AllocRec)
     endian::put32(out, o, r.start); // ar_startblock
 }
 
-// The Rust's alloc_recs over an array of 64 (crate btree_slices has it over a lent slice): the first `count` free extents. 27 unless `out` is as long as they need, 34 above 64.
+// The Rust's alloc_recs over an array of 64 (crate btree_slices has it over a lent slice): the first `count` free extents. 27 unless `out`
+// is as long as they need, 34 above 64.
 pub fn alloc_recs_64(recs: [AllocRec; 64], count: usize, out: &mut [u8]) -> u32
-    ensures { λ r. ⌜ Written (recsNumber 8 count (length (now (out .entry)))) (recordsBytes allocBytes (take count recs)) (now (out .entry)) r (now (out .exit)) ⌝ }
+    ensures { λ r. ⌜ Written (recsNumber 8 count (length (now (out .entry)))) (recordsBytes allocBytes (take count recs)) (now (out .entry))
+        r (now (out .exit)) ⌝ }
 {
     let refusal = number(ALLOC_REC, count, out.len());
     if refusal != 0 {
@@ -86,9 +88,11 @@ fn put_inobt(out: &mut [u8], o: usize, sparse: bool, r: InobtRec)
     put_full(out, o, r);
 }
 
-// The Rust's inobt_recs: the first `count` inode chunks; without sparse inodes the free count is a 32-bit number in the place of holes, count and free count.
+// The Rust's inobt_recs: the first `count` inode chunks; without sparse inodes the free count is a 32-bit number in the place of holes,
+// count and free count.
 pub fn inobt_recs_64(recs: [InobtRec; 64], count: usize, sparse: bool, out: &mut [u8]) -> u32
-    ensures { λ r. ⌜ Written (recsNumber 16 count (length (now (out .entry)))) (recordsBytes (inobtBytes sparse) (take count recs)) (now (out .entry)) r (now (out .exit)) ⌝ }
+    ensures { λ r. ⌜ Written (recsNumber 16 count (length (now (out .entry)))) (recordsBytes (inobtBytes sparse) (take count recs))
+        (now (out .entry)) r (now (out .exit)) ⌝ }
 {
     let refusal = number(INOBT_REC, count, out.len());
     if refusal != 0 {
@@ -114,7 +118,8 @@ fn put_rmap(out: &mut [u8], o: usize, r: RmapRec)
 
 // The Rust's rmap_recs over an array of 64: the first `count` reverse mappings.
 pub fn rmap_recs_64(recs: [RmapRec; 64], count: usize, out: &mut [u8]) -> u32
-    ensures { λ r. ⌜ Written (recsNumber 24 count (length (now (out .entry)))) (recordsBytes rmapBytes (take count recs)) (now (out .entry)) r (now (out .exit)) ⌝ }
+    ensures { λ r. ⌜ Written (recsNumber 24 count (length (now (out .entry)))) (recordsBytes rmapBytes (take count recs)) (now (out .entry))
+        r (now (out .exit)) ⌝ }
 {
     let refusal = number(RMAP_REC, count, out.len());
     if refusal != 0 {

@@ -57,7 +57,8 @@ fn put_alloc(out: &mut [u8], i: usize, r: AllocRec)
 
 // The free extents of the list. 27 unless `out` is as long as they need, 34 above 64.
 pub fn alloc_recs(recs: &[AllocRec], out: &mut [u8]) -> u32
-    ensures { λ r. ⌜ Written (recsNumber 8 (length (now (recs .entry))) (length (now (out .entry)))) (recordsBytes allocBytes (now (recs .entry))) (now (out .entry)) r (now (out .exit)) ⌝ }
+    ensures { λ r. ⌜ Written (recsNumber 8 (length (now (recs .entry))) (length (now (out .entry))))
+        (recordsBytes allocBytes (now (recs .entry))) (now (out .entry)) r (now (out .exit)) ⌝ }
 {
     let refusal = number(8, recs.len(), out.len());
     let mut i = turns(refusal, recs.len());
@@ -89,7 +90,8 @@ fn put_rmap(out: &mut [u8], i: usize, r: RmapRec)
 
 // The reverse mappings of the list.
 pub fn rmap_recs(recs: &[RmapRec], out: &mut [u8]) -> u32
-    ensures { λ r. ⌜ Written (recsNumber 24 (length (now (recs .entry))) (length (now (out .entry)))) (recordsBytes rmapBytes (now (recs .entry))) (now (out .entry)) r (now (out .exit)) ⌝ }
+    ensures { λ r. ⌜ Written (recsNumber 24 (length (now (recs .entry))) (length (now (out .entry))))
+        (recordsBytes rmapBytes (now (recs .entry))) (now (out .entry)) r (now (out .exit)) ⌝ }
 {
     let refusal = number(24, recs.len(), out.len());
     let mut i = turns(refusal, recs.len());

@@ -73,7 +73,9 @@ pub(crate) fn fill_chunk(
     buf: &mut [u8],
 ) -> Filled
     requires { ⌜ (isInode size ≡ true) × (length (now buf) ≡ 64 * size) × (first + 64 < 2 ^ 64) × (timeStorable flags2 time ≡ true) ⌝ }
-    ensures { λ r. ⌜ (r .right ≡ alreadyRight (chunkPlaces size) (now (buf .entry)) (contents first size flags2 time (now (uuid .entry)) seed)) × (r .state ≡ summaryDraw seed .state) × (now (buf .exit) ≡ contents first size flags2 time (now (uuid .entry)) seed) ⌝ }
+    ensures { λ r. ⌜ (r .right ≡ alreadyRight (chunkPlaces size) (now (buf .entry))
+        (contents first size flags2 time (now (uuid .entry)) seed)) × (r .state ≡ summaryDraw seed .state)
+        × (now (buf .exit) ≡ contents first size flags2 time (now (uuid .entry)) seed) ⌝ }
 {
     let g = draw_three(seed);
     let places = places_of(size);

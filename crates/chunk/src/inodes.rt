@@ -95,7 +95,8 @@ pub(crate) fn put_root(
     buf: &mut [u8],
 )
     requires { ⌜ (isInode size ≡ true) × (length (now buf) ≡ 64 * size) × (timeStorable flags2 time ≡ true) ⌝ }
-    ensures { λ _. ⌜ now (buf .exit) ≡ patch (0 * size) (rootOver first flags2 time (now (uuid .entry)) (part (0 * size) size (now (buf .entry)))) (now (buf .entry)) ⌝ }
+    ensures { λ _. ⌜ now (buf .exit) ≡ patch (0 * size)
+        (rootOver first flags2 time (now (uuid .entry)) (part (0 * size) size (now (buf .entry)))) (now (buf .entry)) ⌝ }
 {
     let dir = empty_sf_dir(first);
     let bytes = dir.bytes;
@@ -106,8 +107,10 @@ pub(crate) fn put_root(
 
 // A file of no bytes over slot k.
 fn put_file(d: Dinode, uuid: &[u8; 16], size: usize, k: usize, buf: &mut [u8])
-    requires { ⌜ (isInode size ≡ true) × (k * size + size ≤ length (now buf)) × Fit (d .flags2) (d .atime) (d .mtime) (d .ctime) (d .crtime) ⌝ }
-    ensures { λ _. ⌜ now (buf .exit) ≡ patch (k * size) (dinodeBytes d [] (now (uuid .entry)) (part (k * size) size (now (buf .entry)))) (now (buf .entry)) ⌝ }
+    requires { ⌜ (isInode size ≡ true) × (k * size + size ≤ length (now buf))
+        × Fit (d .flags2) (d .atime) (d .mtime) (d .ctime) (d .crtime) ⌝ }
+    ensures { λ _. ⌜ now (buf .exit) ≡ patch (k * size) (dinodeBytes d [] (now (uuid .entry)) (part (k * size) size (now (buf .entry))))
+        (now (buf .entry)) ⌝ }
 {
     let none: [u8; 0] = [];
     put_inode(d, &none, uuid, size, k, buf);
@@ -124,7 +127,8 @@ pub(crate) fn put_bitmap(
     buf: &mut [u8],
 )
     requires { ⌜ (isInode size ≡ true) × (length (now buf) ≡ 64 * size) × (first + 64 < 2 ^ 64) × (timeStorable flags2 time ≡ true) ⌝ }
-    ensures { λ _. ⌜ now (buf .exit) ≡ patch (1 * size) (bitmapOver first flags2 generation time (now (uuid .entry)) (part (1 * size) size (now (buf .entry)))) (now (buf .entry)) ⌝ }
+    ensures { λ _. ⌜ now (buf .exit) ≡ patch (1 * size)
+        (bitmapOver first flags2 generation time (now (uuid .entry)) (part (1 * size) size (now (buf .entry)))) (now (buf .entry)) ⌝ }
 {
     let none = Timestamp { secs: 0, nsecs: 0 };
     let d = file_inode(first + 1, DIFLAG_NEWRTBM, flags2, generation, none, time);
@@ -142,7 +146,8 @@ pub(crate) fn put_summary(
     buf: &mut [u8],
 )
     requires { ⌜ (isInode size ≡ true) × (length (now buf) ≡ 64 * size) × (first + 64 < 2 ^ 64) × (timeStorable flags2 time ≡ true) ⌝ }
-    ensures { λ _. ⌜ now (buf .exit) ≡ patch (2 * size) (summaryOver first flags2 generation time (now (uuid .entry)) (part (2 * size) size (now (buf .entry)))) (now (buf .entry)) ⌝ }
+    ensures { λ _. ⌜ now (buf .exit) ≡ patch (2 * size)
+        (summaryOver first flags2 generation time (now (uuid .entry)) (part (2 * size) size (now (buf .entry)))) (now (buf .entry)) ⌝ }
 {
     let d = file_inode(first + 2, 0, flags2, generation, time, time);
     put_file(d, uuid, size, 2, buf);

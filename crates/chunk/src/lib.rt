@@ -57,7 +57,8 @@ pub fn root_chunk(
     seed: u64,
     buf: &mut [u8],
 ) -> Chunked
-    ensures { λ r. ⌜ ChunkMade (chunkNumber g agbno time (length (now (buf .entry)))) (summaryDraw seed .state) (chunkPlaces (g .inodesize)) (chunkBytes g agbno (now (uuid .entry)) time seed) (now (buf .entry)) (r .number) (r .state) (r .right) (now (buf .exit)) ⌝ }
+    ensures { λ r. ⌜ ChunkMade (chunkNumber g agbno time (length (now (buf .entry)))) (summaryDraw seed .state) (chunkPlaces (g .inodesize))
+        (chunkBytes g agbno (now (uuid .entry)) time seed) (now (buf .entry)) (r .number) (r .state) (r .right) (now (buf .exit)) ⌝ }
 {
     let n = refusal(g, agbno, time, buf.len());
     if n != 0 {

@@ -55,7 +55,8 @@ pub(crate) fn put_inode(
     buf: &mut [u8],
 )
     requires { ⌜ (dinodeNumber d (length (now fork)) size ≡ 0) × (k * size + size ≤ length (now buf)) ⌝ }
-    ensures { λ _. ⌜ now (buf .exit) ≡ patch (k * size) (dinodeBytes d (now (fork .entry)) (now (uuid .entry)) (part (k * size) size (now (buf .entry)))) (now (buf .entry)) ⌝ }
+    ensures { λ _. ⌜ now (buf .exit) ≡ patch (k * size)
+        (dinodeBytes d (now (fork .entry)) (now (uuid .entry)) (part (k * size) size (now (buf .entry)))) (now (buf .entry)) ⌝ }
 {
     let at = k * size;
     d.encode(fork, uuid, &mut buf[at..at + size]);

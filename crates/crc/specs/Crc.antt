@@ -1,4 +1,5 @@
--- The checksum of a structure on disk: CRC32C (RFC 3720, 12.1) over the whole sector, block or inode, with the structure's own four bytes read as zero, stored little-endian.
+-- The checksum of a structure on disk: CRC32C (RFC 3720, 12.1) over the whole sector, block or inode, with the structure's own four bytes
+-- read as zero, stored little-endian.
 -- Assumes nothing.
 use mathlib.Core.Bool.{Bool, _&&_}
 use mathlib.Core.List.{List}

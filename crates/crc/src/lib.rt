@@ -55,7 +55,9 @@ pub struct Stamped {
 // Stores the checksum of `buf` at `off`, and says whether it stood there already; 27 where its four bytes don't lie inside, and then
 // nothing has changed.
 pub fn stamp(buf: &mut [u8], off: usize) -> Stamped
-    ensures { λ r. ⌜ (Put (off + 4) (stamped off (now (buf .entry))) (now (buf .entry)) (r .number) (now (buf .exit))) × (r .right ≡ (room (off + 4) (now (buf .entry)) && alreadyRight (off ∷ []) (now (buf .entry)) (stamped off (now (buf .entry))))) ⌝ }
+    ensures { λ r. ⌜ (Put (off + 4) (stamped off (now (buf .entry))) (now (buf .entry)) (r .number) (now (buf .exit)))
+        × (r .right ≡ (room (off + 4) (now (buf .entry))
+        && alreadyRight (off ∷ []) (now (buf .entry)) (stamped off (now (buf .entry))))) ⌝ }
 {
     if inside(buf.len(), off, 4) {
         let sum = !update_zeroed(START, buf, off);

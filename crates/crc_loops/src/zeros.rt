@@ -23,7 +23,8 @@ fn is_zero(s: &[u8], at: usize) -> bool
 
 // How many times 64 zeros stand at the end, up to 511.
 pub(crate) fn trim(s: &[u8]) -> usize
-    ensures { λ r. ⌜ (r < 512) × ((r * 64 ≤ length (now (s .entry))) × (drop (length (now (s .entry)) - r * 64) (now (s .entry)) ≡ replicate (r * 64) 0)) ⌝ }
+    ensures { λ r. ⌜ (r < 512) × ((r * 64 ≤ length (now (s .entry)))
+        × (drop (length (now (s .entry)) - r * 64) (now (s .entry)) ≡ replicate (r * 64) 0)) ⌝ }
 {
     let mut at = s.len();
     let mut n = 0;

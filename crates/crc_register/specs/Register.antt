@@ -1,4 +1,5 @@
--- The register of CRC32C, a bit at a time (RFC 3720, 12.1). The lowest bit of a byte goes first, so the polynomial's bits stand in reverse order.
+-- The register of CRC32C, a bit at a time (RFC 3720, 12.1). The lowest bit of a byte goes first, so the polynomial's bits stand in reverse
+-- order.
 -- Assumes nothing.
 use mathlib.Core.List.{List, [], _∷_}
 use Prim.Native.Nat.{ℕ, zero, suc, _+_, _*_, _/_, _%_, _^_}
@@ -14,7 +15,8 @@ reflected (suc n) v = v % 2 * 2 ^ n + reflected n (v / 2)
 abbrev pub polynomial : ℕ
 polynomial = reflected 32 0x1edc_6f41
 
--- The register `c` takes in a bit, the lowest of `b`: it goes down by a bit, and where the bit that falls out and the new one differ, the polynomial is added.
+-- The register `c` takes in a bit, the lowest of `b`: it goes down by a bit, and where the bit that falls out and the new one differ, the
+-- polynomial is added.
 unfoldable pub crcBit : ℕ → ℕ → ℕ
 crcBit c b = bitXor (c / 2) ((c + b) % 2 * polynomial)
 

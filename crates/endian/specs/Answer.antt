@@ -1,4 +1,5 @@
--- What a function answers that writes into a lent buffer or reads from it: 0, or 27 where the bytes don't lie inside; then nothing has changed.
+-- What a function answers that writes into a lent buffer or reads from it: 0, or 27 where the bytes don't lie inside; then nothing has
+-- changed.
 -- Assumes nothing.
 use mathlib.Core.Path.{_≡_}
 use mathlib.Core.List.{List}

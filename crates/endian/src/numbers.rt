@@ -1,4 +1,5 @@
-// One number into a lent buffer, and out of it, the highest byte first. The width is a parameter of the loops, and every width shares their proofs.
+// One number into a lent buffer, and out of it, the highest byte first. The width is a parameter of the loops, and every width shares their
+// proofs.
 ghost use mathlib.Core.Path.{_≡_};
 ghost use Prim.Native.Nat.{_+_, _≤_, _<_, _^_};
 ghost use lib.ListN.{length};

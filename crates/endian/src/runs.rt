@@ -23,7 +23,8 @@ fn copy(buf: &mut [u8], off: usize, src: &[u8])
 
 // The bytes of `src`.
 pub fn put_bytes(buf: &mut [u8], off: usize, src: &[u8]) -> u32
-    ensures { λ r. ⌜ Put (off + length (now (src .entry))) (patch off (now (src .entry)) (now (buf .entry))) (now (buf .entry)) r (now (buf .exit)) ⌝ }
+    ensures { λ r. ⌜ Put (off + length (now (src .entry))) (patch off (now (src .entry)) (now (buf .entry))) (now (buf .entry)) r
+        (now (buf .exit)) ⌝ }
 {
     if inside(buf.len(), off, src.len()) {
         copy(buf, off, src);
@@ -67,7 +68,8 @@ fn store32_run(buf: &mut [u8], off: usize, v: &[u32])
 
 // The numbers `v` one after the other, each in 4 bytes.
 pub fn put32_run(buf: &mut [u8], off: usize, v: &[u32]) -> u32
-    ensures { λ r. ⌜ Put (off + 4 * length (now (v .entry))) (patch off (numbersBytes 4 (now (v .entry))) (now (buf .entry))) (now (buf .entry)) r (now (buf .exit)) ⌝ }
+    ensures { λ r. ⌜ Put (off + 4 * length (now (v .entry))) (patch off (numbersBytes 4 (now (v .entry))) (now (buf .entry)))
+        (now (buf .entry)) r (now (buf .exit)) ⌝ }
 {
     if v.len() <= buf.len() / 4 {
         if inside(buf.len(), off, 4 * v.len()) {

@@ -1,5 +1,5 @@
-// Little-endian numbers in a lent buffer, as endian has big-endian ones: checksums are stored so. The width is a parameter of the loops, and
-// every width shares their proofs. The Rust's bytes.rs.
+// Little-endian numbers in a lent buffer, as endian has big-endian ones: checksums are stored so. The width is a parameter of the loops,
+// and every width shares their proofs. The Rust's bytes.rs.
 ghost use mathlib.Core.Path.{_≡_};
 ghost use Prim.Native.Nat.{_+_, _≤_, _<_, _^_};
 ghost use lib.ListN.{length};

@@ -31,7 +31,8 @@ withGroups p s a g =
       groups = g;
       imaxpct = imaxpctOf (p .imaxpct) (s .block) (g .dblocks);
       prealloc = preallocOf (p .features) (s .sector) (s .block);
-      log = logBlocks (g .dblocks) (logLimit (p .roomy) (p .features) (g .dblocks) (g .agsize) (g .agcount) (preallocOf (p .features) (s .sector) (s .block))) (s .block);
+      log = logBlocks (g .dblocks) (logLimit (p .roomy) (p .features) (g .dblocks) (g .agsize) (g .agcount)
+          (preallocOf (p .features) (s .sector) (s .block))) (s .block);
     }
 
 -- the groups that the options ask for on a device, for chosen sizes
@@ -53,9 +54,11 @@ unfoldable pub refusals : Params → ℕ → Chosen → List Refusal
 refusals p device c =
     inobtcountAlone if (p .features .inobtcount && not (p .features .finobt))
     ∷ (sizesRefusals (c .sizes .block) (c .sizes .sector) (c .sizes .inode) (c .sizes .logical)
-    ++ optionsRefusals (p .agsize) (p .agcount) (c .sizes .block) (device / c .sizes .block) (c .asked .dblocks) (isShort (c .asked) (minGroup (c .sizes .block)))
+    ++ optionsRefusals (p .agsize) (p .agcount) (c .sizes .block) (device / c .sizes .block) (c .asked .dblocks)
+    (isShort (c .asked) (minGroup (c .sizes .block)))
     ++ groupsRefusals (c .sizes .block) (c .groups .dblocks) (c .groups .agsize) (c .groups .agcount)
-    ++ lastRefusals (c .imaxpct) (p .label .length) (c .sizes .block) (c .groups .dblocks) (c .groups .agsize) (c .groups .agcount) (c .log))
+    ++ lastRefusals (c .imaxpct) (p .label .length) (c .sizes .block) (c .groups .dblocks) (c .groups .agsize)
+    (c .groups .agcount) (c .log))
 
 -- the smallest number that applies, 0 for none
 unfoldable pub refusalOf : Params → ℕ → Chosen → ℕ

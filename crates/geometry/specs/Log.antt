@@ -26,10 +26,12 @@ preallocOf f sector bs = headerOf sector bs + 3 + bit (f .finobt) + bit (f .rmap
 unfoldable pub freelistOf : Features → ℕ
 freelistOf f = when (f .rmapbt) rmapFreelist plainFreelist
 
--- the log's upper limit: in roomy sizing the log group's own length less head and the larger of 5 and the free list, else agsize less head and 5
+-- the log's upper limit: in roomy sizing the log group's own length less head and the larger of 5 and the free list, else agsize less head
+-- and 5
 unfoldable pub logLimit : Bool → Features → ℕ → ℕ → ℕ → ℕ → ℕ
 logLimit roomy f dblocks agsize agcount prealloc =
-    when roomy (groupBlocks dblocks agsize agcount (agcount / 2) - prealloc - max logReserve (freelistOf f)) (agsize - prealloc - logReserve)
+    when roomy (groupBlocks dblocks agsize agcount (agcount / 2) - prealloc - max logReserve (freelistOf f))
+    (agsize - prealloc - logReserve)
 
 -- the log: a 2048th of the blocks, at least 64 MiB, at most the limit, 1,048,576 blocks and 2,136,997,888 bytes
 unfoldable pub logBlocks : ℕ → ℕ → ℕ → ℕ

@@ -18,10 +18,12 @@ use Rattle.geometry_answers.specs.declared.Named.{Named}
 use Rattle.geometry.specs.declared.Geometry.{Geometry}
 use Rattle.geometry.specs.declared.Computed.{Computed}
 
--- block, sector and inode size, agsize, imaxpct, label and features are given, size and agcount absent; a superblock doesn't name the sizing
+-- block, sector and inode size, agsize, imaxpct, label and features are given, size and agcount absent; a superblock doesn't name the
+-- sizing
 unfoldable pub namedOptions : Bool → Named → Params
 namedOptions roomy n =
-    options Absent (Given32 (n .blocksize)) (Given32 (n .sectsize)) (Given32 (n .inodesize)) Absent (Given (n .agsize * n .blocksize)) (Given8 (n .imaxpct))
+    options Absent (Given32 (n .blocksize)) (Given32 (n .sectsize)) (Given32 (n .inodesize)) Absent (Given (n .agsize * n .blocksize))
+    (Given8 (n .imaxpct))
     (record { length = labelRoom; bytes = n .label }) noUuid AbsentTime Absent (n .features) roomy
 
 -- what the geometry step answers for them on a device of the block count's bytes, with logical sector 512

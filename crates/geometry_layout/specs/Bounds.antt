@@ -57,12 +57,14 @@ pub record PlaceBounds (g : Geometry) : Type 0 where
   pub log-blocks : g .logblocks ≤ maxLogBlocks
   -- the log fits a whole group, with 5 blocks to spare; in roomy sizing its own, with room for the free list
   pub log-room : g .«log_agbno» + g .logblocks + logReserve ≤ g .agsize
-  pub log-roomy : g .roomy ≡ true → g .«log_agbno» + g .logblocks + freelistOf (g .features) ≤ groupBlocks (g .dblocks) (g .agsize) (g .agcount) (g .logagno)
+  pub log-roomy : g .roomy ≡ true → g .«log_agbno» + g .logblocks + freelistOf (g .features)
+      ≤ groupBlocks (g .dblocks) (g .agsize) (g .agcount) (g .logagno)
   -- a chunk and a cluster have at most 32 blocks
   pub chunk-most : chunkOf (g .inodesize) (g .blocksize) ≤ 32
   pub cluster-most : clusterOf (g .inodesize) (g .blocksize) ≤ 32
   -- the root chunk lies in group 0, after head and free list
-  pub chunk-after : preallocOf (g .features) (g .sectsize) (g .blocksize) + freelistOf (g .features) ≤ rootChunkOf (g .features) (g .sectsize) (g .inodesize) (g .blocksize)
+  pub chunk-after : preallocOf (g .features) (g .sectsize) (g .blocksize) + freelistOf (g .features)
+      ≤ rootChunkOf (g .features) (g .sectsize) (g .inodesize) (g .blocksize)
   pub chunk-room : rootChunkOf (g .features) (g .sectsize) (g .inodesize) (g .blocksize) + chunkOf (g .inodesize) (g .blocksize) ≤ 80
   pub chunk-inside : 80 ≤ g .agsize
 

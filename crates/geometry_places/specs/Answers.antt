@@ -44,7 +44,8 @@ placeRefusal g k b =
 -- the group, its block, or the slot is not there
 unfoldable pub slotRefusal : Geometry → ℕ → ℕ → ℕ → ℕ
 slotRefusal g k b slot =
-    first (noAnswer if not (isAnswer g) ∷ noPlace if not (isPlace (g .dblocks) (g .agsize) (g .agcount) k b) ∷ noPlace if leb (g .inopblock) slot ∷ []) 0
+    first (noAnswer if not (isAnswer g) ∷ noPlace if not (isPlace (g .dblocks) (g .agsize) (g .agcount) k b)
+    ∷ noPlace if leb (g .inopblock) slot ∷ []) 0
 
 -- ---- conversions
 

@@ -48,7 +48,8 @@ cutChosen c =
       groups = c .groups;
       imaxpct = c .imaxpct;
       prealloc = c .prealloc;
-      log = cutLog (c .groups .agcount) (usableOf (c .groups .agsize) (c .prealloc) - 1) (chunkOf (c .sizes .inode) (c .sizes .block)) (c .log);
+      log = cutLog (c .groups .agcount) (usableOf (c .groups .agsize) (c .prealloc) - 1)
+          (chunkOf (c .sizes .inode) (c .sizes .block)) (c .log);
     }
 
 -- ---- the last tests

@@ -54,7 +54,8 @@ pub(crate) fn fill_head(
     head: &mut [u8],
 ) -> bool
     requires { ⌜ headRefusal g k (length (now head)) ≡ 0 ⌝ }
-    ensures { λ r. ⌜ (r ≡ alreadyRight (headPlaces g) (now (head .entry)) (headBytes g (planned·of g k .plan) uuid state)) × (now (head .exit) ≡ headBytes g (planned·of g k .plan) uuid state) ⌝ }
+    ensures { λ r. ⌜ (r ≡ alreadyRight (headPlaces g) (now (head .entry)) (headBytes g (planned·of g k .plan) uuid state))
+        × (now (head .exit) ≡ headBytes g (planned·of g k .plan) uuid state) ⌝ }
 {
     let planned = plan_ag(g, k);
     let plan = planned.plan;

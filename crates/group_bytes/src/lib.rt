@@ -37,7 +37,8 @@ pub fn head_length(f: Features, sector: u32, bs: u32) -> usize
 // The head of group k as it is written first: group 0's superblock is unfinished; and whether its checksums stood there already. 31, 25
 // where a plan is refused, 27 for another length than the head's, 29.
 pub fn head_written(g: Geometry, uuid: [u8; 16], k: u64, head: &mut [u8]) -> Stamped
-    ensures { λ r. ⌜ Encoded (headRefusal g k (length (now (head .entry)))) (headPlaces g) (headWritten g uuid k) (now (head .entry)) (r .number) (r .right) (now (head .exit)) ⌝ }
+    ensures { λ r. ⌜ Encoded (headRefusal g k (length (now (head .entry)))) (headPlaces g) (headWritten g uuid k) (now (head .entry))
+        (r .number) (r .right) (now (head .exit)) ⌝ }
 {
     let n = head_number(g, k, head.len());
     if n != 0 {
@@ -55,7 +56,8 @@ pub fn head_written(g: Geometry, uuid: [u8; 16], k: u64, head: &mut [u8]) -> Sta
 // The head of group k as a run leaves it: group 0's has the finished superblock; and whether its checksums stood there already. 31, 25,
 // 27, 29.
 pub fn head_left(g: Geometry, uuid: [u8; 16], k: u64, head: &mut [u8]) -> Stamped
-    ensures { λ r. ⌜ Encoded (headRefusal g k (length (now (head .entry)))) (headPlaces g) (headLeft g uuid k) (now (head .entry)) (r .number) (r .right) (now (head .exit)) ⌝ }
+    ensures { λ r. ⌜ Encoded (headRefusal g k (length (now (head .entry)))) (headPlaces g) (headLeft g uuid k) (now (head .entry))
+        (r .number) (r .right) (now (head .exit)) ⌝ }
 {
     let n = head_number(g, k, head.len());
     if n != 0 {

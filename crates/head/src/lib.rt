@@ -31,8 +31,10 @@ use sb::SbState;
 
 // Zeros in the header blocks, and the four sectors over them.
 fn put_headers(g: Geometry, s: SbState, w: Frame, p: AgPlan, uuid: &[u8; 16], buf: &mut [u8])
-    requires { ⌜ (isAnswer g ≡ true) × (w .sector ≡ g .sectsize) × (Fine w) × (Few p) × (w .header * w .block ≤ length (now buf)) × (Counted w p) ⌝ }
-    ensures { λ _. ⌜ now (buf .exit) ≡ sectorsOn w p (now (uuid .entry)) (sectorOn 0 (w .sector) (sbBytes g s) (patch 0 (replicate (w .header * w .block) 0) (now (buf .entry)))) ⌝ }
+    requires { ⌜ (isAnswer g ≡ true) × (w .sector ≡ g .sectsize) × (Fine w) × (Few p) × (w .header * w .block ≤ length (now buf))
+        × (Counted w p) ⌝ }
+    ensures { λ _. ⌜ now (buf .exit) ≡ sectorsOn w p (now (uuid .entry))
+        (sectorOn 0 (w .sector) (sbBytes g s) (patch 0 (replicate (w .header * w .block) 0) (now (buf .entry)))) ⌝ }
 {
     let header = (w.header as usize) * (w.block as usize);
     endian::put_same(buf, 0, header, 0);
@@ -66,7 +68,8 @@ struct Places {
 
 fn places_of(w: Frame) -> Places
     requires { ⌜ Fine w ⌝ }
-    ensures { λ r. ⌜ (take (r .len) (r .at) ≡ placesOf (w .header) (w .sector) (w .block) (w .features)) × (r .len ≤ 10) × (length (r .at) ≡ 10) ⌝ }
+    ensures { λ r. ⌜ (take (r .len) (r .at) ≡ placesOf (w .header) (w .sector) (w .block) (w .features)) × (r .len ≤ 10)
+        × (length (r .at) ≡ 10) ⌝ }
 {
     let f = w.features;
     let ss = w.sector as usize;
@@ -120,7 +123,8 @@ fn stand(p: Places, sums: &[u32], buf: &[u8]) -> bool
 // The whole head, for a plan of the planner, and whether its checksums stood there already: they are looked at before anything is zeroed.
 fn refill(g: Geometry, p: AgPlan, w: Frame, uuid: &[u8; 16], s: SbState, buf: &mut [u8]) -> bool
     requires { ⌜ (isPlan g p ≡ true) × (w ≡ frameOf g p) × (length (now buf) ≡ headLength g) ⌝ }
-    ensures { λ r. ⌜ (r ≡ alreadyRight (headPlaces g) (now (buf .entry)) (headBytes g p (now (uuid .entry)) s)) × (now (buf .exit) ≡ headBytes g p (now (uuid .entry)) s) ⌝ }
+    ensures { λ r. ⌜ (r ≡ alreadyRight (headPlaces g) (now (buf .entry)) (headBytes g p (now (uuid .entry)) s))
+        × (now (buf .exit) ≡ headBytes g p (now (uuid .entry)) s) ⌝ }
 {
     let places = places_of(w);
     let before = look(places, buf);
@@ -138,7 +142,8 @@ pub fn ag_head(
     state: SbState,
     buf: &mut [u8],
 ) -> Stamped
-    ensures { λ r. ⌜ Encoded (headNumber g plan (length (now (buf .entry)))) (headPlaces g) (headBytes g plan (now (uuid .entry)) state) (now (buf .entry)) (r .number) (r .right) (now (buf .exit)) ⌝ }
+    ensures { λ r. ⌜ Encoded (headNumber g plan (length (now (buf .entry)))) (headPlaces g) (headBytes g plan (now (uuid .entry)) state)
+        (now (buf .entry)) (r .number) (r .right) (now (buf .exit)) ⌝ }
 {
     let framed = frame_of(g, plan);
     let number = framed.number;

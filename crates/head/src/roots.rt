@@ -59,7 +59,8 @@ fn by_size(l: FreeList) -> FreeList
 // Free extents into block b.
 fn put_free(w: Frame, magic: u32, b: u32, uuid: &[u8; 16], l: FreeList, buf: &mut [u8])
     requires { ⌜ (Fine w) × (l .len ≤ 2) × (b ≤ 10) × (b * w .block + w .block ≤ length (now buf)) ⌝ }
-    ensures { λ _. ⌜ now (buf .exit) ≡ patch (b * w .block) (rootBytes w (now (uuid .entry)) magic b (recordsBytes allocBytes (freeOf l)) (l .len)) (now (buf .entry)) ⌝ }
+    ensures { λ _. ⌜ now (buf .exit) ≡ patch (b * w .block)
+        (rootBytes w (now (uuid .entry)) magic b (recordsBytes allocBytes (freeOf l)) (l .len)) (now (buf .entry)) ⌝ }
 {
     let bs = w.block as usize;
     let at = (b as usize) * bs;
@@ -91,7 +92,8 @@ fn put_chunk(w: Frame, magic: u32, b: u32, uuid: &[u8; 16], buf: &mut [u8])
 // Reverse mappings into block b.
 fn put_maps(w: Frame, magic: u32, b: u32, uuid: &[u8; 16], l: RmapList, buf: &mut [u8])
     requires { ⌜ (Fine w) × (l .len ≤ 8) × (b ≤ 10) × (b * w .block + w .block ≤ length (now buf)) ⌝ }
-    ensures { λ _. ⌜ now (buf .exit) ≡ patch (b * w .block) (rootBytes w (now (uuid .entry)) magic b (recordsBytes rmapBytes (rmapOf l)) (l .len)) (now (buf .entry)) ⌝ }
+    ensures { λ _. ⌜ now (buf .exit) ≡ patch (b * w .block)
+        (rootBytes w (now (uuid .entry)) magic b (recordsBytes rmapBytes (rmapOf l)) (l .len)) (now (buf .entry)) ⌝ }
 {
     let bs = w.block as usize;
     let at = (b as usize) * bs;
@@ -113,7 +115,8 @@ pub(crate) fn put_roots(w: Frame, p: AgPlan, uuid: &[u8; 16], buf: &mut [u8])
 
 fn put_fibt(w: Frame, uuid: &[u8; 16], buf: &mut [u8])
     requires { ⌜ (Fine w) × (w .features .finobt ≡ true → fibtBlock (w .header) * w .block + w .block ≤ length (now buf)) ⌝ }
-    ensures { λ _. ⌜ now (buf .exit) ≡ blockIf (w .features .finobt) (fibtBlock (w .header) * w .block) (inodeRoot w (now (uuid .entry)) finoMagic (fibtBlock (w .header))) (now (buf .entry)) ⌝ }
+    ensures { λ _. ⌜ now (buf .exit) ≡ blockIf (w .features .finobt) (fibtBlock (w .header) * w .block)
+        (inodeRoot w (now (uuid .entry)) finoMagic (fibtBlock (w .header))) (now (buf .entry)) ⌝ }
 {
     let f = w.features;
     if f.finobt {
@@ -122,8 +125,10 @@ fn put_fibt(w: Frame, uuid: &[u8; 16], buf: &mut [u8])
 }
 
 fn put_rmap(w: Frame, l: RmapList, uuid: &[u8; 16], buf: &mut [u8])
-    requires { ⌜ (Fine w) × (l .len ≤ 8) × (w .features .rmapbt ≡ true → rmapBlock (w .features) (w .header) * w .block + w .block ≤ length (now buf)) ⌝ }
-    ensures { λ _. ⌜ now (buf .exit) ≡ blockIf (w .features .rmapbt) (rmapBlock (w .features) (w .header) * w .block) (rmapRoot w (now (uuid .entry)) l) (now (buf .entry)) ⌝ }
+    requires { ⌜ (Fine w) × (l .len ≤ 8) × (w .features .rmapbt ≡ true
+        → rmapBlock (w .features) (w .header) * w .block + w .block ≤ length (now buf)) ⌝ }
+    ensures { λ _. ⌜ now (buf .exit) ≡ blockIf (w .features .rmapbt) (rmapBlock (w .features) (w .header) * w .block)
+        (rmapRoot w (now (uuid .entry)) l) (now (buf .entry)) ⌝ }
 {
     let f = w.features;
     if f.rmapbt {
@@ -135,7 +140,8 @@ fn put_rmap(w: Frame, l: RmapList, uuid: &[u8; 16], buf: &mut [u8])
 // Reference counts: a leaf without records.
 fn put_refc(w: Frame, uuid: &[u8; 16], buf: &mut [u8])
     requires { ⌜ (Fine w) × (w .features .reflink ≡ true → refcBlock (w .features) (w .header) * w .block + w .block ≤ length (now buf)) ⌝ }
-    ensures { λ _. ⌜ now (buf .exit) ≡ blockIf (w .features .reflink) (refcBlock (w .features) (w .header) * w .block) (refcRoot w (now (uuid .entry))) (now (buf .entry)) ⌝ }
+    ensures { λ _. ⌜ now (buf .exit) ≡ blockIf (w .features .reflink) (refcBlock (w .features) (w .header) * w .block)
+        (refcRoot w (now (uuid .entry))) (now (buf .entry)) ⌝ }
 {
     let f = w.features;
     if f.reflink {

@@ -126,7 +126,8 @@ fn put_agi(a: Agi, uuid: &[u8; 16], ss: usize, buf: &mut [u8])
 
 fn put_agfl(agno: u32, l: Agfl, uuid: &[u8; 16], ss: usize, buf: &mut [u8])
     requires { ⌜ (isSector ss ≡ true) × (l .len ≤ 64) × (3 * ss + ss ≤ length (now buf)) ⌝ }
-    ensures { λ _. ⌜ now (buf .exit) ≡ sectorOn (3 * ss) ss (agflBytes agno (now (uuid .entry)) 1 (take (l .len) (l .blocks))) (now (buf .entry)) ⌝ }
+    ensures { λ _. ⌜ now (buf .exit) ≡ sectorOn (3 * ss) ss (agflBytes agno (now (uuid .entry)) 1 (take (l .len) (l .blocks)))
+        (now (buf .entry)) ⌝ }
 {
     let at = 3 * ss;
     let blocks = l.blocks;

@@ -124,7 +124,8 @@ cntRoot w uuid free = rootBytes w uuid cntMagic (cntBlock (w .header)) (recordsB
 -- inodes, and free inodes: the root chunk, where the group has it
 unfoldable pub inodeRoot : Frame → List ℕ → ℕ → ℕ → List ℕ
 inodeRoot w uuid magic b =
-    rootBytes w uuid magic b (recordsBytes (inobtBytes (w .features .sparse)) (few (bit (w .«has_chunk»)) (chunkRec (w .newino)))) (bit (w .«has_chunk»))
+    rootBytes w uuid magic b (recordsBytes (inobtBytes (w .features .sparse)) (few (bit (w .«has_chunk»)) (chunkRec (w .newino))))
+    (bit (w .«has_chunk»))
 
 unfoldable pub rmapRoot : Frame → List ℕ → RmapList → List ℕ
 rmapRoot w uuid maps = rootBytes w uuid rmapMagic (rmapBlock (w .features) (w .header)) (recordsBytes rmapBytes (rmapOf maps)) (maps .len)

@@ -13,8 +13,8 @@ use Rattle.sb.specs.Superblock.{crcAt}
 use Rattle.geometry.specs.declared.Geometry.{Geometry}
 use Rattle.geometry.specs.Log.{headerOf}
 
--- superblock, AGF, AGI and free list, each in its sector; and the roots, each in its block behind the header blocks: three, and one more for
--- each of finobt, rmapbt and reflink
+-- superblock, AGF, AGI and free list, each in its sector; and the roots, each in its block behind the header blocks: three, and one more
+-- for each of finobt, rmapbt and reflink
 unfoldable pub placesOf : ℕ → ℕ → ℕ → Features → List ℕ
 placesOf header sector block f =
     crcAt

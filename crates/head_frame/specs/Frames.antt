@@ -46,10 +46,31 @@ frameOf g p =
     }
 
 abbrev pub noFeatures : Features
-noFeatures = record { finobt = false; rmapbt = false; reflink = false; inobtcount = false; bigtime = false; nrext64 = false; sparse = false }
+noFeatures = record {
+  finobt = false;
+  rmapbt = false;
+  reflink = false;
+  inobtcount = false;
+  bigtime = false;
+  nrext64 = false;
+  sparse = false;
+}
 
 abbrev pub noFrame : Frame
-noFrame = record { agno = 0; length = 0; header = 0; sector = 0; block = 0; agsize = 0; «has_chunk» = false; newino = 0; freeblks = 0; longest = 0; list = 0; features = noFeatures }
+noFrame = record {
+  agno = 0;
+  length = 0;
+  header = 0;
+  sector = 0;
+  block = 0;
+  agsize = 0;
+  «has_chunk» = false;
+  newino = 0;
+  freeblks = 0;
+  longest = 0;
+  list = 0;
+  features = noFeatures;
+}
 
 -- `frame_of`: 31, or the frame
 unfoldable pub framed : Geometry → AgPlan → Framed

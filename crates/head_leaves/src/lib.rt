@@ -39,7 +39,9 @@ fn put_free(
     block: &mut [u8],
 ) -> Stamped
     requires { ⌜ (l .len ≤ 64) × (length (now work) ≡ 1536) ⌝ }
-    ensures { λ r. ⌜ Encoded (leafNumber (8 * l .len) (length (now (block .entry)))) (leafCrcAt ∷ []) (leafBytes magic daddr agno (now (uuid .entry)) (recordsBytes allocBytes (take (l .len) (l .recs))) (l .len) (length (now (block .entry)))) (now (block .entry)) (r .number) (r .right) (now (block .exit)) ⌝ }
+    ensures { λ r. ⌜ Encoded (leafNumber (8 * l .len) (length (now (block .entry)))) (leafCrcAt ∷ [])
+        (leafBytes magic daddr agno (now (uuid .entry)) (recordsBytes allocBytes (take (l .len) (l .recs))) (l .len)
+        (length (now (block .entry)))) (now (block .entry)) (r .number) (r .right) (now (block .exit)) ⌝ }
 {
     let n = l.len;
     let used = ALLOC_REC * n;
@@ -57,7 +59,9 @@ pub fn free_leaf(
     l: FreeList,
     block: &mut [u8],
 ) -> Stamped
-    ensures { λ r. ⌜ Encoded (listNumber 8 (l .len) (length (now (block .entry)))) (leafCrcAt ∷ []) (leafBytes magic daddr agno (now (uuid .entry)) (recordsBytes allocBytes (take (l .len) (l .recs))) (l .len) (length (now (block .entry)))) (now (block .entry)) (r .number) (r .right) (now (block .exit)) ⌝ }
+    ensures { λ r. ⌜ Encoded (listNumber 8 (l .len) (length (now (block .entry)))) (leafCrcAt ∷ [])
+        (leafBytes magic daddr agno (now (uuid .entry)) (recordsBytes allocBytes (take (l .len) (l .recs))) (l .len)
+        (length (now (block .entry)))) (now (block .entry)) (r .number) (r .right) (now (block .exit)) ⌝ }
 {
     if !is_block(block.len()) {
         return Stamped {
@@ -85,7 +89,9 @@ fn put_maps(
     block: &mut [u8],
 ) -> Stamped
     requires { ⌜ (l .len ≤ 64) × (length (now work) ≡ 1536) ⌝ }
-    ensures { λ r. ⌜ Encoded (leafNumber (24 * l .len) (length (now (block .entry)))) (leafCrcAt ∷ []) (leafBytes magic daddr agno (now (uuid .entry)) (recordsBytes rmapBytes (take (l .len) (l .recs))) (l .len) (length (now (block .entry)))) (now (block .entry)) (r .number) (r .right) (now (block .exit)) ⌝ }
+    ensures { λ r. ⌜ Encoded (leafNumber (24 * l .len) (length (now (block .entry)))) (leafCrcAt ∷ [])
+        (leafBytes magic daddr agno (now (uuid .entry)) (recordsBytes rmapBytes (take (l .len) (l .recs))) (l .len)
+        (length (now (block .entry)))) (now (block .entry)) (r .number) (r .right) (now (block .exit)) ⌝ }
 {
     let n = l.len;
     let used = RMAP_REC * n;
@@ -103,7 +109,9 @@ pub fn rmap_leaf(
     l: RmapList,
     block: &mut [u8],
 ) -> Stamped
-    ensures { λ r. ⌜ Encoded (listNumber 24 (l .len) (length (now (block .entry)))) (leafCrcAt ∷ []) (leafBytes magic daddr agno (now (uuid .entry)) (recordsBytes rmapBytes (take (l .len) (l .recs))) (l .len) (length (now (block .entry)))) (now (block .entry)) (r .number) (r .right) (now (block .exit)) ⌝ }
+    ensures { λ r. ⌜ Encoded (listNumber 24 (l .len) (length (now (block .entry)))) (leafCrcAt ∷ [])
+        (leafBytes magic daddr agno (now (uuid .entry)) (recordsBytes rmapBytes (take (l .len) (l .recs))) (l .len)
+        (length (now (block .entry)))) (now (block .entry)) (r .number) (r .right) (now (block .exit)) ⌝ }
 {
     if !is_block(block.len()) {
         return Stamped {
@@ -146,7 +154,9 @@ fn put_chunk(
     block: &mut [u8],
 ) -> Stamped
     requires { ⌜ (n ≤ 64) × (length (now work) ≡ 1536) ⌝ }
-    ensures { λ r. ⌜ Encoded (leafNumber (16 * n) (length (now (block .entry)))) (leafCrcAt ∷ []) (leafBytes magic daddr agno (now (uuid .entry)) (recordsBytes (inobtBytes sparse) (few n (chunkRec startino))) n (length (now (block .entry)))) (now (block .entry)) (r .number) (r .right) (now (block .exit)) ⌝ }
+    ensures { λ r. ⌜ Encoded (leafNumber (16 * n) (length (now (block .entry)))) (leafCrcAt ∷ [])
+        (leafBytes magic daddr agno (now (uuid .entry)) (recordsBytes (inobtBytes sparse) (few n (chunkRec startino))) n
+        (length (now (block .entry)))) (now (block .entry)) (r .number) (r .right) (now (block .exit)) ⌝ }
 {
     let used = INOBT_REC * n;
     let rec = chunk_rec(startino);
@@ -166,7 +176,9 @@ pub fn chunk_leaf(
     sparse: bool,
     block: &mut [u8],
 ) -> Stamped
-    ensures { λ r. ⌜ Encoded (leafNumber (16 * bit there) (length (now (block .entry)))) (leafCrcAt ∷ []) (leafBytes magic daddr agno (now (uuid .entry)) (recordsBytes (inobtBytes sparse) (few (bit there) (chunkRec startino))) (bit there) (length (now (block .entry)))) (now (block .entry)) (r .number) (r .right) (now (block .exit)) ⌝ }
+    ensures { λ r. ⌜ Encoded (leafNumber (16 * bit there) (length (now (block .entry)))) (leafCrcAt ∷ [])
+        (leafBytes magic daddr agno (now (uuid .entry)) (recordsBytes (inobtBytes sparse) (few (bit there) (chunkRec startino))) (bit there)
+        (length (now (block .entry)))) (now (block .entry)) (r .number) (r .right) (now (block .exit)) ⌝ }
 {
     let n = bit_of(there) as usize;
     let mut work = record_buffer();

@@ -47,7 +47,9 @@ raw flags2 t = timeRaw (isBig flags2) (t .secs) (t .nsecs)
 -- 26 where one of the four times can't be stored, else what follows
 unfoldable pub timesNumber : ℕ → Timestamp → Timestamp → Timestamp → Timestamp → ℕ → ℕ
 timesNumber flags2 a m c r rest =
-    require timeOutOfRange (timeStorable flags2 a) (require timeOutOfRange (timeStorable flags2 m) (require timeOutOfRange (timeStorable flags2 c) (require timeOutOfRange (timeStorable flags2 r) rest)))
+    require timeOutOfRange (timeStorable flags2 a)
+    (require timeOutOfRange (timeStorable flags2 m)
+    (require timeOutOfRange (timeStorable flags2 c) (require timeOutOfRange (timeStorable flags2 r) rest)))
 
 -- an inode's length, with the data inside
 unfoldable pub dinodeNumber : Dinode → ℕ → ℕ → ℕ
@@ -92,7 +94,8 @@ coreFields mode format nlink atime mtime ctime size flags generation changecount
 
 unfoldable pub dinodeFields : Dinode → List ℕ → List ℕ → List Field
 dinodeFields d forkData uuid =
-    coreFields (d .mode) (d .format) (d .nlink) (raw (d .flags2) (d .atime)) (raw (d .flags2) (d .mtime)) (raw (d .flags2) (d .ctime)) (d .size) (d .flags) (d .generation) (d .changecount)
+    coreFields (d .mode) (d .format) (d .nlink) (raw (d .flags2) (d .atime)) (raw (d .flags2) (d .mtime)) (raw (d .flags2) (d .ctime))
+    (d .size) (d .flags) (d .generation) (d .changecount)
     (d .flags2) (raw (d .flags2) (d .crtime)) (d .ino)
     ++ (byteRun 160 uuid  -- di_uuid
     ∷ byteRun coreSize forkData  -- the data fork

@@ -176,7 +176,9 @@ fn put_core(
     t: Times,
 )
     requires { ⌜ 512 ≤ length (now slot) ⌝ }
-    ensures { λ _. ⌜ now (slot .exit) ≡ writeFields (coreFields mode format nlink (t .atime) (t .mtime) (t .ctime) size flags generation changecount flags2 (t .crtime) ino) (now (slot .entry)) ⌝ }
+    ensures { λ _. ⌜ now (slot .exit) ≡ writeFields
+        (coreFields mode format nlink (t .atime) (t .mtime) (t .ctime) size flags generation changecount flags2 (t .crtime) ino)
+        (now (slot .entry)) ⌝ }
 {
     let at: [usize; 36] = [
         off::MAGIC,
@@ -243,7 +245,9 @@ impl Dinode {
     // The named bytes, the data fork, and the checksum over the slot, and whether that stood there already; every other byte stays. 26
     // where a time is out of range, 27 unless the slot is an inode with room for the data.
     pub fn encode(self, data: &[u8], uuid: &[u8; 16], slot: &mut [u8]) -> Stamped
-        ensures { λ r. ⌜ Encoded (dinodeNumber self (length (now («data» .entry))) (length (now (slot .entry)))) (inodeCrcAt ∷ []) (dinodeBytes self (now («data» .entry)) (now (uuid .entry)) (now (slot .entry))) (now (slot .entry)) (r .number) (r .right) (now (slot .exit)) ⌝ }
+        ensures { λ r. ⌜ Encoded (dinodeNumber self (length (now («data» .entry))) (length (now (slot .entry)))) (inodeCrcAt ∷ [])
+            (dinodeBytes self (now («data» .entry)) (now (uuid .entry)) (now (slot .entry))) (now (slot .entry)) (r .number) (r .right)
+            (now (slot .exit)) ⌝ }
     {
         let atime = self.atime;
         let mtime = self.mtime;
@@ -285,7 +289,8 @@ impl Dinode {
 // An inode that was never allocated: magic, version, generation, no next unlinked inode, its number and the UUID, and whether the
 // checksum stood there already.
 pub fn encode_free(ino: u64, generation: u32, uuid: &[u8; 16], slot: &mut [u8]) -> Stamped
-    ensures { λ r. ⌜ Encoded (freeNumber (length (now (slot .entry)))) (inodeCrcAt ∷ []) (freeBytes ino generation (now (uuid .entry)) (now (slot .entry))) (now (slot .entry)) (r .number) (r .right) (now (slot .exit)) ⌝ }
+    ensures { λ r. ⌜ Encoded (freeNumber (length (now (slot .entry)))) (inodeCrcAt ∷ [])
+        (freeBytes ino generation (now (uuid .entry)) (now (slot .entry))) (now (slot .entry)) (r .number) (r .right) (now (slot .exit)) ⌝ }
 {
     if !is_inode(slot.len()) {
         return Stamped {

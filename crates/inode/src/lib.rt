@@ -1,4 +1,5 @@
-// Inodes on disk: an allocated one, a free one, and the data of an empty directory. The Rust's structs/inode.rs; crate inode_time has its times.
+// Inodes on disk: an allocated one, a free one, and the data of an empty directory. The Rust's structs/inode.rs; crate inode_time has its
+// times.
 pub mod dinode; // `struct xfs_dinode`
 pub mod directory; // an empty directory within its inode
 

@@ -54,7 +54,8 @@ fn refused() -> Stored
 // With bigtime.
 fn encode_big(shifted: u64, nsecs: u64) -> Stored
     requires { ⌜ (shifted ≤ 18446744073) × (nsecs < 1000000000) ⌝ }
-    ensures { λ r. ⌜ (r .number ≡ require timeOutOfRange (ltb (shifted * 1000000000 + nsecs) (2 ^ 64)) 0) × (r .value ≡ valueIf (ltb (shifted * 1000000000 + nsecs) (2 ^ 64)) (shifted * 1000000000 + nsecs)) ⌝ }
+    ensures { λ r. ⌜ (r .number ≡ require timeOutOfRange (ltb (shifted * 1000000000 + nsecs) (2 ^ 64)) 0)
+        × (r .value ≡ valueIf (ltb (shifted * 1000000000 + nsecs) (2 ^ 64)) (shifted * 1000000000 + nsecs)) ⌝ }
 {
     if shifted < 18446744073 {
         return Stored {
@@ -74,7 +75,8 @@ fn encode_big(shifted: u64, nsecs: u64) -> Stored
 // Without bigtime.
 fn encode_small(shifted: u64, nsecs: u64) -> Stored
     requires { ⌜ (shifted ≤ 18446744073) × (nsecs < 1000000000) ⌝ }
-    ensures { λ r. ⌜ (r .number ≡ require timeOutOfRange (ltb shifted (2 ^ 32)) 0) × (r .value ≡ valueIf (ltb shifted (2 ^ 32)) ((shifted + 2147483648) % 2 ^ 32 * 2 ^ 32 + nsecs)) ⌝ }
+    ensures { λ r. ⌜ (r .number ≡ require timeOutOfRange (ltb shifted (2 ^ 32)) 0)
+        × (r .value ≡ valueIf (ltb shifted (2 ^ 32)) ((shifted + 2147483648) % 2 ^ 32 * 2 ^ 32 + nsecs)) ⌝ }
 {
     if 4294967295 < shifted {
         return refused();

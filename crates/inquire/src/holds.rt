@@ -1,5 +1,5 @@
-// `inquire holds GROUP CALL..`: what holding runs of blocks back and giving them back leaves of a group's free records, of the disk that input
-// records on standard input ask for. The words and the calls are those of `inquire_holds`, the lines those of `table_lines`.
+// `inquire holds GROUP CALL..`: what holding runs of blocks back and giving them back leaves of a group's free records, of the disk that
+// input records on standard input ask for. The words and the calls are those of `inquire_holds`, the lines those of `table_lines`.
 use crate::output::say_refused;
 use crate::output::write_line;
 use crate::words::take_word;

@@ -1,5 +1,5 @@
-// What the lines of `inquire` are made of, written into a lent buffer: a word and a number, or a word alone. As in table_lines: 0 and where the
-// bytes end, or 27 where they don't fit, and then nothing has changed.
+// What the lines of `inquire` are made of, written into a lent buffer: a word and a number, or a word alone. As in table_lines: 0 and where
+// the bytes end, or 27 where they don't fit, and then nothing has changed.
 ghost use mathlib.Core.Path.{_≡_};
 ghost use Rattle.refusals.specs.Numbers.{wrongLength};
 ghost use Rattle.seqs.specs.Lists.{choose};

@@ -61,7 +61,8 @@ rangeOf number from to =
 unfoldable pub optionsNumber : Params → ℕ → ℕ → ℕ
 optionsNumber p logical physical =
     let s = sizesOf p logical physical in
-    first (inobtcountAlone if (p .features .inobtcount && not (p .features .finobt)) ∷ sizesRefusals (s .block) (s .sector) (s .inode) (s .logical)) 0
+    first (inobtcountAlone if (p .features .inobtcount && not (p .features .finobt))
+    ∷ sizesRefusals (s .block) (s .sector) (s .inode) (s .logical)) 0
 
 -- the most blocks between the ends
 abbrev pub mostApart : ℕ
@@ -108,4 +109,5 @@ pub record Smallest (p : Params) (logical physical smallest largest n m : ℕ) :
   pub number : blocksNumber p logical physical n ≡ m
   pub refused : m ≡ 0 → ⊥
   -- all smaller sizes of the range are formatted, whole blocks or not
-  pub before : (device : ℕ) → smallest / blockBytes p ≤ device / blockBytes p → device / blockBytes p < n → FormattedSize p logical physical device
+  pub before : (device : ℕ) → smallest / blockBytes p ≤ device / blockBytes p → device / blockBytes p < n
+      → FormattedSize p logical physical device

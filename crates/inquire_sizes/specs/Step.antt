@@ -1,5 +1,5 @@
--- One size in plain numbers, as the code works it out: what the size has no part in is worked out once. `step-is` (proofs/Numbered.antt) says
--- that this is the size's number.
+-- One size in plain numbers, as the code works it out: what the size has no part in is worked out once. `step-is` (proofs/Numbered.antt)
+-- says that this is the size's number.
 -- Assumes nothing.
 use mathlib.Core.Bool.{not, false, _&&_}
 use mathlib.Core.List.{List, [], _∷_}
@@ -52,7 +52,8 @@ earlyNumber agsize agcount bs = first (optionsRefusals agsize agcount bs (minGro
 
 -- 19 and 20; an absent imaxpct is at most 25 on any disk
 unfoldable pub lateNumber : OptU8 → ℕ → ℕ → ℕ
-lateNumber imaxpct label bs = first (imaxpctAbove100 if ltb maxImaxpct (imaxpctOf imaxpct bs 0) ∷ labelTooLong if ltb labelRoom label ∷ []) 0
+lateNumber imaxpct label bs = first (imaxpctAbove100 if ltb maxImaxpct (imaxpctOf imaxpct bs 0)
+    ∷ labelTooLong if ltb labelRoom label ∷ []) 0
 
 unfoldable pub fixedWith : Params → ℕ → ℕ → Fixed
 fixedWith p sector bs =
@@ -90,7 +91,8 @@ groupsAt f d = groupsWith (f .limits) d (f .agsize) (f .agcount)
 
 unfoldable pub logAt : Fixed → Groups → ℕ
 logAt f g =
-    min (min (min (max (g .dblocks / logRatio) (f .limits .«least_log»)) (logLimit (f .roomy) (f .features) (g .dblocks) (g .agsize) (g .agcount) (f .head))) maxLogBlocks) (f .limits .«most_log»)
+    min (min (min (max (g .dblocks / logRatio) (f .limits .«least_log»))
+    (logLimit (f .roomy) (f .features) (g .dblocks) (g .agsize) (g .agcount) (f .head))) maxLogBlocks) (f .limits .«most_log»)
 
 -- groups that are asked for, those without a short last one, and their log
 abbrev pub atWith : Fixed → Groups → At
@@ -128,7 +130,8 @@ diskRefusals f g log =
 -- 9 to 25 of a device of n blocks
 unfoldable pub numberWith : Fixed → ℕ → At → ℕ
 numberWith f n c =
-    first (sizeRefusals f n c) (orNext (f .early) (first (groupRefusals f c) (orNext (f .late) (first (diskRefusals f (c .groups) (c .log)) 0))))
+    first (sizeRefusals f n c) (orNext (f .early)
+    (first (groupRefusals f c) (orNext (f .late) (first (diskRefusals f (c .groups) (c .log)) 0))))
 
 unfoldable pub numberAt : Fixed → ℕ → ℕ
 numberAt f n = numberWith f n (atOf f n)

@@ -82,7 +82,8 @@ fn scan(f: Fixed, from: u64, to: u64) -> Range
     }
 }
 
-// Whether every device size from the smallest to the largest is formatted with these options and sectors. Time and profile aren't looked at.
+// Whether every device size from the smallest to the largest is formatted with these options and sectors. Time and profile aren't looked
+// at.
 pub fn sizes(p: Params, logical: u32, physical: u32, smallest: u64, largest: u64) -> Range
     ensures { λ r. ⌜ r ≡ sizesAnswer p logical physical smallest largest ⌝ }
 {

@@ -27,7 +27,8 @@ use Rattle.inquire_smallest.specs.declared.Found.{Found}
 -- agsize and agcount are left to default: given ones are as if absent
 abbrev pub defaultGroups : Params → Params
 defaultGroups p =
-    options (p .size) (p .«block_size») (p .«sector_size») (p .«inode_size») Absent Absent (p .imaxpct) (p .label) (p .uuid) (p .time) (p .«gen_seed») (p .features) (p .roomy)
+    options (p .size) (p .«block_size») (p .«sector_size») (p .«inode_size») Absent Absent (p .imaxpct) (p .label) (p .uuid) (p .time)
+    (p .«gen_seed») (p .features) (p .roomy)
 
 -- ---- one size
 
@@ -37,7 +38,8 @@ freeOnDevice p logical physical device = finishedState (computeDef p device logi
 
 -- the size is a candidate, one that geometry and planning accept, and it has at least so many free blocks
 unfoldable pub reaches : Params → ℕ → ℕ → ℕ → ℕ → Bool
-reaches p logical physical wanted device = eqb (sizeNumber p logical physical device) 0 && leb wanted (freeOnDevice p logical physical device)
+reaches p logical physical wanted device = eqb (sizeNumber p logical physical device) 0
+    && leb wanted (freeOnDevice p logical physical device)
 
 -- ---- the sizes
 
@@ -92,7 +94,8 @@ smallestAsked input start count wanted =
 -- no candidate among the first n sizes reaches the count
 abbrev pub NoneBelow : Params → ℕ → ℕ → ℕ → ℕ → ℕ → Type 0
 NoneBelow p logical physical start wanted n =
-    (i : ℕ) → i < n → FormattedSize (defaultGroups p) logical physical (sizeTried start i) → freeOnDevice (defaultGroups p) logical physical (sizeTried start i) < wanted
+    (i : ℕ) → i < n → FormattedSize (defaultGroups p) logical physical (sizeTried start i)
+    → freeOnDevice (defaultGroups p) logical physical (sizeTried start i) < wanted
 
 -- a size is the smallest candidate that reaches the count
 pub record SmallestSize (p : Params) (logical physical start count wanted size : ℕ) : Type 0 where

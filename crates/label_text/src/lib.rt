@@ -68,7 +68,8 @@ fn store_byte(b: u8, buf: &mut [u8], end: usize) -> usize
 // The same before a text of 48 − `end` bytes.
 fn store_before(b: u8, buf: &mut [u8], end: usize) -> usize
     requires { ⌜ (4 ≤ end) × (end ≤ 48) × (length (now buf) ≡ 48) ⌝ }
-    ensures { λ r. ⌜ (r + length (shownByte b (48 - end)) ≡ end) × (now (buf .exit) ≡ patch r (shownByte b (48 - end)) (now (buf .entry))) ⌝ }
+    ensures { λ r. ⌜ (r + length (shownByte b (48 - end)) ≡ end)
+        × (now (buf .exit) ≡ patch r (shownByte b (48 - end)) (now (buf .entry))) ⌝ }
 {
     if b == 0 {
         if end == 48 {
@@ -82,7 +83,8 @@ fn store_before(b: u8, buf: &mut [u8], end: usize) -> usize
 // Stores the text of a label at the end of the buffer, from its last byte to its first; says where it begins.
 fn store_label(label: &[u8], buf: &mut [u8]) -> usize
     requires { ⌜ (length (now label) ≡ 12) × (length (now buf) ≡ 48) ⌝ }
-    ensures { λ r. ⌜ (r + length (labelText (now (label .entry))) ≡ 48) × (now (buf .exit) ≡ patch r (labelText (now (label .entry))) (now (buf .entry))) ⌝ }
+    ensures { λ r. ⌜ (r + length (labelText (now (label .entry))) ≡ 48)
+        × (now (buf .exit) ≡ patch r (labelText (now (label .entry))) (now (buf .entry))) ⌝ }
 {
     let mut at = 48;
     let mut i = 12;

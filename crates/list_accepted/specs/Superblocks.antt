@@ -54,7 +54,8 @@ changedByte i = eqb i markAt || (leb crcAt i && ltb i crcEnd)
 unfoldable pub leftIn : Run → ℕ → List ℕ
 leftIn run k = headLeft (run .geometry) (run .uuid) k
 
--- the root inode is named by the superblocks of group 0, of the last group and, above 2 groups, of group (agcount − 1) / 2; the others name none
+-- the root inode is named by the superblocks of group 0, of the last group and, above 2 groups, of group (agcount − 1) / 2; the others name
+-- none
 unfoldable pub rootNamed : Geometry → ℕ → ℕ
 rootNamed g k = when (eqb k 0 || namesRoot (g .agcount) k) (rootIno g) null64
 

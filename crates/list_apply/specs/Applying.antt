@@ -47,7 +47,17 @@ firstDone = 4
 -- the limit, how it stands with the first record, the record in hand, the flushes before it, and what is left of it
 abbrev pub state : ℕ → ℕ → ℕ → Bool → ℕ → ℕ → ℕ → ℕ → ℕ → State
 state limit first stop marked ordinal flushes kind at left =
-    record { stop = stop; marked = marked; ordinal = ordinal; flushes = flushes; kind = kind; at = at; left = left; limit = limit; first = first }
+    record {
+      stop = stop;
+      marked = marked;
+      ordinal = ordinal;
+      flushes = flushes;
+      kind = kind;
+      at = at;
+      left = left;
+      limit = limit;
+      first = first;
+    }
 
 -- before the first record
 abbrev pub applyingBegun : ℕ → State
@@ -139,7 +149,8 @@ acceptedBy a flushes kind at len =
 unfoldable pub putPiece : State → ℕ → Step
 putPiece a n =
     record {
-      applying = state (a .limit) (a .first) goesOn false (followingOf (a .ordinal) (a .left - n)) (a .flushes) (a .kind) ((a .at + n) % 2 ^ 64) (a .left - n);
+      applying = state (a .limit) (a .first) goesOn false (followingOf (a .ordinal) (a .left - n)) (a .flushes) (a .kind)
+          ((a .at + n) % 2 ^ 64) (a .left - n);
       action = a .kind;
       at = a .at;
       len = n;

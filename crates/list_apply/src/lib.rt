@@ -1,6 +1,7 @@
 // A list of written records, taken up piece by piece, as a state by value: it says how many bytes it wants next, is fed with them, and says
-// what is to be done: a flush, zeros, or the bytes just fed. The first record that can't be applied ends it. Zeros of the first record wait until
-// the next record's head is known to be in order, and then a flush follows them: a list of which one of the two doesn't fit changes nothing.
+// what is to be done: a flush, zeros, or the bytes just fed. The first record that can't be applied ends it. Zeros of the first record wait
+// until the next record's head is known to be in order, and then a flush follows them: a list of which one of the two doesn't fit changes
+// nothing.
 ghost use mathlib.Core.Path.{_≡_};
 ghost use Rattle.list_apply.specs.Applying.{applyingBegun, headNext, headBytesWanted, keptOf, pieceLength, applyingWanted, idleStep, stoppedBy, markedStep, inputEnded, followingOf, takenUp, waitsDef, heldBack, released, acceptedBy, putPiece, inLimit, fedRecord, fedDecoded, applyingFedHead, fedBytes, applyingFed};
 use arith::numbers::min_u64;
@@ -28,7 +29,8 @@ pub const BEHIND: u8 = 4; // a record behind the second flush
 
 pub const TOO_FAR: u8 = 5; // a record that ends behind the limit, or where no file can
 
-// What is to be done: nothing, or what a record asks for (FLUSH, ZEROS, BYTES of list_read), or all zeros of the first record and then a flush.
+// What is to be done: nothing, or what a record asks for (FLUSH, ZEROS, BYTES of list_read), or all zeros of the first record and then a
+// flush.
 pub const NOTHING: u8 = 0;
 
 pub const FIRST: u8 = 4;

@@ -43,10 +43,12 @@ pub record Placed (area : ℕ) (before : List ListSize) (own : ListSize) (behind
   -- one whose list fits what is left, to the last byte, is admitted with its own answer
   pub admitted : own .number ≡ 0 → admittedBytes (answers area before) + own .bytes ≤ area → answerBehind area before own ≡ own
   -- one whose list is longer than what is left is refused by 40
-  pub too-long : own .number ≡ 0 → area < admittedBytes (answers area before) + own .bytes → answerBehind area before own ≡ noSize areaTooSmall
+  pub too-long : own .number ≡ 0 → area < admittedBytes (answers area before) + own .bytes
+      → answerBehind area before own ≡ noSize areaTooSmall
   -- one that isn't admitted takes nothing: those behind it are answered as if it weren't there
   pub takes-nothing : (answerBehind area before own .number ≡ 0 → ⊥)
-      → answers area (before ++ (own ∷ behind)) ≡ answers area before ++ (answerBehind area before own ∷ answers (leftAfter area before) behind)
+      → answers area (before ++ (own ∷ behind))
+      ≡ answers area before ++ (answerBehind area before own ∷ answers (leftAfter area before) behind)
 
 -- ---- two cabinets: whether it is 40 depends on the area, the admitted lists' lengths before it, and its own alone
 abbrev pub ByLengths : Type 0

@@ -1,5 +1,5 @@
-// One staging area for the lists of a cabinet's disks: these are handed in one after the other to a state by value, which says what is left of
-// the area. How long a disk's list is says `list_size`.
+// One staging area for the lists of a cabinet's disks: these are handed in one after the other to a state by value, which says what is left
+// of the area. How long a disk's list is says `list_size`.
 ghost use mathlib.Core.Path.{_≡_};
 ghost use Rattle.list_cabinet.specs.Cabinet.{answerWith, takenBy};
 ghost use Rattle.list_cabinet.specs.Entering.{cabinetOpened, cabinetNumber, entered};
@@ -84,8 +84,8 @@ fn taken_by(answer: ListSize) -> u64
     answer.bytes
 }
 
-// The next disk, by its input records: 41; the number that refuses its run; 40 where its list is longer than what is left; else it is admitted, and
-// its list's bytes are taken.
+// The next disk, by its input records: 41; the number that refuses its run; 40 where its list is longer than what is left; else it is
+// admitted, and its list's bytes are taken.
 pub fn enter(c: Cabinet, input: &[u8]) -> Entered
     ensures { λ r. ⌜ r ≡ entered c (now (input .entry)) ⌝ }
 {

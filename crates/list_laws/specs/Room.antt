@@ -15,6 +15,7 @@ HoldsChunk run n k = (lengthAnswer run k .value ≤ n) × (partAnswer run k .val
 
 pub record Sufficient (run : Run) : Type 0 where
   -- bytes for the first head and for the root chunk, which is the chunk before the last, hold every chunk
-  pub few : (n k : ℕ) → k < chunkCount run → lengthAnswer run 1 .value ≤ n → lengthAnswer run (chunkCount run - 2) .value ≤ n → HoldsChunk run n k
+  pub few : (n k : ℕ) → k < chunkCount run → lengthAnswer run 1 .value ≤ n → lengthAnswer run (chunkCount run - 2) .value ≤ n
+      → HoldsChunk run n k
   -- and so do those of the longest
   pub most : (k : ℕ) → k < chunkCount run → HoldsChunk run longestChunk k

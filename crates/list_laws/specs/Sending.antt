@@ -18,7 +18,8 @@ pub record SendsAll (s : State) (run : Run) (device : ℕ) : Type 0 where
   -- no buffer needs to be longer than the longest chunk of any run
   pub most : longestPiece s ≤ longestChunk
   -- none of them is refused
-  pub accepts : (n work len : ℕ) → n < s .left → longestPiece s ≤ work → longestPiece s ≤ len → sendNumber (sentOn n s work len) work len ≡ 0
+  pub accepts : (n work len : ℕ) → n < s .left → longestPiece s ≤ work → longestPiece s ≤ len
+      → sendNumber (sentOn n s work len) work len ≡ 0
   -- THE BYTES THAT THEY HAND OUT, ONE AFTER THE OTHER, ARE THE LIST
   pub whole : (work : ℕ) (xs : List ℕ) → longestPiece s ≤ work → longestPiece s ≤ length xs
       → handed (s .left) s work xs ≡ listBytes (listOf run device)

@@ -37,8 +37,10 @@ pub record WrittenWhole (run : Run) (device : ℕ) : Type 0 where
   pub part : (k : ℕ) → k < chunkCount run → (partAnswer run k .number ≡ 0) × (partAnswer run k .value ≤ largestHead)
   -- `write_chunk` accepts each one in a buffer of its length, with a work buffer of `work` bytes, the largest head's or more
   pub accepts : (k work : ℕ) → k < chunkCount run → largestHead ≤ work → writeNumber run k (length (sent run device k)) work ≡ 0
-  -- by its contract it answers 0 and leaves the chunk's bytes in a buffer of the length answered, with a work buffer no shorter than answered
-  pub leaves : (k work r : ℕ) (old left : List ℕ) → k < chunkCount run → partAnswer run k .value ≤ work → length old ≡ lengthAnswer run k .value
+  -- by its contract it answers 0 and leaves the chunk's bytes in a buffer of the length answered, with a work buffer no shorter than
+  -- answered
+  pub leaves : (k work r : ℕ) (old left : List ℕ) → k < chunkCount run → partAnswer run k .value ≤ work
+      → length old ≡ lengthAnswer run k .value
       → Written (writeNumber run k (length old) work) (sent run device k) old r left → (r ≡ 0) × (left ≡ sent run device k)
   -- there is no other chunk
   pub none : (k len work : ℕ) → chunkCount run ≤ k → (listChunkNumber run k ≡ noPlace) × (writeNumber run k len work ≡ noPlace)

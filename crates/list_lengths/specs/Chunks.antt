@@ -1,5 +1,5 @@
--- What is answered about the chunks of a run's list: how many there are, how many bytes each has and the part that it is split from, and the
--- numbers of a refusal.
+-- What is answered about the chunks of a run's list: how many there are, how many bytes each has and the part that it is split from, and
+-- the numbers of a refusal.
 -- Assumes nothing.
 use Prim.Native.Nat.{ℕ}
 use lib.Dec.{leb, eqb}
@@ -44,7 +44,8 @@ listChunkNumber run k = orNext (formatNumber run) (when (leb (chunkCount run) k)
 -- isn't there has none
 unfoldable pub writeNumber : Run → ℕ → ℕ → ℕ → ℕ
 writeNumber run k len work =
-    orNext (listChunkNumber run k) (require wrongLength (eqb len (listedLength (run .geometry) k)) (require wrongLength (leb (partLength (run .geometry) k) work) 0))
+    orNext (listChunkNumber run k) (require wrongLength (eqb len (listedLength (run .geometry) k))
+    (require wrongLength (leb (partLength (run .geometry) k) work) 0))
 
 -- the count where the number is 0, else the refusal
 abbrev pub countedAs : ℕ → ℕ → Counted

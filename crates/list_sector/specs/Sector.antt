@@ -34,8 +34,8 @@ sectorBehind n xs = choose (leb n 16384 && leb (194 + n) (length xs)) (choose (b
 unfoldable pub sectorIn : List ℕ → ℕ
 sectorIn xs = choose (ltb (length xs) 194) 0 (sectorBehind (blockIn xs) xs)
 
--- so many bytes of any list have it: three heads of 18 bytes, the log's record with the largest block, the head of the next, and 104 bytes of
--- the superblock
+-- so many bytes of any list have it: three heads of 18 bytes, the log's record with the largest block, the head of the next, and 104 bytes
+-- of the superblock
 abbrev pub enough : ℕ
 enough = 3 * 18 + (18 + 16384) + 18 + 104
 

@@ -62,8 +62,8 @@ sendingWanted s =
 unfoldable pub longestPiece : State → ℕ
 longestPiece s = max (lengthAnswer (s .run) 1 .value) (lengthAnswer (s .run) (s .count - 2) .value)
 
--- with a work buffer of `work` bytes and a buffer of `len`: 27 where the chunk is longer than the buffer, and then what `write_chunk` answers
--- in as many bytes as the chunk has
+-- with a work buffer of `work` bytes and a buffer of `len`: 27 where the chunk is longer than the buffer, and then what `write_chunk`
+-- answers in as many bytes as the chunk has
 unfoldable pub sendNumber : State → ℕ → ℕ → ℕ
 sendNumber s work len =
     orNext (sendingWanted s .number)
@@ -109,4 +109,5 @@ allSent s work buf = sentOn (s .left) s (length work) (length buf)
 unfoldable pub handed : ℕ → State → ℕ → List ℕ → List ℕ
 handed zero s work xs = []
 handed (suc n) s work xs =
-    take (sentDef s work (length xs) .length) (bufferAfter s work xs) ++ handed n (sentDef s work (length xs) .sending) work (bufferAfter s work xs)
+    take (sentDef s work (length xs) .length) (bufferAfter s work xs)
+    ++ handed n (sentDef s work (length xs) .sending) work (bufferAfter s work xs)

@@ -40,12 +40,16 @@ pub record DeviceLeft (run : Run) (device : ℕ) (d : Device) : Type 0 where
   pub head : (k : ℕ) → k < run .geometry .agcount → read d (headAt run k) (headBytesOf run) ≡ headLeft (run .geometry) (run .uuid) k
   -- the log's first block, and zeros behind it
   pub log : read d (logOffset (run .geometry)) (run .geometry .blocksize) ≡ logBlock (run .geometry) (run .uuid)
-  pub log-rest : read d (logOffset (run .geometry) + run .geometry .blocksize) (logSize run - run .geometry .blocksize) ≡ zeros (logSize run - run .geometry .blocksize)
+  pub log-rest : read d (logOffset (run .geometry) + run .geometry .blocksize) (logSize run - run .geometry .blocksize)
+      ≡ zeros (logSize run - run .geometry .blocksize)
   -- the root chunk
-  pub chunk : read d (chunkOffset run) (chunkBytesOf run) ≡ chunkBytes (run .geometry) (rootChunk (run .geometry)) (run .uuid) (run .time) (run .seed)
+  pub chunk : read d (chunkOffset run) (chunkBytesOf run)
+      ≡ chunkBytes (run .geometry) (rootChunk (run .geometry)) (run .uuid) (run .time) (run .seed)
   -- zeros at the start of the device, where neither group 0's head nor the root chunk lies, and at its end
-  pub start : (off n : ℕ) → headBytesOf run ≤ off → off + n ≤ whackSize → (off + n ≤ chunkOffset run) ⊎ (chunkOffset run + chunkBytesOf run ≤ off) → read d off n ≡ zeros n
-  pub end : read d (tailStart (run .geometry .blocksize) device) (blocksEnd (run .geometry .blocksize) device - tailStart (run .geometry .blocksize) device)
+  pub start : (off n : ℕ) → headBytesOf run ≤ off → off + n ≤ whackSize
+      → (off + n ≤ chunkOffset run) ⊎ (chunkOffset run + chunkBytesOf run ≤ off) → read d off n ≡ zeros n
+  pub end : read d (tailStart (run .geometry .blocksize) device)
+      (blocksEnd (run .geometry .blocksize) device - tailStart (run .geometry .blocksize) device)
       ≡ zeros (blocksEnd (run .geometry .blocksize) device - tailStart (run .geometry .blocksize) device)
 
 -- ---- which records touch group k's head: its own alone, and in group 0 also the first zeros and the finished header blocks

@@ -76,7 +76,8 @@ headFinished g uuid = headBytes g (planned g 0 .plan) uuid (finishedState g uuid
 unfoldable pub opening : Run → ℕ → List Record
 opening run device =
     WZ 0 (min whackSize (blocksEnd (run .geometry .blocksize) device))
-    ∷ WZ (tailStart (run .geometry .blocksize) device) (blocksEnd (run .geometry .blocksize) device - tailStart (run .geometry .blocksize) device)
+    ∷ WZ (tailStart (run .geometry .blocksize) device)
+    (blocksEnd (run .geometry .blocksize) device - tailStart (run .geometry .blocksize) device)
     ∷ WZ (logOffset (run .geometry)) (run .geometry .logblocks * run .geometry .blocksize)
     ∷ WB (logOffset (run .geometry)) (logBlock (run .geometry) (run .uuid))
     ∷ []
@@ -95,7 +96,8 @@ headsTo run (suc n) = headsTo run n ++ headRecords run n
 -- the root chunk, in group 0
 unfoldable pub chunkRecords : Run → List Record
 chunkRecords run =
-    blockRecords (run .geometry .blocksize) (byteOf (run .geometry .blocksize) (run .geometry .agsize) 0 (rootChunk (run .geometry))) (chunkBlocks (run .geometry))
+    blockRecords (run .geometry .blocksize) (byteOf (run .geometry .blocksize) (run .geometry .agsize) 0 (rootChunk (run .geometry)))
+    (chunkBlocks (run .geometry))
     (chunkBytes (run .geometry) (rootChunk (run .geometry)) (run .uuid) (run .time) (run .seed))
 
 -- the header blocks of group 0 again, with the finished superblock

@@ -16,7 +16,8 @@ unfoldable pub partBytes : Run → ℕ → List ℕ
 partBytes run k =
     choose (eqb k 0) (logBlock (run .geometry) (run .uuid))
     (choose (leb k (run .geometry .agcount)) (headWritten (run .geometry) (run .uuid) (k - 1))
-    (choose (eqb k (run .geometry .agcount + 1)) (chunkBytes (run .geometry) (rootChunk (run .geometry)) (run .uuid) (run .time) (run .seed))
+    (choose (eqb k (run .geometry .agcount + 1))
+    (chunkBytes (run .geometry) (rootChunk (run .geometry)) (run .uuid) (run .time) (run .seed))
     (headFinished (run .geometry) (run .uuid))))
 
 -- ---- the code's parts

@@ -58,7 +58,8 @@ fn put_opening(bs: usize, device: u64, at: u64, n: u64, part: &[u8], buf: &mut [
 
 // A flush, the first n blocks of the disk, and a flush; the last is written first.
 fn put_closing(bs: usize, n: usize, part: &[u8], buf: &mut [u8])
-    requires { ⌜ (0 < bs) × (n * bs ≤ 2 ^ 64) × (n * bs ≤ length (now part)) × (length (now buf) ≡ flushSize + blocksLength bs n + flushSize) ⌝ }
+    requires { ⌜ (0 < bs) × (n * bs ≤ 2 ^ 64) × (n * bs ≤ length (now part))
+        × (length (now buf) ≡ flushSize + blocksLength bs n + flushSize) ⌝ }
     ensures { λ _. ⌜ now (buf .exit) ≡ recordBytes FL ++ (listBytes (blockRecords bs 0 n (now (part .entry))) ++ recordBytes FL) ⌝ }
 {
     let end = buf.len() - MARK_SIZE;
@@ -69,7 +70,8 @@ fn put_closing(bs: usize, n: usize, part: &[u8], buf: &mut [u8])
 
 // The records of chunk k, from its part.
 pub(crate) fn put_chunk(run: Run, device: u64, k: u64, part: &[u8], buf: &mut [u8])
-    requires { ⌜ (formatNumber run ≡ 0) × (k < run .geometry .agcount + 3) × (now part ≡ partBytes run k) × (length (now part) ≡ partLength (run .geometry) k) × (length (now buf) ≡ listedLength (run .geometry) k) ⌝ }
+    requires { ⌜ (formatNumber run ≡ 0) × (k < run .geometry .agcount + 3) × (now part ≡ partBytes run k)
+        × (length (now part) ≡ partLength (run .geometry) k) × (length (now buf) ≡ listedLength (run .geometry) k) ⌝ }
     ensures { λ _. ⌜ now (buf .exit) ≡ listBytes (listChunk run device k) ⌝ }
 {
     let g = run.geometry;

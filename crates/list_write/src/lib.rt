@@ -21,7 +21,10 @@ use run::Run;
 // Chunk k of the list of a run on a device of so many bytes: all of its bytes. The part that it is split from is made in the first bytes
 // of `work`. 31, 25, 26, 29 where there is no chunk k, 27 for a buffer of another length or too short a work buffer.
 pub fn write_chunk(run: Run, device: u64, k: u64, work: &mut [u8], buf: &mut [u8]) -> u32
-    ensures { λ r. ⌜ (Written (writeNumber run k (length (now (buf .entry))) (length (now (work .entry)))) (listBytes (listChunk run device k)) (now (buf .entry)) r (now (buf .exit))) × (Written (writeNumber run k (length (now (buf .entry))) (length (now (work .entry)))) (patch 0 (partBytes run k) (now (work .entry))) (now (work .entry)) r (now (work .exit))) ⌝ }
+    ensures { λ r. ⌜ (Written (writeNumber run k (length (now (buf .entry))) (length (now (work .entry))))
+        (listBytes (listChunk run device k)) (now (buf .entry)) r (now (buf .exit)))
+        × (Written (writeNumber run k (length (now (buf .entry))) (length (now (work .entry))))
+        (patch 0 (partBytes run k) (now (work .entry))) (now (work .entry)) r (now (work .exit))) ⌝ }
 {
     let n = write_number(run, k, buf.len(), work.len());
     if n != 0 {

@@ -42,8 +42,10 @@ pub(crate) fn put_block(offset: u64, src: &[u8], at: usize, buf: &mut [u8])
 
 // Block j of a write at `offset`, as the j-th record from `at` on.
 fn put_nth(bs: usize, offset: u64, src: &[u8], j: usize, at: usize, buf: &mut [u8])
-    requires { ⌜ (offset + j * bs < 2 ^ 64) × (j * bs + bs ≤ length (now src)) × (at + (j * (recordHeadSize + bs) + (recordHeadSize + bs)) ≤ length (now buf)) ⌝ }
-    ensures { λ _. ⌜ now (buf .exit) ≡ patch (at + j * (recordHeadSize + bs)) (recordBytes (WB (offset + j * bs) (take bs (drop (j * bs) (now (src .entry)))))) (now (buf .entry)) ⌝ }
+    requires { ⌜ (offset + j * bs < 2 ^ 64) × (j * bs + bs ≤ length (now src))
+        × (at + (j * (recordHeadSize + bs) + (recordHeadSize + bs)) ≤ length (now buf)) ⌝ }
+    ensures { λ _. ⌜ now (buf .exit) ≡ patch (at + j * (recordHeadSize + bs))
+        (recordBytes (WB (offset + j * bs) (take bs (drop (j * bs) (now (src .entry)))))) (now (buf .entry)) ⌝ }
 {
     let from = j * bs;
     put_block(
@@ -56,7 +58,8 @@ fn put_nth(bs: usize, offset: u64, src: &[u8], j: usize, at: usize, buf: &mut [u
 
 // The n blocks of a write at `offset`, from `at` on.
 pub(crate) fn put_blocks(bs: usize, offset: u64, n: usize, src: &[u8], at: usize, buf: &mut [u8])
-    requires { ⌜ (offset + n * bs ≤ 2 ^ 64) × (0 < bs) × (n * bs ≤ length (now src)) × (at + n * (recordHeadSize + bs) ≤ length (now buf)) ⌝ }
+    requires { ⌜ (offset + n * bs ≤ 2 ^ 64) × (0 < bs) × (n * bs ≤ length (now src))
+        × (at + n * (recordHeadSize + bs) ≤ length (now buf)) ⌝ }
     ensures { λ _. ⌜ now (buf .exit) ≡ patch at (listBytes (blocks·of bs offset n (now (src .entry)))) (now (buf .entry)) ⌝ }
 {
     let mut j = 0;

@@ -1,4 +1,5 @@
--- A log record that holds only an unmount record, field by field: `struct xlog_rec_header`, `struct xlog_op_header` and `struct xfs_unmount_log_format`.
+-- A log record that holds only an unmount record, field by field: `struct xlog_rec_header`, `struct xlog_op_header` and `struct
+-- xfs_unmount_log_format`.
 -- Assumes nothing.
 use mathlib.Core.List.{List, [], _∷_, _++_}
 use mathlib.Core.Bool.{Bool, true, false}

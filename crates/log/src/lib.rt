@@ -33,7 +33,8 @@ pub fn lsn(cycle: u32, block: u32) -> u64
 
 // One record that holds only an unmount record; `sunit` in bytes, 0 for none. 27 for the length, 35 for the stripe unit.
 pub fn record(uuid: &[u8; 16], sunit: u32, lsn: u64, tail_lsn: u64, rec: &mut [u8]) -> u32
-    ensures { λ r. ⌜ Written (recordNumber sunit (length (now (rec .entry)))) (logRecordBytes (now (uuid .entry)) sunit lsn «tail_lsn») (now (rec .entry)) r (now (rec .exit)) ⌝ }
+    ensures { λ r. ⌜ Written (recordNumber sunit (length (now (rec .entry)))) (logRecordBytes (now (uuid .entry)) sunit lsn «tail_lsn»)
+        (now (rec .entry)) r (now (rec .exit)) ⌝ }
 {
     let blocks = record_blocks(sunit);
     let need = parts::BBSIZE * blocks;
@@ -53,7 +54,8 @@ pub fn record(uuid: &[u8; 16], sunit: u32, lsn: u64, tail_lsn: u64, rec: &mut [u
 
 // The first record of a log: cycle 1, block 0.
 pub fn first_record(uuid: &[u8; 16], sunit: u32, rec: &mut [u8]) -> u32
-    ensures { λ r. ⌜ Written (recordNumber sunit (length (now (rec .entry)))) (logRecordBytes (now (uuid .entry)) sunit (2 ^ 32) (2 ^ 32)) (now (rec .entry)) r (now (rec .exit)) ⌝ }
+    ensures { λ r. ⌜ Written (recordNumber sunit (length (now (rec .entry)))) (logRecordBytes (now (uuid .entry)) sunit (2 ^ 32) (2 ^ 32))
+        (now (rec .entry)) r (now (rec .exit)) ⌝ }
 {
     let l = lsn(1, 0);
     record(uuid, sunit, l, l, rec)

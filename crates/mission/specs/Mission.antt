@@ -14,8 +14,8 @@
 --   reported g     what the reader reports of a run with geometry g: g with plain sizing of the log where that gives the same log, else g
 --                  itself. `plain g` is g with plain sizing.
 --   heads k        whatever bytes stand where the head of group k should be; `log` what stands in the log's first block.
---   runRecords r   the run's written records, in order; `stoppedAfter r n old` a device that held `old`, after the first n of them. The finishing one,
---                  with the finished superblock, stands behind `beforeFinished` others.
+--   runRecords r   the run's written records, in order; `stoppedAfter r n old` a device that held `old`, after the first n of them. The
+--                  finishing one, with the finished superblock, stands behind `beforeFinished` others.
 -- A name such as `readGroup0` is a definition, and the contract of the function `read_group0` says that this is its answer, on every input.
 -- Assumes nothing.
 pub mod Words
@@ -39,7 +39,8 @@ pub record Demand1 : Type 0 where
   pub input-number : (xs : List ℕ)
       → let r = parseDef xs in
       accepted xs .number
-      ≡ orNext (orNext (r .number) (orNext (stepOf r .number) (orNext (plansNumber (stepOf r .geometry)) (timeRefusal (stepOf r .geometry) (timeOf (r .params))))))
+      ≡ orNext (orNext (r .number) (orNext (stepOf r .number)
+      (orNext (plansNumber (stepOf r .geometry)) (timeRefusal (stepOf r .geometry) (timeOf (r .params))))))
       (profileNumber (r .profile) (stepOf r .geometry) (r .params .label))
   -- The geometry step's number is that of the first test of the table of refusals that holds, and 0 where none does.
   pub by-the-table : (p : Params) (device logical physical : ℕ)
@@ -58,13 +59,15 @@ pub record Demand1 : Type 0 where
   pub no-stranger : (g : Geometry) → TypedGeometry g → (isAnswer g ≡ true) ↔ AskedFor g
   -- Planning a group answers 0 or 25: 25 exactly in the log's group, where fewer blocks are free than the free list takes.
   pub refused-plans : (g : Geometry) → Answered g → (k : ℕ) → k < g .agcount
-      → planned g k .number ≡ when (both (eqb k (g .logagno)) (ltb (freeBeforeList (siteOf g k)) (freelistOf (g .features)))) freeListShort 0
+      → planned g k .number ≡ when (both (eqb k (g .logagno))
+      (ltb (freeBeforeList (siteOf g k)) (freelistOf (g .features)))) freeListShort 0
   -- In roomy sizing no group is refused.
   pub roomy-plans : (g : Geometry) → Answered g → g .roomy ≡ true → (k : ℕ) → k < g .agcount → planned g k .number ≡ 0
   -- What the step accepts in roomy sizing it accepts in plain sizing, with a log no shorter.
   pub plain-accepts : (p : Params) (device logical physical : ℕ) → computeDef (withRoomy p true) device logical physical .number ≡ 0
       → (computeDef (withRoomy p false) device logical physical .number ≡ 0)
-      × (computeDef (withRoomy p true) device logical physical .geometry .logblocks ≤ computeDef (withRoomy p false) device logical physical .geometry .logblocks)
+      × (computeDef (withRoomy p true) device logical physical .geometry .logblocks
+      ≤ computeDef (withRoomy p false) device logical physical .geometry .logblocks)
   -- The reader has an answer for all bytes, of any length, and no number but these.
   pub reader-numbers : (g : Geometry) (u : List ℕ) (k : ℕ) (xs : List ℕ)
       → T (oneOf (0 ∷ wrongLength ∷ notLeft ∷ []) (readGroup0 xs .number))
@@ -84,10 +87,12 @@ pub record Demand2 : Type 0 where
   -- definition.
   pub rfc-vectors : Vectors
   -- A structure that has got its checksum, anywhere inside it, verifies and is as long as before.
-  pub checksums-verify : (off : ℕ) (xs : List ℕ) → off + 4 ≤ length xs → (verified off (stamped off xs) ≡ true) × (length (stamped off xs) ≡ length xs)
+  pub checksums-verify : (off : ℕ) (xs : List ℕ) → off + 4 ≤ length xs
+      → (verified off (stamped off xs) ≡ true) × (length (stamped off xs) ≡ length xs)
   -- What the superblock names of an accepted geometry gives all of it again under its sizing of the log, whatever the disk's physical
   -- sector.
-  pub named-again : (p : Params) (device logical physical other : ℕ) → length (p .label .bytes) ≡ 12 → computeDef p device logical physical .number ≡ 0
+  pub named-again : (p : Params) (device logical physical other : ℕ) → length (p .label .bytes) ≡ 12
+      → computeDef p device logical physical .number ≡ 0
       → namedOn (p .roomy) (namesOf (computeDef p device logical physical .geometry)) other ≡ computeDef p device logical physical
   -- `planned` is the source's planner, step by step. For every group of every accepted geometry it gives what plain arithmetic gives.
   pub closed-plans : (g : Geometry) → Answered g → (k : ℕ) → k < g .agcount → planned g k ≡ closedPlan (siteOf g k)
@@ -111,8 +116,8 @@ pub record Demand2 : Type 0 where
   -- Every record lies at a block's start and inside the device; there are three of zeros, two flushes, the rest single blocks, as many as
   -- `Ordered` says.
   pub ordered-list : (r : Request) → AcceptedRun r → Ordered (runOf r) (r .device)
-  -- Applied to a device that held anything, the records leave every head, the log, the root chunk and the zeros that `DeviceLeft` names, byte for
-  -- byte.
+  -- Applied to a device that held anything, the records leave every head, the log, the root chunk and the zeros that `DeviceLeft` names,
+  -- byte for byte.
   pub left-behind : (r : Request) → AcceptedRun r → (old : Device) → DeviceLeft (runOf r) (r .device) (formatted r old)
   -- Every checksum in every head that they leave verifies: superblock, AGF, AGI, free list, and each root.
   pub checksums-left : (r : Request) → AcceptedRun r → (old : Device) (k : ℕ) → k < runOf r .geometry .agcount
@@ -140,15 +145,16 @@ pub record Demand2 : Type 0 where
   pub directory-left : (r : Request) → AcceptedRun r → (old : Device)
       → DirectoryAt (runOf r .geometry) (runOf r .time) (inodeIn (runOf r .geometry) 0 (chunkOn (runOf r .geometry) (formatted r old)))
 
--- ==== POWER LOST WHILE FORMATTING, a part of demand 3: of an accepted run r, in either sizing, under the profile or not, on a device that held
--- `old`; by a reader that is told to admit profile disks only, or not. Nothing is said of a block that was written in part, nor of records in
--- another order than theirs but by the last three sentences.
+-- ==== POWER LOST WHILE FORMATTING, a part of demand 3: of an accepted run r, in either sizing, under the profile or not, on a device that
+-- held `old`; by a reader that is told to admit profile disks only, or not. Nothing is said of a block that was written in part, nor of
+-- records in another order than theirs but by the last three sentences.
 
 pub record PowerCut (r : Request) (old : Device) : Type 0 where
   -- Before the first record the old contents stand there.
   pub old-contents : stoppedAfter r 0 old ≡ old
   -- From the first record on, and until the finishing one has been applied, group 0 gets 30.
-  pub refused : (n : ℕ) → 0 < n → n ≤ beforeFinished (runOf r .geometry) → (told : Bool) → firstNumber told r (stoppedAfter r n old) ≡ notLeft
+  pub refused : (n : ℕ) → 0 < n → n ≤ beforeFinished (runOf r .geometry) → (told : Bool)
+      → firstNumber told r (stoppedAfter r n old) ≡ notLeft
   -- The finishing record is the one behind the first flush, and `beforeFinished` counts those before it.
   pub finishing : Finishing r
   -- From it on all is read back, whatever of the later records is missing.
@@ -160,16 +166,17 @@ pub record PowerCut (r : Request) (old : Device) : Type 0 where
   pub profile-run : r .profile ≡ true → profileNumber true (runOf r .geometry) (labelOn (runOf r .geometry)) ≡ 0
   -- These records are those of the bytes that are sent for the run (`sent-and-read`).
   pub sent : readList (listBytes (runRecords r)) ≡ wholeList (runRecords r)
-  -- Taken up from an input that ends after any number i of these bytes, they leave the device as it is after some of the first: whole records
-  -- alone, and the first one is flushed before anything else is done. The buffer holds a block.
-  pub received : (size limit i : ℕ) → maxSupportedBlock ≤ size → r .device ≤ limit → r .device ≤ largestOffset → AppliesFront size limit (runRecords r) i
-  -- A disk's cache may lose any of the records behind the last flush, and write them in any order. Once the first record is kept, or the first
-  -- n, group 0 gets 30 whichever of those before the finishing one came besides, in whichever order, and however often.
+  -- Taken up from an input that ends after any number i of these bytes, they leave the device as it is after some of the first: whole
+  -- records alone, and the first one is flushed before anything else is done. The buffer holds a block.
+  pub received : (size limit i : ℕ) → maxSupportedBlock ≤ size → r .device ≤ limit → r .device ≤ largestOffset
+      → AppliesFront size limit (runRecords r) i
+  -- A disk's cache may lose any of the records behind the last flush, and write them in any order. Once the first record is kept, or the
+  -- first n, group 0 gets 30 whichever of those before the finishing one came besides, in whichever order, and however often.
   pub any-subset : (n : ℕ) → 0 < n → n ≤ beforeFinished (runOf r .geometry) → (rs : List Record)
       → Among (drop 1 (take (beforeFinished (runOf r .geometry)) (runRecords r))) rs → (told : Bool)
       → firstNumber told r (applied rs (stoppedAfter r n old)) ≡ notLeft
-  -- Acceptance is promised once all records up to the first flush are kept (a head that was lost is refused: `other-head`). Group 0 still gets 30
-  -- while the finishing record is lost,
+  -- Acceptance is promised once all records up to the first flush are kept (a head that was lost is refused: `other-head`). Group 0 still
+  -- gets 30 while the finishing record is lost,
   pub finished-lost : (rs : List Record) → Among (drop (beforeFinished (runOf r .geometry) + 1) (runRecords r)) rs
       → (told : Bool) → firstNumber told r (applied rs (stoppedAfter r (beforeFinished (runOf r .geometry)) old)) ≡ notLeft
   -- and all is read back where that record is among those that came, whichever came before it and behind it.
@@ -206,20 +213,25 @@ pub record Demand3 : Type 0 where
   -- Whatever it is fed, part by part, from a file that changes while it is read too: its verdict is 0 exactly where one accepted run leaves
   -- these parts (the heads behind a first sector that says how long they are, and the log block behind them), and all were fed: the first
   -- sector, as many heads as there are groups, and the log block.
-  pub pass-vouches : (parts : ℕ → List ℕ) → Octets (parts 1) → (n : ℕ) → (passVerdict (fedBy parts n) .number ≡ 0) ↔ (RunParts parts × (partsNeeded parts ≤ n))
+  pub pass-vouches : (parts : ℕ → List ℕ) → Octets (parts 1) → (n : ℕ) → (passVerdict (fedBy parts n) .number ≡ 0)
+      ↔ (RunParts parts × (partsNeeded parts ≤ n))
   -- With fewer of them it says 27 at the place that comes next; whatever the parts, those behind the last that is needed change nothing.
   pub pass-counted : (parts : ℕ → List ℕ) (n : ℕ)
-      → (RunParts parts → n < partsNeeded parts → (passVerdict (fedBy parts n) .number ≡ wrongLength) × (passVerdict (fedBy parts n) .place ≡ n - 1))
+      → (RunParts parts → n < partsNeeded parts
+      → (passVerdict (fedBy parts n) .number ≡ wrongLength) × (passVerdict (fedBy parts n) .place ≡ n - 1))
       × (partsNeeded parts ≤ n → fedBy parts n ≡ fedBy parts (partsNeeded parts))
   -- A head too many is that of a group that isn't there, and gets 29 whatever its bytes.
-  pub no-such-group : (g : Geometry) (u : List ℕ) (k : ℕ) (xs : List ℕ) → isAnswer g ≡ true → g .agcount ≤ k → readGroup g u k xs .number ≡ noPlace
+  pub no-such-group : (g : Geometry) (u : List ℕ) (k : ℕ) (xs : List ℕ) → isAnswer g ≡ true → g .agcount ≤ k
+      → readGroup g u k xs .number ≡ noPlace
   -- On a disk accepted whole, with the geometry that group 0's head gave, each block of each group has exactly one of five uses, decoded
   -- from the bytes.
-  pub one-use : (heads : ℕ → List ℕ) (log : List ℕ) → Octets (heads 0) → ReadWhole heads log → (g : Geometry) → readGroup0 (heads 0) .geometry ≡ g
+  pub one-use : (heads : ℕ → List ℕ) (log : List ℕ) → Octets (heads 0) → ReadWhole heads log → (g : Geometry)
+      → readGroup0 (heads 0) .geometry ≡ g
       → (k b : ℕ) → k < g .agcount → b < groupBlocks (g .dblocks) (g .agsize) (g .agcount) k → Once (usesIn g (heads 0) (heads k) k b)
   -- Over all groups, free blocks and free-list blocks are the superblock's free count; and this, the heads, the log and the chunk are all
   -- blocks.
-  pub totals : (heads : ℕ → List ℕ) (log : List ℕ) → Octets (heads 0) → ReadWhole heads log → (g : Geometry) → readGroup0 (heads 0) .geometry ≡ g
+  pub totals : (heads : ℕ → List ℕ) (log : List ℕ) → Octets (heads 0) → ReadWhole heads log → (g : Geometry)
+      → readGroup0 (heads 0) .geometry ≡ g
       → (freeTotal g heads + listTotal g heads ≡ countIn (heads 0))
       × (countIn (heads 0) + g .agcount * headBlocks g + logRunIn g (heads 0) .blocks + chunkTotal g heads ≡ g .dblocks)
   -- Wherever power is lost while an accepted run formats a device, and whatever that held: the sentences of `PowerCut`, above.

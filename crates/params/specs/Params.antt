@@ -24,7 +24,8 @@ abbrev pub allFeatures : Features
 allFeatures = record { finobt = true; rmapbt = true; reflink = true; inobtcount = true; bigtime = true; nrext64 = true; sparse = true }
 
 -- the options in the order of the record
-abbrev pub options : OptU64 → OptU32 → OptU32 → OptU32 → OptU64 → OptU64 → OptU8 → Label → OptUuid → OptTime → OptU64 → Features → Bool → Params
+abbrev pub options : OptU64 → OptU32 → OptU32 → OptU32 → OptU64 → OptU64 → OptU8 → Label → OptUuid → OptTime → OptU64
+    → Features → Bool → Params
 options size block sector inode agcount agsize imaxpct label uuid time seed features roomy =
     record {
       size = size;
@@ -56,40 +57,53 @@ noOptions = options Absent Absent32 Absent32 Absent32 Absent Absent Absent8 noLa
 
 module _ (p : Params) where
   abbrev pub withSize : ℕ → Params
-  withSize n = options (Given n) (p .«block_size») (p .«sector_size») (p .«inode_size») (p .agcount) (p .agsize) (p .imaxpct) (p .label) (p .uuid) (p .time) (p .«gen_seed») (p .features) (p .roomy)
+  withSize n = options (Given n) (p .«block_size») (p .«sector_size») (p .«inode_size») (p .agcount) (p .agsize) (p .imaxpct) (p .label)
+      (p .uuid) (p .time) (p .«gen_seed») (p .features) (p .roomy)
 
   abbrev pub withBlockSize : ℕ → Params
-  withBlockSize n = options (p .size) (Given32 n) (p .«sector_size») (p .«inode_size») (p .agcount) (p .agsize) (p .imaxpct) (p .label) (p .uuid) (p .time) (p .«gen_seed») (p .features) (p .roomy)
+  withBlockSize n = options (p .size) (Given32 n) (p .«sector_size») (p .«inode_size») (p .agcount) (p .agsize) (p .imaxpct) (p .label)
+      (p .uuid) (p .time) (p .«gen_seed») (p .features) (p .roomy)
 
   abbrev pub withSectorSize : ℕ → Params
-  withSectorSize n = options (p .size) (p .«block_size») (Given32 n) (p .«inode_size») (p .agcount) (p .agsize) (p .imaxpct) (p .label) (p .uuid) (p .time) (p .«gen_seed») (p .features) (p .roomy)
+  withSectorSize n = options (p .size) (p .«block_size») (Given32 n) (p .«inode_size») (p .agcount) (p .agsize) (p .imaxpct) (p .label)
+      (p .uuid) (p .time) (p .«gen_seed») (p .features) (p .roomy)
 
   abbrev pub withInodeSize : ℕ → Params
-  withInodeSize n = options (p .size) (p .«block_size») (p .«sector_size») (Given32 n) (p .agcount) (p .agsize) (p .imaxpct) (p .label) (p .uuid) (p .time) (p .«gen_seed») (p .features) (p .roomy)
+  withInodeSize n = options (p .size) (p .«block_size») (p .«sector_size») (Given32 n) (p .agcount) (p .agsize) (p .imaxpct) (p .label)
+      (p .uuid) (p .time) (p .«gen_seed») (p .features) (p .roomy)
 
   abbrev pub withAgcount : ℕ → Params
-  withAgcount n = options (p .size) (p .«block_size») (p .«sector_size») (p .«inode_size») (Given n) (p .agsize) (p .imaxpct) (p .label) (p .uuid) (p .time) (p .«gen_seed») (p .features) (p .roomy)
+  withAgcount n = options (p .size) (p .«block_size») (p .«sector_size») (p .«inode_size») (Given n) (p .agsize) (p .imaxpct) (p .label)
+      (p .uuid) (p .time) (p .«gen_seed») (p .features) (p .roomy)
 
   abbrev pub withAgsize : ℕ → Params
-  withAgsize n = options (p .size) (p .«block_size») (p .«sector_size») (p .«inode_size») (p .agcount) (Given n) (p .imaxpct) (p .label) (p .uuid) (p .time) (p .«gen_seed») (p .features) (p .roomy)
+  withAgsize n = options (p .size) (p .«block_size») (p .«sector_size») (p .«inode_size») (p .agcount) (Given n) (p .imaxpct) (p .label)
+      (p .uuid) (p .time) (p .«gen_seed») (p .features) (p .roomy)
 
   abbrev pub withImaxpct : ℕ → Params
-  withImaxpct n = options (p .size) (p .«block_size») (p .«sector_size») (p .«inode_size») (p .agcount) (p .agsize) (Given8 n) (p .label) (p .uuid) (p .time) (p .«gen_seed») (p .features) (p .roomy)
+  withImaxpct n = options (p .size) (p .«block_size») (p .«sector_size») (p .«inode_size») (p .agcount) (p .agsize) (Given8 n) (p .label)
+      (p .uuid) (p .time) (p .«gen_seed») (p .features) (p .roomy)
 
   abbrev pub withLabel : Label → Params
-  withLabel l = options (p .size) (p .«block_size») (p .«sector_size») (p .«inode_size») (p .agcount) (p .agsize) (p .imaxpct) l (p .uuid) (p .time) (p .«gen_seed») (p .features) (p .roomy)
+  withLabel l = options (p .size) (p .«block_size») (p .«sector_size») (p .«inode_size») (p .agcount) (p .agsize) (p .imaxpct) l (p .uuid)
+      (p .time) (p .«gen_seed») (p .features) (p .roomy)
 
   abbrev pub withUuid : List ℕ → Params
-  withUuid u = options (p .size) (p .«block_size») (p .«sector_size») (p .«inode_size») (p .agcount) (p .agsize) (p .imaxpct) (p .label) (record { presence = Yes; bytes = u }) (p .time) (p .«gen_seed») (p .features) (p .roomy)
+  withUuid u = options (p .size) (p .«block_size») (p .«sector_size») (p .«inode_size») (p .agcount) (p .agsize) (p .imaxpct) (p .label)
+      (record { presence = Yes; bytes = u }) (p .time) (p .«gen_seed») (p .features) (p .roomy)
 
   abbrev pub withTime : ℤ → ℕ → Params
-  withTime s n = options (p .size) (p .«block_size») (p .«sector_size») (p .«inode_size») (p .agcount) (p .agsize) (p .imaxpct) (p .label) (p .uuid) (GivenTime (record { secs = s; nsecs = n })) (p .«gen_seed») (p .features) (p .roomy)
+  withTime s n = options (p .size) (p .«block_size») (p .«sector_size») (p .«inode_size») (p .agcount) (p .agsize) (p .imaxpct) (p .label)
+      (p .uuid) (GivenTime (record { secs = s; nsecs = n })) (p .«gen_seed») (p .features) (p .roomy)
 
   abbrev pub withGenSeed : ℕ → Params
-  withGenSeed n = options (p .size) (p .«block_size») (p .«sector_size») (p .«inode_size») (p .agcount) (p .agsize) (p .imaxpct) (p .label) (p .uuid) (p .time) (Given n) (p .features) (p .roomy)
+  withGenSeed n = options (p .size) (p .«block_size») (p .«sector_size») (p .«inode_size») (p .agcount) (p .agsize) (p .imaxpct) (p .label)
+      (p .uuid) (p .time) (Given n) (p .features) (p .roomy)
 
   abbrev pub withFeatures : Features → Params
-  withFeatures f = options (p .size) (p .«block_size») (p .«sector_size») (p .«inode_size») (p .agcount) (p .agsize) (p .imaxpct) (p .label) (p .uuid) (p .time) (p .«gen_seed») f (p .roomy)
+  withFeatures f = options (p .size) (p .«block_size») (p .«sector_size») (p .«inode_size») (p .agcount) (p .agsize) (p .imaxpct) (p .label)
+      (p .uuid) (p .time) (p .«gen_seed») f (p .roomy)
 
   abbrev pub withRoomy : Bool → Params
-  withRoomy r = options (p .size) (p .«block_size») (p .«sector_size») (p .«inode_size») (p .agcount) (p .agsize) (p .imaxpct) (p .label) (p .uuid) (p .time) (p .«gen_seed») (p .features) r
+  withRoomy r = options (p .size) (p .«block_size») (p .«sector_size») (p .«inode_size») (p .agcount) (p .agsize) (p .imaxpct) (p .label)
+      (p .uuid) (p .time) (p .«gen_seed») (p .features) r

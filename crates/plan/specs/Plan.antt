@@ -123,7 +123,8 @@ noted w wants free agfl m =
 unfoldable pub moved : Work → ℕ → ℕ → Work
 moved w start n =
     choose (eqb (taken (w .free) start n .number) 0)
-    (noted w (w .want - n) (taken (w .free) start n .list) (toAgfl (appended (ofAgfl (w .agfl)) (upFrom start n))) (mapped (w .rmapbt) (w .rmap) (mapRec start n ownAg)))
+    (noted w (w .want - n) (taken (w .free) start n .list) (toAgfl (appended (ofAgfl (w .agfl)) (upFrom start n)))
+    (mapped (w .rmapbt) (w .rmap) (mapRec start n ownAg)))
     (failed w (taken (w .free) start n .number))
 
 abbrev pub smallerOf : ℕ → ℕ → ℕ
@@ -149,7 +150,8 @@ unfoldable pub chunked : Site → Work → Work
 chunked s w =
     choose (eqb (w .number) 0)
     (choose (eqb (taken (w .free) (s .«chunk_at») (s .«chunk_blocks») .number) 0)
-    (noted w (w .want) (taken (w .free) (s .«chunk_at») (s .«chunk_blocks») .list) (w .agfl) (mapped (w .rmapbt) (w .rmap) (mapRec (s .«chunk_at») (s .«chunk_blocks») ownInodes)))
+    (noted w (w .want) (taken (w .free) (s .«chunk_at») (s .«chunk_blocks») .list) (w .agfl)
+    (mapped (w .rmapbt) (w .rmap) (mapRec (s .«chunk_at») (s .«chunk_blocks») ownInodes)))
     (failed w (taken (w .free) (s .«chunk_at») (s .«chunk_blocks») .number)))
     w
 
@@ -164,7 +166,17 @@ refusedPlan n = record { number = n; plan = noPlan }
 unfoldable pub planAnswer : Site → OptU64 → Work → Planned
 planAnswer s chunk w =
     choose (eqb (w .number) 0)
-    (record { number = 0; plan = record { agno = s .agno; length = s .length; free = w .free; agfl = w .agfl; rmap = w .rmap; chunk = chunk } })
+    (record {
+      number = 0;
+      plan = record {
+        agno = s .agno;
+        length = s .length;
+        free = w .free;
+        agfl = w .agfl;
+        rmap = w .rmap;
+        chunk = chunk;
+      };
+    })
     (refusedPlan (w .number))
 
 -- the plan of a group: group 0 has the root chunk

@@ -52,5 +52,7 @@ NoneJoins xs r = (x : RmapRec) → List·Memᴰ x xs → (joins x r ≡ false) �
 pub data InsertAnswers (l : RmapList) (r : RmapRec) (t : Inserted) : Type 0 where
   long : 64 < l .len → t ≡ insertRefused tooManyRecords → InsertAnswers l r t
   unfit : l .len ≤ 64 → (Accepts (rmapOf l) r → ⊥) → t ≡ insertRefused notValid → InsertAnswers l r t
-  full : l .len ≤ 64 → Accepts (rmapOf l) r → length (rmapOf l) ≡ 64 → NoneJoins (rmapOf l) r → t ≡ insertRefused tooManyRecords → InsertAnswers l r t
-  done : l .len ≤ 64 → Accepts (rmapOf l) r → (length (rmapOf l) ≡ 64 → NoneJoins (rmapOf l) r → ⊥) → t .number ≡ 0 → Gains (rmapOf l) r (rmapOf (t .list)) → InsertAnswers l r t
+  full : l .len ≤ 64 → Accepts (rmapOf l) r → length (rmapOf l) ≡ 64 → NoneJoins (rmapOf l) r → t ≡ insertRefused tooManyRecords
+      → InsertAnswers l r t
+  done : l .len ≤ 64 → Accepts (rmapOf l) r → (length (rmapOf l) ≡ 64 → NoneJoins (rmapOf l) r → ⊥) → t .number ≡ 0
+      → Gains (rmapOf l) r (rmapOf (t .list)) → InsertAnswers l r t

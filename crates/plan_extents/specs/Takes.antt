@@ -42,6 +42,9 @@ NoneHolds xs s e = (r : AllocRec) → List·Memᴰ r xs → WithinRecord s e r �
 pub data TakeAnswers (l : FreeList) (s n : ℕ) (t : Taken) : Type 0 where
   long : 64 < l .len → t ≡ takeRefused tooManyRecords → TakeAnswers l s n t
   unsorted : l .len ≤ 64 → valid allocStart allocCount 0 (freeOf l) ≡ false → t ≡ takeRefused notValid → TakeAnswers l s n t
-  unheld : l .len ≤ 64 → valid allocStart allocCount 0 (freeOf l) ≡ true → NoneHolds (freeOf l) s (s + n) → t ≡ takeRefused notFree → TakeAnswers l s n t
-  split : l .len ≤ 64 → valid allocStart allocCount 0 (freeOf l) ≡ true → (r : AllocRec) → Splits (freeOf l) s (s + n) r → t ≡ takeRefused tooManyRecords → TakeAnswers l s n t
-  done : l .len ≤ 64 → valid allocStart allocCount 0 (freeOf l) ≡ true → (r : AllocRec) → List·Memᴰ r (freeOf l) → WithinRecord s (s + n) r → ((x : AllocRec) → Splits (freeOf l) s (s + n) x → ⊥) → t .number ≡ 0 → TakeAnswers l s n t
+  unheld : l .len ≤ 64 → valid allocStart allocCount 0 (freeOf l) ≡ true → NoneHolds (freeOf l) s (s + n) → t ≡ takeRefused notFree
+      → TakeAnswers l s n t
+  split : l .len ≤ 64 → valid allocStart allocCount 0 (freeOf l) ≡ true → (r : AllocRec) → Splits (freeOf l) s (s + n) r
+      → t ≡ takeRefused tooManyRecords → TakeAnswers l s n t
+  done : l .len ≤ 64 → valid allocStart allocCount 0 (freeOf l) ≡ true → (r : AllocRec) → List·Memᴰ r (freeOf l) → WithinRecord s (s + n) r
+      → ((x : AllocRec) → Splits (freeOf l) s (s + n) x → ⊥) → t .number ≡ 0 → TakeAnswers l s n t

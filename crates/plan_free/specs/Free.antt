@@ -72,7 +72,8 @@ takenAt xs i s e = takenList (spliced xs i (i + 1) (withoutRun s e (getD xs i ze
 
 -- out of the first record that holds it; 33 where none does
 unfoldable pub takenFrom : List AllocRec → ℕ → ℕ → Taken
-takenFrom xs s e = choose (ltb (firstIndex (holdsRun s e) xs) (length xs)) (takenAt xs (firstIndex (holdsRun s e) xs) s e) (takeRefused notFree)
+takenFrom xs s e = choose (ltb (firstIndex (holdsRun s e) xs) (length xs)) (takenAt xs (firstIndex (holdsRun s e) xs) s e)
+    (takeRefused notFree)
 
 -- `take`: the run of len blocks from start taken out of the free extents. 34 above 64 records, 32 unless they are valid, 33 where
 -- start plus len is above 2^64 − 1

@@ -98,7 +98,8 @@ fn put_after(l: FreeList, r: AllocRec, e: u64) -> FreeList
 
 // The run taken out of the record at index i, which holds it.
 fn take_at(l: FreeList, i: usize, s: u64, e: u64) -> Taken
-    requires { ⌜ (l .len ≤ 64) × (i < l .len) × (s ≤ allocEnd (getD (l .recs) i zeroFreeRec)) × (allocEnd (getD (l .recs) i zeroFreeRec) < 2 ^ 32) ⌝ }
+    requires { ⌜ (l .len ≤ 64) × (i < l .len) × (s ≤ allocEnd (getD (l .recs) i zeroFreeRec))
+        × (allocEnd (getD (l .recs) i zeroFreeRec) < 2 ^ 32) ⌝ }
     ensures { λ r. ⌜ r ≡ takenAt (freeOf l) i s e ⌝ }
 {
     let n = l.len;

@@ -65,7 +65,15 @@ largestGroups =
       sectsize = 512;
       inodesize = 512;
       imaxpct = 5;
-      features = record { finobt = false; rmapbt = false; reflink = false; inobtcount = false; bigtime = false; nrext64 = false; sparse = false };
+      features = record {
+        finobt = false;
+        rmapbt = false;
+        reflink = false;
+        inobtcount = false;
+        bigtime = false;
+        nrext64 = false;
+        sparse = false;
+      };
       label = replicate 12 0;
     }) .geometry
 

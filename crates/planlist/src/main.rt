@@ -1,5 +1,5 @@
-// Reads input records from standard input and prints the plan of every group in a table, or `refused N`, and then its sentence on standard error.
-// What is printed is `planBytes` of the input (`plan_table`); here bytes are only read and written.
+// Reads input records from standard input and prints the plan of every group in a table, or `refused N`, and then its sentence on standard
+// error. What is printed is `planBytes` of the input (`plan_table`); here bytes are only read and written.
 ghost use lib.ListN.{length};
 ghost use Rattle.plan_table.specs.Filling.{tableBegun, Printing};
 use libc::STDERR_FILENO;

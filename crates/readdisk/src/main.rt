@@ -1,8 +1,8 @@
 // Reads the disk or image that PATH names and prints planlist's table of it, or `refused N`. It is opened for reading alone. Told to admit
-// disks of the scan station profile only, it judges what the pass accepted by its geometry (`reader_admit`).
-// A pass (`reader_pass`) says which bytes it wants next and whether an accepted run leaves the disk, and `plan_table` makes the table of the
-// geometry that its superblock names; here bytes are only read, and lines written. No line is printed before every head and the log's block
-// are accepted; what the bytes of such a disk say of a group is its row (`whole-printed`, crate reader_uses).
+// disks of the scan station profile only, it judges what the pass accepted by its geometry (`reader_admit`). A pass (`reader_pass`) says
+// which bytes it wants next and whether an accepted run leaves the disk, and `plan_table` makes the table of the geometry that its
+// superblock names; here bytes are only read, and lines written. No line is printed before every head and the log's block are accepted;
+// what the bytes of such a disk say of a group is its row (`whole-printed`, crate reader_uses).
 mod input; // reading
 mod printed; // the table
 mod words; // standard error

@@ -6,8 +6,8 @@ use geometry::Geometry;
 use profile::label_on;
 use profile::profile_number;
 
-// The reader's number, which comes first, then 37 where it is told to admit profile disks only and this geometry's disk is none. The geometry is
-// the one that group 0's head gave, or that was handed in with a group's head or the log block.
+// The reader's number, which comes first, then 37 where it is told to admit profile disks only and this geometry's disk is none. The
+// geometry is the one that group 0's head gave, or that was handed in with a group's head or the log block.
 pub fn admit(told: bool, g: Geometry, number: u32) -> u32
     ensures { λ r. ⌜ r ≡ admitted told g number ⌝ }
 {

@@ -63,4 +63,5 @@ firstAgreed xs = farther (firstAs false xs) (firstAs true xs)
 unfoldable pub agreedAt : Verdict → List ℕ → Agreement
 agreedAt v xs =
     choose (eqb (v .place) 0) (firstAgreed xs)
-    (choose (ltb (v .place) (v .geometry .agcount)) (headAgreed (v .geometry) (v .uuid) (v .place) xs) (logAgreed (v .geometry) (v .uuid) xs))
+    (choose (ltb (v .place) (v .geometry .agcount)) (headAgreed (v .geometry) (v .uuid) (v .place) xs)
+    (logAgreed (v .geometry) (v .uuid) xs))

@@ -9,7 +9,8 @@ use Rattle.geometry.specs.declared.Geometry.{Geometry}
 use Rattle.geometry.specs.Log.{headerOf, preallocOf}
 use Rattle.reader_decoded.specs.Decoded.{sectorAt, blockAt}
 
--- Every checksum of a head verifies, at its structure's place: superblock, AGF, AGI and free list in their sectors, and each root in its block.
+-- Every checksum of a head verifies, at its structure's place: superblock, AGF, AGI and free list in their sectors, and each root in its
+-- block.
 pub record Checked (g : Geometry) (head : List ℕ) : Type 0 where
   pub superblock : verified 224 (sectorAt g 0 head) ≡ true  -- sb_crc
   pub agf : verified 216 (sectorAt g 1 head) ≡ true  -- agf_crc

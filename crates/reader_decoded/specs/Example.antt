@@ -1,4 +1,5 @@
--- A small head, so that every decoding is also seen on bytes: sectors of 256 bytes, blocks of 128, 4 inodes a block, and a free list that goes around.
+-- A small head, so that every decoding is also seen on bytes: sectors of 256 bytes, blocks of 128, 4 inodes a block, and a free list that
+-- goes around.
 -- Assumes nothing.
 use mathlib.Core.Bool.{false}
 use mathlib.Core.List.{List, [], _∷_, _++_}
@@ -30,7 +31,15 @@ small =
       logblocks = 0;
       logagno = 0;
       «log_agbno» = 0;
-      features = record { finobt = false; rmapbt = false; reflink = false; inobtcount = false; bigtime = false; nrext64 = false; sparse = false };
+      features = record {
+        finobt = false;
+        rmapbt = false;
+        reflink = false;
+        inobtcount = false;
+        bigtime = false;
+        nrext64 = false;
+        sparse = false;
+      };
       label = replicate 12 0;
       roomy = false;
     }
@@ -43,7 +52,8 @@ writtenZeros n fs = writeFields fs (replicate n 0)
 unfoldable pub smallSuper : List ℕ
 smallSuper = writtenZeros 256 (field 48 8 100 ∷ field 96 4 9 ∷ field 136 8 61 ∷ field 144 8 777 ∷ [])
 
--- group 0 of 32 blocks; the roots by block and by size are blocks 8 and 9; the free list has three entries from slot 54, the last, to slot 1
+-- group 0 of 32 blocks; the roots by block and by size are blocks 8 and 9; the free list has three entries from slot 54, the last, to slot
+-- 1
 unfoldable pub smallAgf : List ℕ
 smallAgf = writtenZeros 256 (field 12 4 32 ∷ field 16 4 8 ∷ field 20 4 9 ∷ field 40 4 54 ∷ field 44 4 1 ∷ field 48 4 3 ∷ [])
 

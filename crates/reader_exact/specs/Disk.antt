@@ -27,5 +27,6 @@ formatted r old = applied (listOf (runOf r) (r .device)) old
 pub record ByRecords (heads : ℕ → List ℕ) (log : List ℕ) : Type 0 where
   pub request : Request
   pub accepted : AcceptedRun request
-  pub head : (old : Device) (k : ℕ) → k < runOf request .geometry .agcount → heads k ≡ headOn (runOf request .geometry) (formatted request old) k
+  pub head : (old : Device) (k : ℕ) → k < runOf request .geometry .agcount
+      → heads k ≡ headOn (runOf request .geometry) (formatted request old) k
   pub log-block : (old : Device) → log ≡ logOn (runOf request .geometry) (formatted request old)

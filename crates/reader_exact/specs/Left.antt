@@ -47,5 +47,6 @@ reported g = choose (isAnswer (plain g)) (plain g) g
 -- the reader accepts group 0's head, and the other heads and the log block with what it gave
 pub record ReadWhole (heads : ℕ → List ℕ) (log : List ℕ) : Type 0 where
   pub first : readGroup0 (heads 0) .number ≡ 0
-  pub others : (k : ℕ) → 0 < k → k < readGroup0 (heads 0) .geometry .agcount → readGroup (readGroup0 (heads 0) .geometry) (readGroup0 (heads 0) .uuid) k (heads k) .number ≡ 0
+  pub others : (k : ℕ) → 0 < k → k < readGroup0 (heads 0) .geometry .agcount
+      → readGroup (readGroup0 (heads 0) .geometry) (readGroup0 (heads 0) .uuid) k (heads k) .number ≡ 0
   pub log-block : readLog (readGroup0 (heads 0) .geometry) (readGroup0 (heads 0) .uuid) log ≡ 0

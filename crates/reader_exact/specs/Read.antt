@@ -42,7 +42,8 @@ notFound n = record { number = n; geometry = zeroGeometry; uuid = replicate 16 0
 abbrev pub found : Geometry → List ℕ → AgPlan → Found
 found g u p = record { number = 0; geometry = g; uuid = u; plan = p }
 
--- 27 under 512 bytes, then 30 if the superblock names no geometry that the geometry step accepts, then 27 unless the bytes have its head's length, then 30
+-- 27 under 512 bytes, then 30 if the superblock names no geometry that the geometry step accepts, then 27 unless the bytes have its head's
+-- length, then 30
 unfoldable pub firstTests : List ℕ → Computed → List ℕ → List Refusal
 firstTests xs c u =
     wrongLength if ltb (length xs) leastSector
@@ -79,7 +80,8 @@ unfoldable pub groupNumber : Geometry → List ℕ → ℕ → List ℕ → ℕ
 groupNumber g u k xs = first (placeTests g (leb (g .agcount) k) (headLength g) (headLeft g u k) xs) 0
 
 unfoldable pub readGroup : Geometry → List ℕ → ℕ → List ℕ → Planned
-readGroup g u k xs = choose (eqb (groupNumber g u k xs) 0) (record { number = 0; plan = planned g k .plan }) (refusedPlan (groupNumber g u k xs))
+readGroup g u k xs = choose (eqb (groupNumber g u k xs) 0) (record { number = 0; plan = planned g k .plan })
+    (refusedPlan (groupNumber g u k xs))
 
 -- the log's first block
 unfoldable pub readLog : Geometry → List ℕ → List ℕ → ℕ

@@ -100,7 +100,8 @@ pub record AgfAt (g : Geometry) (u : List ℕ) (k : ℕ) (xs : List ℕ) : Type 
   pub uuid : part 64 16 xs ≡ u
   pub rmap-blocks : beAt 4 80 xs ≡ bit (g .features .rmapbt)
   pub refcount-blocks : beAt 4 84 xs ≡ bit (g .features .reflink)
-  pub refcount-root : beAt 4 88 xs ≡ when (g .features .reflink) (headerBlocksOf g + 3 + bit (g .features .finobt) + bit (g .features .rmapbt)) 0
+  pub refcount-root : beAt 4 88 xs ≡ when (g .features .reflink)
+      (headerBlocksOf g + 3 + bit (g .features .finobt) + bit (g .features .rmapbt)) 0
   pub refcount-level : beAt 4 92 xs ≡ bit (g .features .reflink)
   pub lsn : beAt 8 208 xs ≡ 0
 
@@ -151,9 +152,12 @@ pub record RootsAt (g : Geometry) (u : List ℕ) (k : ℕ) (head : List ℕ) : T
   pub by-size : LeafAt g u k (headerBlocksOf g + 1) 0x4142_3343 (planned g k .plan .free .len) (blockAt g (headerBlocksOf g + 1) head)
   -- inodes, "IAB3", and free inodes, "FIB3": the root chunk's record in group 0
   pub inodes : LeafAt g u k (headerBlocksOf g + 2) 0x4941_4233 (bit (eqb k 0)) (blockAt g (headerBlocksOf g + 2) head)
-  pub free-inodes : g .features .finobt ≡ true → LeafAt g u k (headerBlocksOf g + 3) 0x4649_4233 (bit (eqb k 0)) (blockAt g (headerBlocksOf g + 3) head)
+  pub free-inodes : g .features .finobt ≡ true
+      → LeafAt g u k (headerBlocksOf g + 3) 0x4649_4233 (bit (eqb k 0)) (blockAt g (headerBlocksOf g + 3) head)
   -- reverse mappings, "RMB3", and reference counts, "R3FC"
   pub mappings : g .features .rmapbt ≡ true
-      → let b = headerBlocksOf g + 3 + bit (g .features .finobt) in LeafAt g u k b 0x524d_4233 (planned g k .plan .rmap .len) (blockAt g b head)
+      → let b = headerBlocksOf g + 3 + bit (g .features .finobt) in LeafAt g u k b 0x524d_4233
+      (planned g k .plan .rmap .len) (blockAt g b head)
   pub counts : g .features .reflink ≡ true
-      → let b = headerBlocksOf g + 3 + bit (g .features .finobt) + bit (g .features .rmapbt) in LeafAt g u k b 0x5233_4643 0 (blockAt g b head)
+      → let b = headerBlocksOf g + 3 + bit (g .features .finobt)
+      + bit (g .features .rmapbt) in LeafAt g u k b 0x5233_4643 0 (blockAt g b head)

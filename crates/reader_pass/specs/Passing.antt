@@ -66,7 +66,11 @@ isEnded Ended = true
 -- what a pass wants next
 unfoldable pub passWanted : Pass → Wanted
 passWanted p =
-    record { offset = offsetOf (p .stage) (p .geometry) (p .place); length = stageLength (p .stage) (p .geometry); done = isEnded (p .stage) }
+    record {
+      offset = offsetOf (p .stage) (p .geometry) (p .place);
+      length = stageLength (p .stage) (p .geometry);
+      done = isEnded (p .stage);
+    }
 
 -- ---- what is fed
 
@@ -90,7 +94,8 @@ wentOn p n g u k = choose (eqb n 0) (record { stage = stageAt g k; number = 0; p
 -- under both
 unfoldable pub namedSo : Pass → Computed → Pass
 namedSo p c =
-    choose (eqb (c .number) 0) (record { stage = First; number = 0; place = 0; geometry = c .geometry; uuid = p .uuid }) (passEndedBy p notLeft)
+    choose (eqb (c .number) 0) (record { stage = First; number = 0; place = 0; geometry = c .geometry; uuid = p .uuid })
+    (passEndedBy p notLeft)
 
 -- the first sector
 unfoldable pub fedNamed : Pass → List ℕ → Pass

@@ -1,5 +1,6 @@
--- The uses of a group's blocks and their totals as the bytes of the heads name them: head by the geometry that the superblock names, log by the
--- superblock's log start and length, free list by its entries in use, chunk by the inode tree's record, free by the records of the tree by block.
+-- The uses of a group's blocks and their totals as the bytes of the heads name them: head by the geometry that the superblock names, log by
+-- the superblock's log start and length, free list by its entries in use, chunk by the inode tree's record, free by the records of the tree
+-- by block.
 -- Assumes nothing.
 use mathlib.Core.Path.{_≡_}
 use mathlib.Core.List.{List, [], _∷_}
@@ -139,8 +140,10 @@ pub record LeftHeads (g : Geometry) (u : List ℕ) (heads : ℕ → List ℕ) : 
 -- ---- what the heads of a disk say of it, g being the geometry that group 0's superblock names
 pub record Used (g : Geometry) (heads : ℕ → List ℕ) : Type 0 where
   -- each block of each group has exactly one use, and none past the group has one
-  pub one-use : (k b : ℕ) → k < g .agcount → b < groupBlocks (g .dblocks) (g .agsize) (g .agcount) k → Once (usesIn g (heads 0) (heads k) k b)
-  pub no-use : (k b : ℕ) → k < g .agcount → groupBlocks (g .dblocks) (g .agsize) (g .agcount) k ≤ b → (v : Use) → usesIn g (heads 0) (heads k) k b v ≡ 0
+  pub one-use : (k b : ℕ) → k < g .agcount → b < groupBlocks (g .dblocks) (g .agsize) (g .agcount) k
+      → Once (usesIn g (heads 0) (heads k) k b)
+  pub no-use : (k b : ℕ) → k < g .agcount → groupBlocks (g .dblocks) (g .agsize) (g .agcount) k ≤ b → (v : Use)
+      → usesIn g (heads 0) (heads k) k b v ≡ 0
   -- free blocks and free-list blocks are the superblock's free count
   pub free-total : freeTotal g heads + listTotal g heads ≡ countIn (heads 0)
   -- which is all blocks less heads, log and chunk

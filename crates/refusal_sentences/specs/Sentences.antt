@@ -1,5 +1,5 @@
--- THE SENTENCES OF REFUSALS: what each number says, once, in the numbers' order. The programs print them on standard error behind the number,
--- and `zechurqi numbers` reads this page.
+-- THE SENTENCES OF REFUSALS: what each number says, once, in the numbers' order. The programs print them on standard error behind the
+-- number, and `zechurqi numbers` reads this page.
 -- Assumes nothing.
 use mathlib.Core.List.{List, [], _∷_}
 use Prim.Native.Nat.{ℕ}

@@ -1,6 +1,7 @@
--- THE NUMBERS OF REFUSALS, each once, in their order; what each says stands in crate refusal_sentences (specs/Sentences.antt). 0 accepts. Where
--- several apply the smallest is given, but 28 and 31 come before all others, and 34 for a list that is handed in comes before 32 and 33
--- (docs/SCOPE.md, section 2). 1 to 24 are the geometry step's, 25 the planner's, 26 that of a run's time; 42 and 43 are those of held runs.
+-- THE NUMBERS OF REFUSALS, each once, in their order; what each says stands in crate refusal_sentences (specs/Sentences.antt). 0 accepts.
+-- Where several apply the smallest is given, but 28 and 31 come before all others, and 34 for a list that is handed in comes before 32 and
+-- 33 (docs/SCOPE.md, section 2). 1 to 24 are the geometry step's, 25 the planner's, 26 that of a run's time; 42 and 43 are those of held
+-- runs.
 -- Assumes nothing.
 use Prim.Native.Nat.{ℕ}
 

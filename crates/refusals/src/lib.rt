@@ -1,5 +1,5 @@
-// Refusals: the number of each (what it says: crate refusal_sentences), and a table of them, run from its last test to its first, so that the
-// smallest number that applies is left.
+// Refusals: the number of each (what it says: crate refusal_sentences), and a table of them, run from its last test to its first, so that
+// the smallest number that applies is left.
 ghost use mathlib.Core.Path.{_≡_};
 ghost use Rattle.arith.specs.Choice.{when};
 

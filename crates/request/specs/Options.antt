@@ -72,7 +72,16 @@ on k n = eqb (n / 2 ^ k % 2) 1
 
 -- from bit 0 on
 unfoldable pub featuresIn : ℕ → Features
-featuresIn n = record { finobt = on 0 n; rmapbt = on 1 n; reflink = on 2 n; inobtcount = on 3 n; bigtime = on 4 n; nrext64 = on 5 n; sparse = on 6 n }
+featuresIn n = record {
+  finobt = on 0 n;
+  rmapbt = on 1 n;
+  reflink = on 2 n;
+  inobtcount = on 3 n;
+  bigtime = on 4 n;
+  nrext64 = on 5
+      n;
+  sparse = on 6 n;
+}
 
 abbrev pub featuresGiven : OptU64 → Features
 featuresGiven Absent = allFeatures

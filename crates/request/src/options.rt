@@ -261,7 +261,8 @@ fn uuid_in(input: &[u8]) -> OptUuid
 
 fn time_in(input: &[u8]) -> OptTime
     requires { ⌜ wellFormed (now input) ≡ true ⌝ }
-    ensures { λ r. ⌜ r ≡ timeGiven (valueWith (3 + 10) (records 0 (now (input .entry)))) (valueWith (3 + 11) (records 0 (now (input .entry)))) ⌝ }
+    ensures { λ r. ⌜ r ≡ timeGiven (valueWith (3 + 10) (records 0 (now (input .entry))))
+        (valueWith (3 + 11) (records 0 (now (input .entry)))) ⌝ }
 {
     let seconds = option(input, SECONDS);
     time_of(seconds, option(input, NANOSECONDS))

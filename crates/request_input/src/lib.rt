@@ -104,7 +104,8 @@ fn whole_record(len: usize, key: usize, value: u64, at: usize, size: usize) -> R
 
 fn option_record(input: &[u8], at: usize) -> Record
     requires { ⌜ at + 3 ≤ length (now input) ⌝ }
-    ensures { λ r. ⌜ r ≡ wholeRecord (length (now (input .entry))) (3 + getD (now (input .entry)) (at + 2) 0) (beAt 8 (at + 3) (now (input .entry))) (at + 11) ⌝ }
+    ensures { λ r. ⌜ r ≡ wholeRecord (length (now (input .entry))) (3 + getD (now (input .entry)) (at + 2) 0)
+        (beAt 8 (at + 3) (now (input .entry))) (at + 11) ⌝ }
 {
     if input.len() - at < 11 {
         return no_record(input.len());

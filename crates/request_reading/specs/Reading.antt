@@ -30,12 +30,14 @@ optionAsked code ws = choose (given code ws) (Given (wordWith code ws .value)) A
 
 -- each option that is read back is the word's, and absent where there is no word
 unfoldable pub OptionsReadBack : Type 0
-OptionsReadBack = (xs : List ℕ) (code : ℕ) → 1 ≤ code → code ≤ 12 → lookupRecord (option code) (records 0 (wordsRequest xs)) ≡ optionAsked code (wordsFrom 0 xs)
+OptionsReadBack = (xs : List ℕ) (code : ℕ) → 1 ≤ code → code ≤ 12
+    → lookupRecord (option code) (records 0 (wordsRequest xs)) ≡ optionAsked code (wordsFrom 0 xs)
 
 -- so are the device's size and sectors, which no accepted words lack
 unfoldable pub DeviceReadBack : Type 0
 DeviceReadBack = (xs : List ℕ) → given 13 (wordsFrom 0 xs) ≡ true → given 14 (wordsFrom 0 xs) ≡ true → given 15 (wordsFrom 0 xs) ≡ true
-    → (beAt 8 2 (wordsRequest xs) ≡ wordWith 13 (wordsFrom 0 xs) .value) × (beAt 4 10 (wordsRequest xs) ≡ wordWith 14 (wordsFrom 0 xs) .value)
+    → (beAt 8 2 (wordsRequest xs) ≡ wordWith 13 (wordsFrom 0 xs) .value)
+    × (beAt 4 10 (wordsRequest xs) ≡ wordWith 14 (wordsFrom 0 xs) .value)
     × (beAt 4 14 (wordsRequest xs) ≡ wordWith 15 (wordsFrom 0 xs) .value)
 
 -- the label that a word gives: its length, and its bytes filled up with zeros
@@ -50,7 +52,8 @@ uuidAsked ws xs = choose (eqb (wordWith 16 ws .value) 1) (record { presence = Ye
 
 -- the label that is read back is the word's, and there is none where there is no word
 unfoldable pub LabelReadBack : Type 0
-LabelReadBack = (xs : List ℕ) → labelGiven (lookupRecord label (records 0 (wordsRequest xs))) (wordsRequest xs) ≡ labelAsked (wordsFrom 0 xs) xs
+LabelReadBack = (xs : List ℕ) → labelGiven (lookupRecord label (records 0 (wordsRequest xs))) (wordsRequest xs)
+    ≡ labelAsked (wordsFrom 0 xs) xs
 
 -- so is the UUID
 unfoldable pub UuidReadBack : Type 0

@@ -78,7 +78,8 @@ longest = 183
 abbrev pub madeAs : ℕ → ℕ → ℕ → Made
 madeAs number index length = record { number = number; index = index; length = length }
 
--- number 0 and the records' length; or 27 for a buffer of fewer than `longest` bytes, or what is wrong, and then no byte of the buffer has changed
+-- number 0 and the records' length; or 27 for a buffer of fewer than `longest` bytes, or what is wrong, and then no byte of the buffer has
+-- changed
 abbrev pub madeOf : Verdict → List ℕ → List ℕ → Made
 madeOf v xs old =
     choose (leb longest (length old))

@@ -33,7 +33,8 @@ timeRefusal g t = timeNumber (g .features .bigtime) (t .secs) (t .nsecs)
 -- without the profile: 28, then the geometry step's number, then that of the plans, then that of the time
 unfoldable pub bareNumber : Request → ℕ
 bareNumber r =
-    orNext (r .number) (orNext (stepOf r .number) (orNext (plansNumber (stepOf r .geometry)) (timeRefusal (stepOf r .geometry) (timeOf (r .params)))))
+    orNext (r .number) (orNext (stepOf r .number)
+    (orNext (plansNumber (stepOf r .geometry)) (timeRefusal (stepOf r .geometry) (timeOf (r .params)))))
 
 -- and then, under the profile, 37 where the geometry or the label that was asked for breaks a rule
 unfoldable pub runNumber : Request → ℕ

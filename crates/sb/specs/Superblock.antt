@@ -1,4 +1,5 @@
--- The superblock on disk, `struct xfs_dsb`: its numbers, and every field in disk order. `sb_qflags`, `sb_flags`, `sb_shared_vn` and `sb_meta_uuid` aren't written.
+-- The superblock on disk, `struct xfs_dsb`: its numbers, and every field in disk order. `sb_qflags`, `sb_flags`, `sb_shared_vn` and
+-- `sb_meta_uuid` aren't written.
 -- Assumes nothing.
 use mathlib.Core.Bool.{Bool, true, false, _||_}
 use mathlib.Core.List.{List, [], _∷_, _++_}

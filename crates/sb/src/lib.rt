@@ -184,8 +184,10 @@ fn all_numbers(g: Geometry, s: SbState, start: u64) -> [u64; 46]
 
 // The superblock in a sector that is long enough.
 fn fill(g: Geometry, s: SbState, sector: &mut [u8]) -> Stamped
-    requires { ⌜ (264 ≤ length (now sector)) × ((g .agblklog < 64) × (g .logagno * 2 ^ g .agblklog + g .«log_agbno» < 2 ^ 64)) × (g .lsectsize < 2 ^ 16) ⌝ }
-    ensures { λ r. ⌜ Encoded 0 (crcAt ∷ []) (sbBytes g s (now (sector .entry))) (now (sector .entry)) (r .number) (r .right) (now (sector .exit)) ⌝ }
+    requires { ⌜ (264 ≤ length (now sector)) × ((g .agblklog < 64) × (g .logagno * 2 ^ g .agblklog + g .«log_agbno» < 2 ^ 64))
+        × (g .lsectsize < 2 ^ 16) ⌝ }
+    ensures { λ r. ⌜ Encoded 0 (crcAt ∷ []) (sbBytes g s (now (sector .entry))) (now (sector .entry)) (r .number) (r .right)
+        (now (sector .exit)) ⌝ }
 {
     let start = log_start(g.agblklog, g.logagno, g.log_agbno);
     let v = all_numbers(g, s, start);
@@ -201,7 +203,8 @@ fn fill(g: Geometry, s: SbState, sector: &mut [u8]) -> Stamped
 // One superblock: its named bytes and its checksum, and whether that stood there already; every other byte of the sector stays. 31 for a
 // geometry that is no answer of the geometry step, 27 unless the sector has its length.
 pub fn encode(g: Geometry, s: SbState, sector: &mut [u8]) -> Stamped
-    ensures { λ r. ⌜ Encoded (sbNumber g (length (now (sector .entry)))) (crcAt ∷ []) (sbBytes g s (now (sector .entry))) (now (sector .entry)) (r .number) (r .right) (now (sector .exit)) ⌝ }
+    ensures { λ r. ⌜ Encoded (sbNumber g (length (now (sector .entry)))) (crcAt ∷ []) (sbBytes g s (now (sector .entry)))
+        (now (sector .entry)) (r .number) (r .right) (now (sector .exit)) ⌝ }
 {
     if is_answer(g) {
         if sector.len() == (g.sectsize as usize) {

@@ -108,7 +108,8 @@ pub(crate) fn put_numbers(sector: &mut [u8], v: &[u64; 46])
 // UUID and label.
 pub(crate) fn put_names(sector: &mut [u8], uuid: &[u8; 16], label: &[u8; 12])
     requires { ⌜ 264 ≤ length (now sector) ⌝ }
-    ensures { λ r. ⌜ now (sector .exit) ≡ writeFields (byteRun 32 (now (uuid .entry)) ∷ byteRun 108 (now (label .entry)) ∷ []) (now (sector .entry)) ⌝ }
+    ensures { λ r. ⌜ now (sector .exit) ≡ writeFields (byteRun 32 (now (uuid .entry)) ∷ byteRun 108 (now (label .entry)) ∷ [])
+        (now (sector .entry)) ⌝ }
 {
     endian::put_bytes(sector, 32, uuid); // sb_uuid
     endian::put_bytes(sector, 108, label); // sb_fname

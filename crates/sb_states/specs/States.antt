@@ -23,7 +23,16 @@ use Rattle.sb_states.specs.declared.Stated.{Stated}
 -- before the root chunk is there: no inode counted, and only the root inode may be named
 abbrev pub secondaryWith : List ℕ → ℕ → ℕ → SbState
 secondaryWith uuid rootino fdblocks =
-    record { uuid = uuid; rootino = rootino; rbmino = null64; rsumino = null64; icount = 0; ifree = 0; fdblocks = fdblocks; inprogress = true }
+    record {
+      uuid = uuid;
+      rootino = rootino;
+      rbmino = null64;
+      rsumino = null64;
+      icount = 0;
+      ifree = 0;
+      fdblocks = fdblocks;
+      inprogress = true;
+    }
 
 -- the inodes of the root chunk that are in use: root directory, realtime bitmap, realtime summary
 abbrev pub inUse : ℕ
@@ -67,7 +76,11 @@ stateOf g uuid agno = choose (eqb agno 0) (unfinishedState g uuid) (secondarySta
 -- ---- what the functions answer
 
 abbrev pub stateRefused : ℕ → Stated
-stateRefused n = record { number = n; state = record { uuid = replicate 16 0; rootino = 0; rbmino = 0; rsumino = 0; icount = 0; ifree = 0; fdblocks = 0; inprogress = false } }
+stateRefused n = record {
+  number = n;
+  state = record
+      { uuid = replicate 16 0; rootino = 0; rbmino = 0; rsumino = 0; icount = 0; ifree = 0; fdblocks = 0; inprogress = false };
+}
 
 -- the state, where the number is 0
 abbrev pub statedAs : ℕ → SbState → Stated

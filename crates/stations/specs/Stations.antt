@@ -61,7 +61,8 @@ finishedOf g = finishedState g (replicate 16 0)
 -- of the plans: the finished superblock's root inode and free count, first block of the chunk, free records of group 0 and of the log group
 unfoldable pub acceptedPlans : Geometry → List ℕ
 acceptedPlans g =
-    0 ∷ finishedOf g .rootino ∷ finishedOf g .fdblocks ∷ chunkStart (planIn g 0 .chunk) ∷ planIn g 0 .free .len ∷ planIn g (g .logagno) .free .len ∷ []
+    0 ∷ finishedOf g .rootino ∷ finishedOf g .fdblocks ∷ chunkStart (planIn g 0 .chunk) ∷ planIn g 0 .free .len
+    ∷ planIn g (g .logagno) .free .len ∷ []
 
 -- of a refusal the number, and the blocks that are left in the log group
 unfoldable pub plansBy : ℕ → Geometry → List ℕ
@@ -120,7 +121,8 @@ stations =
     -- K3, K4, K5
     ∷ stationRefused (withAgcount noOptions 5) (5 * 16395 * block) 22
     ∷ stationCase (withAgcount noOptions 5) (5 * 16396 * block) (0 ∷ 81980 ∷ 16396 ∷ 5 ∷ 16384 ∷ 7 ∷ 128 ∷ []) (planShort 5)
-    ∷ stationCase (withAgcount noOptions 5) (5 * 16397 * block) (0 ∷ 81985 ∷ 16397 ∷ 5 ∷ 16384 ∷ 7 ∷ 128 ∷ []) (0 ∷ 128 ∷ 65558 ∷ 16 ∷ 2 ∷ 0 ∷ [])
+    ∷ stationCase (withAgcount noOptions 5) (5 * 16397 * block) (0 ∷ 81985 ∷ 16397 ∷ 5 ∷ 16384 ∷ 7 ∷ 128 ∷ [])
+    (0 ∷ 128 ∷ 65558 ∷ 16 ∷ 2 ∷ 0 ∷ [])
     -- K6, K7
     ∷ stationCase (withAgsize noOptions (76800 * block)) (80896 * block) (0 ∷ 80896 ∷ 76800 ∷ 2 ∷ 16384 ∷ 7 ∷ 128 ∷ []) (planShort 0)
     ∷ stationRefused (withAgsize noOptions (76800 * block)) (80895 * block) 23
@@ -128,12 +130,14 @@ stations =
     ∷ stationRefused (withRoomy (withAgcount noOptions 5) true) (5 * 16396 * block) 22
     ∷ stationRefused (withRoomy (withAgsize noOptions (76800 * block)) true) (80896 * block) 22
     -- K8
-    ∷ stationCase (withAgsize noOptions (87000 * block)) (1024 * mib) (0 ∷ 261000 ∷ 87000 ∷ 3 ∷ 16384 ∷ 7 ∷ 128 ∷ []) (0 ∷ 128 ∷ 244587 ∷ 16 ∷ 2 ∷ 1 ∷ [])
+    ∷ stationCase (withAgsize noOptions (87000 * block)) (1024 * mib) (0 ∷ 261000 ∷ 87000 ∷ 3 ∷ 16384 ∷ 7 ∷ 128 ∷ [])
+    (0 ∷ 128 ∷ 244587 ∷ 16 ∷ 2 ∷ 1 ∷ [])
     ∷ stationRefused (withAgcount (withAgsize noOptions (87000 * block)) 3) (1024 * mib) 14
     -- K9
     ∷ stationRefused (withFeatures (withAgcount noOptions 20001) noRmapbt) (400000000 * block) 24
     -- K10
-    ∷ stationCase (withSectorSize noOptions 4096) (1024 * mib) (0 ∷ 262144 ∷ 65536 ∷ 4 ∷ 16384 ∷ 10 ∷ 128 ∷ []) (0 ∷ 128 ∷ 245712 ∷ 16 ∷ 1 ∷ 1 ∷ [])
+    ∷ stationCase (withSectorSize noOptions 4096) (1024 * mib) (0 ∷ 262144 ∷ 65536 ∷ 4 ∷ 16384 ∷ 10 ∷ 128 ∷ [])
+    (0 ∷ 128 ∷ 245712 ∷ 16 ∷ 1 ∷ 1 ∷ [])
     ∷ []
 
 -- ---- planlist's example

@@ -66,7 +66,8 @@ unfoldable pub runLine : Bool → ℕ → ℕ → List ℕ
 runLine held start count =
     pick held (104 ∷ 101 ∷ 108 ∷ 100 ∷ space ∷ []) (102 ∷ 114 ∷ 101 ∷ 101 ∷ space ∷ []) ++ line (start ∷ count ∷ [])
 
--- A write of a line's bytes at `at` over `old`: its number, where the line ends, and what it leaves. A line that doesn't fit is refused by 27.
+-- A write of a line's bytes at `at` over `old`: its number, where the line ends, and what it leaves. A line that doesn't fit is refused by
+-- 27.
 pub record PutLine (at : ℕ) (bytes old : List ℕ) (number end : ℕ) (left : List ℕ) : Type 0 where
   pub number-is : number ≡ answer (room (at + length bytes) old)
   pub end-is : end ≡ valued (room (at + length bytes) old) (at + length bytes)

@@ -1,5 +1,5 @@
-// The lines that planlist and inquire print, written into a lent buffer: 0 and the line's end, or 27 where a line doesn't fit, and then nothing has
-// changed.
+// The lines that planlist and inquire print, written into a lent buffer: 0 and the line's end, or 27 where a line doesn't fit, and then
+// nothing has changed.
 pub mod decimal; // numbers in decimal
 
 ghost use mathlib.Core.Path.{_≡_};
@@ -56,7 +56,8 @@ fn line_length(numbers: &[u64]) -> usize
 // The line that ends at `end`, from its last number to its first.
 fn store_line(numbers: &[u64], buf: &mut [u8], end: usize) -> usize
     requires { ⌜ (length (line (now numbers)) ≤ end) × (end ≤ length (now buf)) ⌝ }
-    ensures { λ r. ⌜ (r + length (line (now (numbers .entry))) ≡ end) × (now (buf .exit) ≡ patch r (line (now (numbers .entry))) (now (buf .entry))) ⌝ }
+    ensures { λ r. ⌜ (r + length (line (now (numbers .entry))) ≡ end)
+        × (now (buf .exit) ≡ patch r (line (now (numbers .entry))) (now (buf .entry))) ⌝ }
 {
     let mut at = end;
     let mut behind = b'\n';
@@ -108,7 +109,8 @@ fn put_line(numbers: &[u64], buf: &mut [u8], at: usize) -> Written
 // A word of at most eight bytes, and behind it the numbers.
 fn put_words(word: &[u8], numbers: &[u64], buf: &mut [u8], at: usize) -> Written
     requires { ⌜ (length (now word) ≤ 8) × (length (now numbers) ≤ 7) ⌝ }
-    ensures { λ r. ⌜ PutLine at (now (word .entry) ++ line (now (numbers .entry))) (now (buf .entry)) (r .number) (r .end) (now (buf .exit)) ⌝ }
+    ensures { λ r. ⌜ PutLine at (now (word .entry) ++ line (now (numbers .entry))) (now (buf .entry)) (r .number) (r .end)
+        (now (buf .exit)) ⌝ }
 {
     let n = word.len() + line_length(numbers);
     if endian::inside(buf.len(), at, n) {

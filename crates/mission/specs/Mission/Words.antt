@@ -72,8 +72,8 @@ pub use Rattle.reader_layout.specs.Chunk.{chunkOn, inodeIn, Inodes, DirectoryAt
 pub use Rattle.reader_admit.specs.Admit.{admitted}
 pub use Rattle.reader_uses.specs.ByUse.{usesIn, Once, freeTotal, listTotal, chunkTotal}
 
--- Each promise on a lent buffer is `Written`, of its own test's number and its own bytes: of a write that asks for `m` bytes, of one by a table
--- of fields, of a line at an offset, of an encoder that stamps, and of a root chunk.
+-- Each promise on a lent buffer is `Written`, of its own test's number and its own bytes: of a write that asks for `m` bytes, of one by a
+-- table of fields, of a line at an offset, of an encoder that stamps, and of a root chunk.
 pub record OneForm : Type 0 where
   pub by-length : (m r : ℕ) (new old left : List ℕ) → Put m new old r left → Written (answer (room m old)) new old r left
   pub by-table : (at vs old left : List ℕ) (r : ℕ) → PutAll at vs old r left
@@ -87,9 +87,11 @@ pub record OneForm : Type 0 where
 -- The reader gets everything of the run back from a device: its geometry as it is reported, its UUID, the plan of every group; and it
 -- accepts the log block.
 pub record ReadBack (r : Request) (d : Device) : Type 0 where
-  pub first : readGroup0 (headOn (runOf r .geometry) d 0) ≡ found (reported (runOf r .geometry)) (runOf r .uuid) (planned (runOf r .geometry) 0 .plan)
+  pub first : readGroup0 (headOn (runOf r .geometry) d 0)
+      ≡ found (reported (runOf r .geometry)) (runOf r .uuid) (planned (runOf r .geometry) 0 .plan)
   pub group : (k : ℕ) → k < runOf r .geometry .agcount
-      → readGroup (reported (runOf r .geometry)) (runOf r .uuid) k (headOn (runOf r .geometry) d k) ≡ record { number = 0; plan = planned (runOf r .geometry) k .plan }
+      → readGroup (reported (runOf r .geometry)) (runOf r .uuid) k (headOn (runOf r .geometry) d k)
+      ≡ record { number = 0; plan = planned (runOf r .geometry) k .plan }
   pub log-block : readLog (reported (runOf r .geometry)) (runOf r .uuid) (logOn (runOf r .geometry) d) ≡ 0
 
 -- The run's written records.
@@ -112,16 +114,20 @@ pub record Finishing (r : Request) : Type 0 where
   pub no-flush : flushes before ≡ 0
   pub place : length before + 1 ≡ beforeFinished (runOf r .geometry)
 
--- What the reader answers to group 0's head on a device, handed as many bytes as this run's head has; told to admit profile disks only, or not.
+-- What the reader answers to group 0's head on a device, handed as many bytes as this run's head has; told to admit profile disks only, or
+-- not.
 abbrev pub firstNumber : Bool → Request → Device → ℕ
-firstNumber told r d = admitted told (readGroup0 (headOn (runOf r .geometry) d 0) .geometry) (readGroup0 (headOn (runOf r .geometry) d 0) .number)
+firstNumber told r d = admitted told (readGroup0 (headOn (runOf r .geometry) d 0) .geometry)
+    (readGroup0 (headOn (runOf r .geometry) d 0) .number)
 
 -- Told so, it gives one number to every head and to the log block.
 pub record Admits (number : ℕ) (r : Request) (d : Device) : Type 0 where
   pub first : firstNumber true r d ≡ number
   pub group : (k : ℕ) → k < runOf r .geometry .agcount
-      → admitted true (reported (runOf r .geometry)) (readGroup (reported (runOf r .geometry)) (runOf r .uuid) k (headOn (runOf r .geometry) d k) .number) ≡ number
-  pub log-block : admitted true (reported (runOf r .geometry)) (readLog (reported (runOf r .geometry)) (runOf r .uuid) (logOn (runOf r .geometry) d)) ≡ number
+      → admitted true (reported (runOf r .geometry))
+      (readGroup (reported (runOf r .geometry)) (runOf r .uuid) k (headOn (runOf r .geometry) d k) .number) ≡ number
+  pub log-block : admitted true (reported (runOf r .geometry))
+      (readLog (reported (runOf r .geometry)) (runOf r .uuid) (logOn (runOf r .geometry) d)) ≡ number
 
 -- n is one of these numbers.
 abbrev pub oneOf : List ℕ → ℕ → Bool
