@@ -2,7 +2,7 @@
 -- Assumes nothing.
 use mathlib.Core.Path.{_≡_, refl, sym, _∙_, ap}
 use mathlib.Core.List.{List}
-use mathlib.Core.Bool.{Bool, true, false}
+use mathlib.Core.Bool.{Bool, true, false, cond}
 use Prim.Native.Nat.{ℕ, suc, _+_, _*_, _-_, _≤_, _<_}
 use native.Mathlib.Nat.{mul-zero, mul-suc, mul-le-mul-left, le-refl}
 use native.Mathlib.Omega.{arith}
@@ -10,7 +10,6 @@ use lib.Dec.{eqb}
 use lib.ListN.{length, getD, take, drop}
 use lib.Seq.{take-length}
 use borrow.Author.Tests.{eqb-true}
-use Rattle.endian.specs.Answer.{chosen}
 use Rattle.endian.specs.Bytes.{patch}
 use Rattle.endian.proofs.Laws.{length-patch}
 use Rattle.structs.specs.Written.{Written}
@@ -73,7 +72,7 @@ module _ {A : Type 0} (f : A → List ℕ) (n : ℕ) (size : (a : A) → length 
       ∙ ap left j
 
   -- where no record is left the contract holds
-  end-where : (b : Bool) → eqb answer 0 ≡ b → patch (n * 0) (recordsBytes f (drop 0 (take (countWhere b (length recs)) recs))) xs ≡ chosen b (recordsBytes f recs) xs
+  end-where : (b : Bool) → eqb answer 0 ≡ b → patch (n * 0) (recordsBytes f (drop 0 (take (countWhere b (length recs)) recs))) xs ≡ cond b (recordsBytes f recs) xs
   unfolding patch
   end-where true e =
       record-all f n size d recs (length recs) (le-refl (length recs)) 0 xs _ (le-refl 0) (accepted n (length recs) (length xs) (eqb-true answer 0 e) .0) refl

@@ -1,8 +1,9 @@
 // The register over bytes, and over bytes of which four are read as zero.
+ghost use mathlib.Core.Bool.{cond};
 ghost use mathlib.Core.Path.{_≡_};
 ghost use Prim.Native.Nat.{_+_, _≤_};
 ghost use lib.ListN.{length};
-ghost use Rattle.endian.specs.Answer.{room, chosen};
+ghost use Rattle.endian.specs.Answer.{room};
 ghost use Rattle.crc_register.specs.Register.{crcBytes, zeroed};
 use crate::bytewise::plain;
 use crate::bytewise::plain_zeroed;
@@ -62,7 +63,7 @@ fn inside_zeroed(from: u32, s: &[u8], off: usize) -> u32
 
 // The register after all of `s`, with the four bytes at `off` read as zero where they lie inside.
 pub fn update_zeroed(from: u32, s: &[u8], off: usize) -> u32
-    ensures { λ r. ⌜ r ≡ crcBytes from (chosen (room (off + 4) (now (s .entry))) (zeroed off (now (s .entry))) (now (s .entry))) ⌝ }
+    ensures { λ r. ⌜ r ≡ crcBytes from (cond (room (off + 4) (now (s .entry))) (zeroed off (now (s .entry))) (now (s .entry))) ⌝ }
 {
     if inside(s.len(), off, 4) {
         return inside_zeroed(from, s, off);

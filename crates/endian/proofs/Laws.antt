@@ -9,7 +9,7 @@ use lib.Dec.{lit<, leb}
 use borrow.Author.Tests.{le-leb, lt-leb, leb-true, leb-false}
 use mathlib.Core.Bool.{Bool, true, false}
 use Rattle.refusals.specs.Numbers.{wrongLength}
-use Rattle.endian.specs.Answer.{room, answer, chosen, Put, Got}
+use Rattle.endian.specs.Answer.{room, answer, Put, Got}
 use borrow.Rule.Slice.PartMut.{putMid, post-is}
 use native.Mathlib.Omega.{arith}
 use lib.ListN.{length, getD, set, length-set, drop, take, take-append-drop, replicate}

@@ -2,14 +2,14 @@
 -- Assumes nothing.
 use mathlib.Core.Path.{_≡_, refl, ap, sym, _∙_, subst}
 use mathlib.Core.List.{List, [], _∷_}
-use mathlib.Core.Bool.{Bool, true, false, _&&_, _||_}
+use mathlib.Core.Bool.{Bool, true, false, _&&_, _||_, cond}
 use Prim.Native.Nat.{ℕ, zero, suc, _+_, _≤_, _<_}
 use native.Mathlib.Omega.{arith}
 use lib.Dec.{T, leb, leb→le}
 use lib.ListN.{length, set}
 use lib.Seq.{set-comm, set-set}
 use Rattle.endian.specs.Bytes.{patch}
-use Rattle.endian.specs.Fields.{Field, Span, writeFields, spans, clear, tidy, pick, insert, sorted}
+use Rattle.endian.specs.Fields.{Field, Span, writeFields, spans, clear, tidy, insert, sorted}
 use Rattle.endian.proofs.Fields.{and-left, and-right, either}
 
 ne-lt : (i j : ℕ) → i < j → i ≡ j → ⊥
@@ -51,7 +51,7 @@ both : (a b : Bool) → T a → T b → T (a && b)
 both true b s t = t
 both false b s t = absurd s
 
-by-pick : (P : List Field → Type 0) (b : Bool) (x y : List Field) → P x → P y → P (pick b x y)
+by-pick : (P : List Field → Type 0) (b : Bool) (x y : List Field) → P x → P y → P (cond b x y)
 by-pick P true x y p q = p
 by-pick P false x y p q = q
 

@@ -3,7 +3,7 @@
 -- Assumes nothing.
 use mathlib.Core.Path.{_≡_}
 use mathlib.Core.List.{List}
-use mathlib.Core.Bool.{Bool, true, false}
+use mathlib.Core.Bool.{Bool, true, false, cond}
 use Prim.Native.Nat.{ℕ}
 use lib.Dec.{leb}
 use lib.ListN.{length}
@@ -18,11 +18,6 @@ abbrev pub answer : Bool → ℕ
 answer true = 0
 answer false = wrongLength
 
--- the new bytes where the test holds, the old ones where it does not
-abbrev pub chosen : Bool → List ℕ → List ℕ → List ℕ
-chosen true new old = new
-chosen false new old = old
-
 -- a value that was read, 0 where nothing was
 abbrev pub valued : Bool → ℕ → ℕ
 valued true v = v
@@ -31,7 +26,7 @@ valued false v = 0
 -- A write of `new` over `old` that needs the first `m` bytes: its number, and what it leaves.
 pub record Put (m : ℕ) (new old : List ℕ) (r : ℕ) (left : List ℕ) : Type 0 where
   pub number : r ≡ answer (room m old)
-  pub bytes : left ≡ chosen (room m old) new old
+  pub bytes : left ≡ cond (room m old) new old
 
 -- A read of `v` that needs the first `m` bytes: its number, and the value.
 pub record Got (m v : ℕ) (old : List ℕ) (r value : ℕ) : Type 0 where

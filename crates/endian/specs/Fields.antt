@@ -2,11 +2,11 @@
 -- Assumes nothing.
 use mathlib.Core.Path.{_≡_}
 use mathlib.Core.List.{List, [], _∷_}
-use mathlib.Core.Bool.{Bool, true, false, _&&_, _||_}
+use mathlib.Core.Bool.{Bool, true, false, _&&_, _||_, cond}
 use Prim.Native.Nat.{ℕ, zero, suc, _+_, _*_}
 use lib.Dec.{leb, eqb}
 use lib.ListN.{length, take, drop}
-use Rattle.endian.specs.Answer.{answer, chosen}
+use Rattle.endian.specs.Answer.{answer}
 use Rattle.endian.specs.Bytes.{patch, beBytes}
 
 -- a field: where it stands, and its bytes
@@ -56,14 +56,9 @@ abbrev pub tidy : ℕ → List Span → Bool
 tidy m [] = true
 tidy m (s ∷ ss) = (leb (s .from + s .size) m && clear (s .from) (s .size) ss) && tidy m ss
 
--- the fields in the order of their offsets
-abbrev pub pick : Bool → List Field → List Field → List Field
-pick true a b = a
-pick false a b = b
-
 abbrev pub insert : Field → List Field → List Field
 insert f [] = f ∷ []
-insert f (g ∷ gs) = pick (leb (f .at) (g .at)) (f ∷ (g ∷ gs)) (g ∷ insert f gs)
+insert f (g ∷ gs) = cond (leb (f .at) (g .at)) (f ∷ (g ∷ gs)) (g ∷ insert f gs)
 
 abbrev pub sorted : List Field → List Field
 sorted [] = []
@@ -89,4 +84,4 @@ tableFits m os n = eqb (length os) (2 * n) && tableInside m os
 -- What `put_all` answers and leaves.
 pub record PutAll (at vs old : List ℕ) (r : ℕ) (left : List ℕ) : Type 0 where
   pub number : r ≡ answer (tableFits (length old) at (length vs))
-  pub bytes : left ≡ chosen (tableFits (length old) at (length vs)) (writeFields (table at vs) old) old
+  pub bytes : left ≡ cond (tableFits (length old) at (length vs)) (writeFields (table at vs) old) old

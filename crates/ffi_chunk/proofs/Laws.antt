@@ -6,7 +6,6 @@ use mathlib.Core.List.{List}
 use Prim.Native.Nat.{ℕ}
 use lib.Dec.{eqb}
 use borrow.Author.Tests.{eq-eqb, ne-eqb}
-use Rattle.seqs.specs.Lists.{choose}
 use Rattle.structs.specs.Written.{Written}
 use Rattle.inode_time.specs.Time.{valueIf}
 use Rattle.chunk.specs.Chunk.{ChunkMade}

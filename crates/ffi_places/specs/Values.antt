@@ -1,10 +1,10 @@
 -- Every number of a geometry and of a place in it, in a row.
 -- Assumes nothing.
+use mathlib.Core.Bool.{cond}
 use mathlib.Core.List.{List, [], _∷_, _++_}
 use Prim.Native.Nat.{ℕ}
 use lib.Dec.{eqb}
 use lib.ListN.{getD}
-use Rattle.seqs.specs.Lists.{choose}
 use Rattle.geometry.specs.Log.{headerOf, preallocOf}
 use Rattle.geometry.specs.declared.Geometry.{Geometry}
 use Rattle.geometry.specs.declared.Computed.{Computed}
@@ -107,4 +107,4 @@ valuesOf g b slot = headValues g ++ (inodeValues g ++ (fixedValues g ++ placeVal
 
 -- the number of one answer: the geometry step's own comes first
 unfoldable pub placeNumber : Computed → GroupBlock → ℕ → ℕ → ℕ
-placeNumber c b slot which = choose (eqb (c .number) 0) (number64 (getD (valuesOf (c .geometry) b slot) which none)) (c .number)
+placeNumber c b slot which = cond (eqb (c .number) 0) (number64 (getD (valuesOf (c .geometry) b slot) which none)) (c .number)

@@ -1,9 +1,9 @@
 -- The numbers that group 0's head gives, in a row, and those of the other places, read with it.
 -- Assumes nothing.
+use mathlib.Core.Bool.{cond}
 use mathlib.Core.List.{List, [], _∷_}
 use Prim.Native.Nat.{ℕ}
 use lib.Dec.{eqb}
-use Rattle.seqs.specs.Lists.{choose}
 use Rattle.reader_exact.specs.declared.Found.{Found}
 use Rattle.reader_exact.specs.Read.{readGroup, readLog}
 
@@ -27,7 +27,7 @@ foundNumbers f =
 
 -- the refusal of group 0's head; else what the place answers with the geometry and the UUID that it gave
 unfoldable pub groupBy : Found → ℕ → List ℕ → ℕ
-groupBy f k xs = choose (eqb (f .number) 0) (readGroup (f .geometry) (f .uuid) k xs .number) (f .number)
+groupBy f k xs = cond (eqb (f .number) 0) (readGroup (f .geometry) (f .uuid) k xs .number) (f .number)
 
 unfoldable pub logBy : Found → List ℕ → ℕ
-logBy f xs = choose (eqb (f .number) 0) (readLog (f .geometry) (f .uuid) xs) (f .number)
+logBy f xs = cond (eqb (f .number) 0) (readLog (f .geometry) (f .uuid) xs) (f .number)

@@ -1,10 +1,10 @@
 -- Lists from an array for each field, and the parts of an answer.
 -- Assumes nothing.
+use mathlib.Core.Bool.{cond}
 use mathlib.Core.List.{List}
 use Prim.Native.Nat.{ℕ}
 use lib.Dec.{eqb}
 use lib.ListN.{getD}
-use Rattle.seqs.specs.Lists.{choose}
 use Rattle.btree.specs.declared.records.AllocRec.{AllocRec}
 use Rattle.btree.specs.declared.records.RmapRec.{RmapRec}
 use Rattle.plan_free.specs.declared.FreeList.{FreeList}
@@ -32,11 +32,11 @@ rmapAt l k = getD (l .recs) k zeroRmap
 -- part 0 is the number, 1 how many records there are, 2 to 4 are start, count and owner of a record
 unfoldable pub partOf : ℕ → ℕ → ℕ → ℕ → ℕ → ℕ → ℕ
 partOf part number len start count owner =
-    choose (eqb part 0) number
-    (choose (eqb part 1) len
-    (choose (eqb part 2) start
-    (choose (eqb part 3) count
-    (choose (eqb part 4) owner 0))))
+    cond (eqb part 0) number
+    (cond (eqb part 1) len
+    (cond (eqb part 2) start
+    (cond (eqb part 3) count
+    (cond (eqb part 4) owner 0))))
 
 -- of an answer, and its record in slot k
 abbrev pub takenPart : ℕ → ℕ → Taken → ℕ

@@ -1,7 +1,7 @@
 -- What a geometry whose plans are accepted gives: its bounds, the sizes of its blocks and heads; and the first of two numbers.
 -- Assumes nothing.
 use mathlib.Core.Path.{_≡_, refl, _∙_}
-use mathlib.Core.Bool.{Bool, true, false, not}
+use mathlib.Core.Bool.{Bool, true, false, not, cond}
 use Prim.Native.Nat.{ℕ, _+_, _*_, _/_, _%_, _<_, _≤_, _^_}
 use native.Mathlib.Omega.{arith}
 use native.Mathlib.Nat.{mul-le-mul, mul-le-mul-right, div-mul-le-self}
@@ -12,7 +12,6 @@ use lib.Pow.{pow-mono}
 use Rattle.arith.specs.Choice.{bit}
 use Rattle.arith.specs.Numbers.{ceilDiv}
 use Rattle.arith.proofs.Laws.{bit-le}
-use Rattle.seqs.specs.Lists.{choose}
 use Rattle.params.specs.declared.Features.{Features}
 use Rattle.geometry.specs.declared.Geometry.{Geometry}
 use Rattle.geometry.specs.Log.{headerOf, preallocOf}
@@ -31,7 +30,7 @@ or-first a b n e h = e ∙ rw (ne-eqb a 0 (λ z. h (e ∙ z))) refl
 pub or-second : (a b n : ℕ) → a ≡ 0 → n ≡ b → n ≡ orNext a b
 or-second a b n z e = e ∙ rw z refl
 
-pick-zero : (t : Bool) (a b : ℕ) → eqb a 0 ≡ t → choose t b a ≡ 0 → (a ≡ 0) × (b ≡ 0)
+pick-zero : (t : Bool) (a b : ℕ) → eqb a 0 ≡ t → cond t b a ≡ 0 → (a ≡ 0) × (b ≡ 0)
 pick-zero true a b e z = (eqb-true a 0 e, z)
 pick-zero false a b e z = absurd (eqb-false a 0 e z)
 

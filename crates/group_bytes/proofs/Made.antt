@@ -1,7 +1,7 @@
 -- The head that is made for a group is the one that a run writes or leaves there, and the number of a refused one.
 -- Assumes nothing.
 use mathlib.Core.Path.{_≡_, refl, ap, _∙_}
-use mathlib.Core.Bool.{Bool, true, false}
+use mathlib.Core.Bool.{Bool, true, false, cond}
 use mathlib.Core.List.{List}
 use Prim.Native.Nat.{ℕ, _<_, _≤_}
 use native.Mathlib.Omega.{arith}
@@ -10,7 +10,6 @@ use lib.Dec.{eqb, ltb}
 use lib.ListN.{length}
 use Rattle.refusals.specs.Numbers.{wrongLength, noPlace}
 use Rattle.arith.specs.Choice.{when}
-use Rattle.seqs.specs.Lists.{choose}
 use Rattle.crc.specs.Right.{alreadyRight}
 use Rattle.structs.specs.Written.{require}
 use Rattle.structs.specs.Encoded.{Encoded}
@@ -83,8 +82,8 @@ module _ (g : Geometry) (uuid : List ℕ) (k : ℕ) (xs : List ℕ) (z : headRef
   finished-there = rw (head-zero g k (length xs) z .0) refl
 
   -- group 0's with the finished superblock, or another's
-  left-at : (s : Stated) (ys : List ℕ) (t : Bool) → eqb k 0 ≡ t → s ≡ choose t (finishedAnswer g uuid) (stated g uuid k)
-      → ys ≡ headBytes g (planned g k .plan) uuid (s .state) → ys ≡ choose t (headFinished g uuid) (headWritten g uuid k)
+  left-at : (s : Stated) (ys : List ℕ) (t : Bool) → eqb k 0 ≡ t → s ≡ cond t (finishedAnswer g uuid) (stated g uuid k)
+      → ys ≡ headBytes g (planned g k .plan) uuid (s .state) → ys ≡ cond t (headFinished g uuid) (headWritten g uuid k)
   unfolding headFinished
   left-at s ys true e b m = m ∙ rw (eqb-true k 0 e, b, finished-there) refl
   left-at s ys false e b m = written-made s ys b m

@@ -1,11 +1,11 @@
 -- What the functions that formatter and reader share answer, and the state of a superblock at the end.
 -- Assumes nothing.
+use mathlib.Core.Bool.{cond}
 use mathlib.Core.List.{List}
 use Prim.Native.Nat.{ℕ}
 use lib.Dec.{eqb, ltb}
 use Rattle.refusals.specs.Numbers.{wrongLength, noPlace}
 use Rattle.structs.specs.Written.{require}
-use Rattle.seqs.specs.Lists.{choose}
 use Rattle.geometry.specs.declared.Geometry.{Geometry}
 use Rattle.plan_totals.specs.Totals.{plansNumber}
 use Rattle.head_bytes.specs.Head.{headLength}
@@ -23,4 +23,4 @@ logRefusal g n = orNext (plansNumber g) (require wrongLength (eqb n (g .blocksiz
 
 -- the state of group k's superblock at the end
 unfoldable pub leftState : Geometry → List ℕ → ℕ → Stated
-leftState g u k = choose (eqb k 0) (finishedAnswer g u) (stated g u k)
+leftState g u k = cond (eqb k 0) (finishedAnswer g u) (stated g u k)

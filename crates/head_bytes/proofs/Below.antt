@@ -1,13 +1,12 @@
 -- Bytes are below 256: in a number's bytes, in fields that are written, in a checksum.
 -- Assumes nothing.
 use mathlib.Core.Path.{_≡_}
-use mathlib.Core.Bool.{Bool, true, false}
+use mathlib.Core.Bool.{Bool, true, false, cond}
 use mathlib.Core.List.{List, [], _∷_, _++_}
 use Prim.Native.Nat.{ℕ, zero, suc, _/_, _%_, _^_, _<_}
 use native.Mathlib.Nat.{mod-lt}
 use lib.Dec.{lit<}
 use lib.ListN.{length, set, replicate}
-use Rattle.seqs.specs.Lists.{choose}
 use Rattle.endian.specs.Bytes.{beBytes, numbersBytes, below, patch}
 use Rattle.endian_little.specs.Bytes.{leBytes}
 use Rattle.endian.specs.Fields.{Field, writeFields}
@@ -53,7 +52,7 @@ below-run n (v ∷ vs) = below-append 256 (beBytes n v) (numbersBytes n vs) (bel
 pub below-zeros : (n : ℕ) → below 256 (replicate n 0)
 below-zeros n = below-same 256 n 0 (lit< tt)
 
-pub below-choose : (t : Bool) (xs : List ℕ) → below 256 xs → below 256 (choose t xs [])
+pub below-choose : (t : Bool) (xs : List ℕ) → below 256 xs → below 256 (cond t xs [])
 below-choose true xs b = b
 below-choose false xs b = tt
 

@@ -1,13 +1,13 @@
 -- The tree by size has the records of the tree by block, each before the next.
 -- Assumes nothing.
 use mathlib.Core.Path.{_≡_, refl, sym, ap, _∙_}
-use mathlib.Core.Bool.{Bool, true, false}
+use mathlib.Core.Bool.{Bool, true, false, cond}
 use mathlib.Core.List.{List, [], _∷_}
 use Prim.Native.Nat.{ℕ, _+_, _<_, _≤_}
 use native.Mathlib.Omega.{arith}
 use borrow.Author.Tests.{eqb-true, eqb-false, ltb-true, ltb-false, lt-ltb, le-leb, eq-eqb, ne-eqb}
 use lib.Dec.{eqb, ltb}
-use Rattle.seqs.specs.Lists.{choose, total}
+use Rattle.seqs.specs.Lists.{total}
 use Rattle.btree.specs.declared.records.AllocRec.{AllocRec}
 use Rattle.plan_free.specs.Free.{smaller}
 use Rattle.head_bytes.specs.Sorting.{insertedBySize, bySize}
@@ -17,7 +17,7 @@ use Rattle.head_bytes.specs.Sorted.{inOrder, Sorted}
 
 module _ (f : AllocRec → ℕ) where
   put-case : (r x : AllocRec) (xs : List AllocRec) (t : Bool) → smaller r x ≡ t → total f (insertedBySize r xs) ≡ f r + total f xs
-      → total f (choose t (r ∷ x ∷ xs) (x ∷ insertedBySize r xs)) ≡ f r + (f x + total f xs)
+      → total f (cond t (r ∷ x ∷ xs) (x ∷ insertedBySize r xs)) ≡ f r + (f x + total f xs)
   unfolding total
   put-case r x xs true e h = refl
   put-case r x xs false e h = omega arith
@@ -34,7 +34,7 @@ module _ (f : AllocRec → ℕ) where
 
 -- ---- in order
 
-before-case : (p q s t : ℕ) (e : Bool) → eqb p q ≡ e → choose e (ltb s t) (ltb p q) ≡ true → (a b : AllocRec)
+before-case : (p q s t : ℕ) (e : Bool) → eqb p q ≡ e → cond e (ltb s t) (ltb p q) ≡ true → (a b : AllocRec)
     → a .count ≡ p → b .count ≡ q → a .start ≡ s → b .start ≡ t → inOrder a b ≡ true
 unfolding inOrder
 before-case p q s t true ee h a b ca cb sa sb = rw (ca, cb, sa, sb, ee) (le-leb s t (let o = ltb-true s t h in omega arith))
@@ -44,7 +44,7 @@ before-case p q s t false ee h a b ca cb sa sb = rw (ca, cb, sa, sb, ee) h
 before : (a b : AllocRec) → smaller a b ≡ true → inOrder a b ≡ true
 before a b h = before-case (a .count) (b .count) (a .start) (b .start) (eqb (a .count) (b .count)) refl h a b refl refl refl refl
 
-behind-case : (p q s t : ℕ) (e : Bool) → eqb p q ≡ e → choose e (ltb s t) (ltb p q) ≡ false → (a b : AllocRec)
+behind-case : (p q s t : ℕ) (e : Bool) → eqb p q ≡ e → cond e (ltb s t) (ltb p q) ≡ false → (a b : AllocRec)
     → a .count ≡ p → b .count ≡ q → a .start ≡ s → b .start ≡ t → inOrder b a ≡ true
 unfolding inOrder
 behind-case p q s t true ee h a b ca cb sa sb =
@@ -62,8 +62,8 @@ behind a b h = behind-case (a .count) (b .count) (a .start) (b .start) (eqb (a .
 
 -- ---- a record put in its place
 
-first-case : (x r y : AllocRec) (ys : List AllocRec) (t : Bool) → inOrder x r ≡ true → inOrder x y ≡ true → Sorted (choose t (r ∷ y ∷ ys) (y ∷ insertedBySize r ys))
-    → Sorted (x ∷ choose t (r ∷ y ∷ ys) (y ∷ insertedBySize r ys))
+first-case : (x r y : AllocRec) (ys : List AllocRec) (t : Bool) → inOrder x r ≡ true → inOrder x y ≡ true → Sorted (cond t (r ∷ y ∷ ys) (y ∷ insertedBySize r ys))
+    → Sorted (x ∷ cond t (r ∷ y ∷ ys) (y ∷ insertedBySize r ys))
 first-case x r y ys true a b s = (a, s)
 first-case x r y ys false a b s = (b, s)
 
@@ -78,7 +78,7 @@ rest-sorted x [] s = tt
 rest-sorted x (y ∷ ys) s = s .1
 
 place-case : (r x : AllocRec) (xs : List AllocRec) (t : Bool) → smaller r x ≡ t → Sorted (x ∷ xs) → Sorted (insertedBySize r xs)
-    → Sorted (choose t (r ∷ x ∷ xs) (x ∷ insertedBySize r xs))
+    → Sorted (cond t (r ∷ x ∷ xs) (x ∷ insertedBySize r xs))
 place-case r x xs true e s p = (before r x e, s)
 place-case r x xs false e s p = still-first x r xs (behind r x e) s p
 

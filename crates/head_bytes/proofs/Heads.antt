@@ -1,13 +1,12 @@
 -- Every byte of a head is below 256; a plan that is the planner's for its group adds nothing to geometry and group.
 -- Assumes nothing.
 use mathlib.Core.Path.{_≡_, ap}
-use mathlib.Core.Bool.{Bool, true, false}
+use mathlib.Core.Bool.{Bool, true, false, cond}
 use mathlib.Core.List.{List, [], _∷_, _++_}
 use Prim.Native.Nat.{ℕ, _*_, _-_}
 use lib.ListN.{length, take, replicate}
 use Rattle.endian.specs.Bytes.{beBytes, numbersBytes, below}
 use Rattle.endian.specs.Fields.{Field, field, writeFields}
-use Rattle.seqs.specs.Lists.{choose}
 use Rattle.geometry.specs.declared.Geometry.{Geometry}
 use Rattle.geometry_layout.specs.Places.{ibtBlock, fibtBlock}
 use Rattle.btree.specs.declared.records.AllocRec.{AllocRec}
@@ -233,8 +232,8 @@ module _ (w : Frame) (p : AgPlan) (uuid : List ℕ) (u : below 256 uuid) where
       below-append 256 (bnoRoot w uuid (p .free)) _ (root-below _ _ _ _ (below-listed allocBytes alloc-below (freeOf (p .free))))
       (below-append 256 (cntRoot w uuid (p .free)) _ (root-below _ _ _ _ (below-listed allocBytes alloc-below (bySize (freeOf (p .free)))))
       (below-append 256 (inodeRoot w uuid inoMagic (ibtBlock (w .header))) _ (inode-below _ _)
-      (below-append 256 (choose (w .features .finobt) (inodeRoot w uuid finoMagic (fibtBlock (w .header))) []) _ (below-choose (w .features .finobt) _ (inode-below _ _))
-      (below-append 256 (choose (w .features .rmapbt) (rmapRoot w uuid (p .rmap)) []) _ (below-choose (w .features .rmapbt) _ (root-below _ _ _ _ (below-listed rmapBytes rmap-below (rmapOf (p .rmap)))))
+      (below-append 256 (cond (w .features .finobt) (inodeRoot w uuid finoMagic (fibtBlock (w .header))) []) _ (below-choose (w .features .finobt) _ (inode-below _ _))
+      (below-append 256 (cond (w .features .rmapbt) (rmapRoot w uuid (p .rmap)) []) _ (below-choose (w .features .rmapbt) _ (root-below _ _ _ _ (below-listed rmapBytes rmap-below (rmapOf (p .rmap)))))
       (below-choose (w .features .reflink) _ (root-below _ _ [] _ tt))))))
 
   behind-below : below 256 (behindBytes w p uuid)

@@ -1,7 +1,7 @@
 -- A head is laid from its start on: what stands there already, and what is put next.
 -- Assumes nothing.
 use mathlib.Core.Path.{_≡_, refl, ap, sym, _∙_}
-use mathlib.Core.Bool.{Bool, true, false}
+use mathlib.Core.Bool.{Bool, true, false, cond}
 use mathlib.Core.List.{List, [], _∷_, _++_, append-assoc, append-nil}
 use Prim.Native.Nat.{ℕ, _+_, _*_, _-_, _≤_}
 use native.Mathlib.Omega.{arith}
@@ -10,7 +10,6 @@ use lib.Seq.{take-at, drop-at}
 use Rattle.endian.specs.Bytes.{patch}
 use Rattle.endian.specs.Fields.{part}
 use Rattle.endian.proofs.Laws.{patch-split, length-patch}
-use Rattle.seqs.specs.Lists.{choose}
 use Rattle.head_bytes.specs.Head.{zeros}
 use Rattle.head_bytes.specs.Parts.{sectorOn}
 
@@ -30,7 +29,7 @@ next a pre new xs ys s e h p =
 
 -- or left out
 pub next-if : (on : Bool) (a : ℕ) (pre new xs ys : List ℕ) → Starts pre xs → (on ≡ true → length pre ≡ a) → (on ≡ true → a + length new ≤ length xs)
-    → ys ≡ choose on (patch a new xs) xs → Starts (pre ++ choose on new []) ys
+    → ys ≡ cond on (patch a new xs) xs → Starts (pre ++ cond on new []) ys
 next-if true a pre new xs ys s e h p = next a pre new xs ys s (e refl) (h refl) p
 next-if false a pre new xs ys s e h p = record { rest = s .rest; is = p ∙ s .is ∙ ap (λ (l : List ℕ). l ++ s .rest) (sym (append-nil pre)) }
 

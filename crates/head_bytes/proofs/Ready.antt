@@ -1,7 +1,7 @@
 -- What a plan of the planner says of its head, and which number is answered.
 -- Assumes nothing.
 use mathlib.Core.Path.{_≡_, refl, ap, sym, _∙_}
-use mathlib.Core.Bool.{Bool, true, false}
+use mathlib.Core.Bool.{Bool, true, false, cond}
 use mathlib.Core.List.{List, _++_}
 use Prim.Native.Nat.{ℕ, _+_, _*_, _≤_, _<_, _^_}
 use native.Mathlib.Nat.{mul-le-mul, mul-le-mul-right}
@@ -11,7 +11,6 @@ use lib.ListN.{length}
 use borrow.Author.Tests.{eq-eqb, ne-eqb}
 use Rattle.refusals.specs.Numbers.{noAnswer, wrongLength}
 use Rattle.arith.specs.Choice.{bit}
-use Rattle.seqs.specs.Lists.{choose}
 use Rattle.geometry.specs.declared.Geometry.{Geometry}
 use Rattle.geometry.specs.Log.{preallocOf}
 use Rattle.geometry_answers.specs.Named.{isAnswer}
@@ -87,7 +86,7 @@ length-fits g p l h =
 
 -- ---- the number
 
-refused-at : (t : Bool) (n rest : ℕ) → n ≡ choose t 0 noAnswer → (n ≡ 0 → ⊥) → t ≡ false
+refused-at : (t : Bool) (n rest : ℕ) → n ≡ cond t 0 noAnswer → (n ≡ 0 → ⊥) → t ≡ false
 refused-at true n rest e z = absurd (z e)
 refused-at false n rest e z = refl
 
@@ -96,7 +95,7 @@ unfolding headNumber
 head-refused g p len z =
     let t = refused-at (isPlan g p) (framed g p .number) 0 (framed-number g p) z in
     let a : headNumber g p len ≡ noAnswer = rw t refl in
-    let b : framed g p .number ≡ noAnswer = framed-number g p ∙ ap (λ (x : Bool). choose {A = ℕ} x 0 noAnswer) t in
+    let b : framed g p .number ≡ noAnswer = framed-number g p ∙ ap (λ (x : Bool). cond {A = ℕ} x 0 noAnswer) t in
     a ∙ sym b
 
 pub head-wrong : (g : Geometry) (p : AgPlan) (len : ℕ) → isPlan g p ≡ true → (len ≡ headLength g → ⊥) → headNumber g p len ≡ wrongLength

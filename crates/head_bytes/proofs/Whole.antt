@@ -1,7 +1,7 @@
 -- The head part by part, and as a whole.
 -- Assumes nothing.
 use mathlib.Core.Path.{_≡_, refl, ap, sym, _∙_}
-use mathlib.Core.Bool.{Bool, true, false}
+use mathlib.Core.Bool.{Bool, true, false, cond}
 use mathlib.Core.List.{List, [], _∷_, _++_, append-assoc}
 use Prim.Native.Nat.{ℕ, _+_, _*_, _-_, _≤_, _<_}
 use native.Mathlib.Nat.{add-mul, mul-le-mul-right}
@@ -12,7 +12,6 @@ use Rattle.arith.specs.Choice.{bit}
 use Rattle.arith.proofs.Laws.{bit-le}
 use Rattle.endian.specs.Bytes.{patch}
 use Rattle.endian.proofs.Laws.{patch-split, length-patch}
-use Rattle.seqs.specs.Lists.{choose}
 use Rattle.geometry.specs.declared.Geometry.{Geometry}
 use Rattle.geometry_layout.specs.Places.{cntBlock, ibtBlock, fibtBlock, rmapBlock, refcBlock}
 use Rattle.ag.specs.Agf.{agfBytes}
@@ -67,7 +66,7 @@ longer pre new n bs e l =
     let a = length-append pre new in
     omega arith
 
-longer-if : (on : Bool) (pre new : List ℕ) (n bs : ℕ) → length pre ≡ n * bs → length new ≡ bs → length (pre ++ choose on new []) ≡ (n + bit on) * bs
+longer-if : (on : Bool) (pre new : List ℕ) (n bs : ℕ) → length pre ≡ n * bs → length new ≡ bs → length (pre ++ cond on new []) ≡ (n + bit on) * bs
 unfolding bit
 longer-if true pre new n bs e l = longer pre new n bs e l
 longer-if false pre new n bs e l =
@@ -293,14 +292,14 @@ module _ (w : Frame) (p : AgPlan) (g : Geometry) (s : SbState) (uuid xs : List �
   abbrev y4 : List ℕ
   y4 = blockIf (w .features .finobt) (fibtBlock (w .header) * w .block) FINO y3
 
-  t4 : Starts (THREE ++ choose (w .features .finobt) FINO []) y4
+  t4 : Starts (THREE ++ cond (w .features .finobt) FINO []) y4
   unfolding blockIf fibtBlock
   t4 =
       next-if (w .features .finobt) ((w .header + 3) * w .block) THREE FINO y3 y4 t3 (λ e. m3)
       (λ e. fit (w .header + 3) FINO y3 (fibt-inside w e) (inode-length w uuid finoMagic (fibtBlock (w .header))) k3) refl
 
   abbrev FOUR : List ℕ
-  FOUR = THREE ++ choose (w .features .finobt) FINO []
+  FOUR = THREE ++ cond (w .features .finobt) FINO []
 
   m4 : length FOUR ≡ (w .header + 3 + bit (w .features .finobt)) * w .block
   m4 = longer-if (w .features .finobt) THREE FINO (w .header + 3) (w .block) m3 (inode-length w uuid finoMagic (fibtBlock (w .header)))
@@ -311,14 +310,14 @@ module _ (w : Frame) (p : AgPlan) (g : Geometry) (s : SbState) (uuid xs : List �
   abbrev y5 : List ℕ
   y5 = blockIf (w .features .rmapbt) (rmapBlock (w .features) (w .header) * w .block) MAPS y4
 
-  t5 : Starts (FOUR ++ choose (w .features .rmapbt) MAPS []) y5
+  t5 : Starts (FOUR ++ cond (w .features .rmapbt) MAPS []) y5
   unfolding blockIf rmapBlock
   t5 =
       next-if (w .features .rmapbt) ((w .header + 3 + bit (w .features .finobt)) * w .block) FOUR MAPS y4 y5 t4 (λ e. m4)
       (λ e. fit (w .header + 3 + bit (w .features .finobt)) MAPS y4 (rmap-inside w e) (rmap-length w uuid (p .rmap)) k4) refl
 
   abbrev FIVE : List ℕ
-  FIVE = FOUR ++ choose (w .features .rmapbt) MAPS []
+  FIVE = FOUR ++ cond (w .features .rmapbt) MAPS []
 
   m5 : length FIVE ≡ (w .header + 3 + bit (w .features .finobt) + bit (w .features .rmapbt)) * w .block
   m5 = longer-if (w .features .rmapbt) FOUR MAPS (w .header + 3 + bit (w .features .finobt)) (w .block) m4 (rmap-length w uuid (p .rmap))
@@ -329,14 +328,14 @@ module _ (w : Frame) (p : AgPlan) (g : Geometry) (s : SbState) (uuid xs : List �
   abbrev y6 : List ℕ
   y6 = blockIf (w .features .reflink) (refcBlock (w .features) (w .header) * w .block) REFC y5
 
-  t6 : Starts (FIVE ++ choose (w .features .reflink) REFC []) y6
+  t6 : Starts (FIVE ++ cond (w .features .reflink) REFC []) y6
   unfolding blockIf refcBlock
   t6 =
       next-if (w .features .reflink) ((w .header + 3 + bit (w .features .finobt) + bit (w .features .rmapbt)) * w .block) FIVE REFC y5 y6 t5 (λ e. m5)
       (λ e. fit (w .header + 3 + bit (w .features .finobt) + bit (w .features .rmapbt)) REFC y5 (refc-inside w e) (refc-length w uuid) k5) refl
 
   abbrev ALL : List ℕ
-  ALL = FIVE ++ choose (w .features .reflink) REFC []
+  ALL = FIVE ++ cond (w .features .reflink) REFC []
 
   m6 : length ALL ≡ frameBlocks w * w .block
   unfolding frameBlocks

@@ -1,6 +1,6 @@
 -- The head of a group: its four header sectors, zeros up to the next block, and the root blocks of its trees, one after the other.
 -- Assumes nothing.
-use mathlib.Core.Bool.{Bool}
+use mathlib.Core.Bool.{Bool, cond}
 use mathlib.Core.List.{List, [], _++_}
 use Prim.Native.Nat.{ℕ, _+_, _*_, _-_, _%_}
 use lib.Dec.{eqb}
@@ -8,7 +8,6 @@ use lib.ListN.{length, take, replicate}
 use Rattle.refusals.specs.Numbers.{wrongLength, noAnswer}
 use Rattle.arith.specs.Choice.{when, bit}
 use Rattle.structs.specs.Written.{require}
-use Rattle.seqs.specs.Lists.{choose}
 use Rattle.params.specs.declared.Features.{Features}
 use Rattle.geometry.specs.declared.Geometry.{Geometry}
 use Rattle.geometry.specs.Log.{preallocOf}
@@ -149,9 +148,9 @@ rootsBytes w p uuid =
     bnoRoot w uuid (p .free)
     ++ (cntRoot w uuid (p .free)
     ++ (inodeRoot w uuid inoMagic (ibtBlock (w .header))
-    ++ (choose (w .features .finobt) (inodeRoot w uuid finoMagic (fibtBlock (w .header))) []
-    ++ (choose (w .features .rmapbt) (rmapRoot w uuid (p .rmap)) []
-    ++ choose (w .features .reflink) (refcRoot w uuid) []))))
+    ++ (cond (w .features .finobt) (inodeRoot w uuid finoMagic (fibtBlock (w .header))) []
+    ++ (cond (w .features .rmapbt) (rmapRoot w uuid (p .rmap)) []
+    ++ cond (w .features .reflink) (refcRoot w uuid) []))))
 
 -- what lies behind the superblock's sector; it depends on frame, plan and UUID alone
 unfoldable pub behindBytes : Frame → AgPlan → List ℕ → List ℕ

@@ -1,10 +1,9 @@
 -- How the code goes: parts of the lent bytes, changed in their place.
 -- Assumes nothing.
-use mathlib.Core.Bool.{Bool}
+use mathlib.Core.Bool.{Bool, cond}
 use mathlib.Core.List.{List}
 use Prim.Native.Nat.{ℕ, _*_}
 use lib.ListN.{take}
-use Rattle.seqs.specs.Lists.{choose}
 use Rattle.geometry_layout.specs.Places.{cntBlock, ibtBlock, fibtBlock, rmapBlock, refcBlock}
 use Rattle.ag.specs.Agf.{agfBytes}
 use Rattle.ag.specs.Agi.{agiBytes}
@@ -21,7 +20,7 @@ sectorOn a n f xs = patch a (f (part a n xs)) xs
 
 -- xs with a block at a, where `on` holds
 unfoldable pub blockIf : Bool → ℕ → List ℕ → List ℕ → List ℕ
-blockIf on a new xs = choose on (patch a new xs) xs
+blockIf on a new xs = cond on (patch a new xs) xs
 
 -- AGF, AGI and free list in their sectors
 unfoldable pub sectorsOn : Frame → AgPlan → List ℕ → List ℕ → List ℕ

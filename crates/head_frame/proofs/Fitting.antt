@@ -1,7 +1,7 @@
 -- Every plan of the planner has a frame that is fine, and short lists.
 -- Assumes nothing.
 use mathlib.Core.Path.{_≡_, refl, ap, sym, subst, _∙_}
-use mathlib.Core.Bool.{Bool, true, false, _||_}
+use mathlib.Core.Bool.{Bool, true, false, _||_, cond}
 use mathlib.Core.Logic.{⊎-elim}
 use mathlib.Core.List.{List, [], _∷_, _++_}
 use Prim.Native.Nat.{ℕ, zero, suc, _+_, _*_, _-_, _/_, _^_, _≤_, _<_}
@@ -11,7 +11,6 @@ use lib.Dec.{T, eqb, ltb, lit<}
 use lib.ListN.{length, length-append}
 use borrow.Author.Tests.{eq-eqb}
 use Rattle.refusals.specs.Numbers.{noAnswer}
-use Rattle.seqs.specs.Lists.{choose}
 use Rattle.seqs.proofs.Laws.{choose-elim, lt-or-le}
 use Rattle.geometry.specs.declared.Geometry.{Geometry}
 use Rattle.geometry.specs.Log.{headerOf}
@@ -56,7 +55,7 @@ is-power k (suc c) j h l =
     (lt-or-le k j)
 
 -- records in a list of choices
-maybe-few : {A : Type 0} (t : Bool) (x : A) → length (choose t (x ∷ []) []) ≤ 1
+maybe-few : {A : Type 0} (t : Bool) (x : A) → length (cond t (x ∷ []) []) ≤ 1
 maybe-few true x = omega arith
 maybe-few false x = omega arith
 
@@ -83,7 +82,7 @@ rmap-few s =
     (λ t. omega arith)
 
 -- the chunk's first inode, for at most 32 inodes a block
-ino-least : (s : Site) (log : ℕ) → SoundSite s → 2 ^ log ≤ 32 → chunkIno log (choose (hasRootChunk s) (Given (s .«chunk_at»)) Absent) < 2 ^ 32
+ino-least : (s : Site) (log : ℕ) → SoundSite s → 2 ^ log ≤ 32 → chunkIno log (cond (hasRootChunk s) (Given (s .«chunk_at»)) Absent) < 2 ^ 32
 unfolding chunkIno
 ino-least s log ok h =
     choose-elim (λ (x : OptU64). chunkIno log x < 2 ^ 32) (hasRootChunk s) _ _
@@ -169,11 +168,11 @@ module _ (g : Geometry) (p : AgPlan) (l : length (g .label) ≡ 12) (h : isPlan 
 
 -- ---- what an answer of `frame_of` says
 
-answered-at : (t : Bool) (w : Frame) → choose {A = Framed} t (record { number = 0; frame = w }) (record { number = noAnswer; frame = noFrame }) .number ≡ choose t 0 noAnswer
+answered-at : (t : Bool) (w : Frame) → cond {A = Framed} t (record { number = 0; frame = w }) (record { number = noAnswer; frame = noFrame }) .number ≡ cond t 0 noAnswer
 answered-at true w = refl
 answered-at false w = refl
 
-pub framed-number : (g : Geometry) (p : AgPlan) → framed g p .number ≡ choose (isPlan g p) 0 noAnswer
+pub framed-number : (g : Geometry) (p : AgPlan) → framed g p .number ≡ cond (isPlan g p) 0 noAnswer
 unfolding framed
 framed-number g p = answered-at (isPlan g p) (frameOf g p)
 
@@ -182,7 +181,7 @@ unfolding framed
 framed-frame g p h = rw h
 
 -- a number of 0 is a plan of the planner
-told-at : (t : Bool) → choose {A = ℕ} t 0 noAnswer ≡ 0 → t ≡ true
+told-at : (t : Bool) → cond {A = ℕ} t 0 noAnswer ≡ 0 → t ≡ true
 told-at true e = refl
 told-at false e = absurd (omega arith)
 

@@ -1,10 +1,9 @@
 -- What the parts of a group's head have in common.
 -- Assumes nothing.
 use mathlib.Core.Path.{_≡_}
-use mathlib.Core.Bool.{Bool, true, false}
+use mathlib.Core.Bool.{Bool, true, false, cond}
 use Prim.Native.Nat.{ℕ, _+_, _*_, _/_, _^_, _≤_, _<_}
 use Rattle.refusals.specs.Numbers.{noAnswer}
-use Rattle.seqs.specs.Lists.{choose}
 use Rattle.params.specs.declared.OptU64.{OptU64}
 use Rattle.params.specs.declared.OptU64.the-variants.{Absent, Given}
 use Rattle.params.specs.declared.Features.{Features}
@@ -74,7 +73,7 @@ noFrame = record {
 
 -- `frame_of`: 31, or the frame
 unfoldable pub framed : Geometry → AgPlan → Framed
-framed g p = choose (isPlan g p) (record { number = 0; frame = frameOf g p }) (record { number = noAnswer; frame = noFrame })
+framed g p = cond (isPlan g p) (record { number = 0; frame = frameOf g p }) (record { number = noAnswer; frame = noFrame })
 
 -- what holds of the frame of every plan of the planner
 pub record Fine (w : Frame) : Type 0 where

@@ -1,7 +1,7 @@
 -- The 64 bits that an inode stores of a time, and which times it can store.
 -- Assumes nothing.
 use mathlib.Core.Path.{_≡_}
-use mathlib.Core.Bool.{Bool, true, false, _&&_}
+use mathlib.Core.Bool.{Bool, true, false, _&&_, cond}
 use Prim.Native.Nat.{ℕ, suc, _+_, _-_, _*_, _/_, _%_, _^_}
 use lib.Dec.{leb, ltb}
 use lib.IntN.{ℤ, pos, negsuc, _-ℤ_}
@@ -65,13 +65,8 @@ pub record ShiftedTime (secs : ℤ) (inside : Bool) (value : ℕ) : Type 0 where
   pub test : inside ≡ storable secs
   pub value-is : value ≡ valueIf (storable secs) (shifted secs)
 
--- a number of 32 bits as a signed one
-abbrev pub byTest : Bool → ℤ → ℤ → ℤ
-byTest true a b = a
-byTest false a b = b
-
 unfoldable pub signed32 : ℕ → ℤ
-signed32 n = byTest (ltb n (2 ^ 31)) (pos n) (pos n -ℤ pos (2 ^ 32))
+signed32 n = cond (ltb n (2 ^ 31)) (pos n) (pos n -ℤ pos (2 ^ 32))
 
 -- the time that 64 bits of an inode are
 unfoldable pub decoded : Bool → ℕ → Timestamp

@@ -1,9 +1,9 @@
 -- The state that the calls start from, and each call in turn.
 -- Assumes nothing.
+use mathlib.Core.Bool.{cond}
 use mathlib.Core.List.{List}
 use Prim.Native.Nat.{ℕ}
 use lib.Dec.{eqb}
-use Rattle.seqs.specs.Lists.{choose}
 use Rattle.geometry.specs.declared.Geometry.{Geometry}
 use Rattle.geometry.specs.declared.Computed.{Computed}
 use Rattle.plan_holds.specs.declared.Holds.{Holds}
@@ -30,11 +30,11 @@ holdsOpened input k = openedOf (parseDef input) k
 
 -- what a call answers
 unfoldable pub callAnswer : Geometry → Holds → Call → Held
-callAnswer g s c = choose (c .release) (releaseDef g s (c .at) (c .length)) (holdDef g s (c .at) (c .length))
+callAnswer g s c = cond (c .release) (releaseDef g s (c .at) (c .length)) (holdDef g s (c .at) (c .length))
 
 -- the same with the state for the next call: a refused one leaves it as it was
 unfoldable pub callStepped : Geometry → Holds → Call → Held
 callStepped g s c =
-    choose (eqb (callAnswer g s c .number) 0)
+    cond (eqb (callAnswer g s c .number) 0)
     (callAnswer g s c)
     (record { number = callAnswer g s c .number; state = s })

@@ -1,11 +1,10 @@
 -- The words of the calls: `hold:START:LENGTH`, `release:START:LENGTH`, and a decimal number by itself.
 -- Assumes nothing.
 use mathlib.Core.List.{List, [], _∷_}
-use mathlib.Core.Bool.{Bool, true, false, _&&_}
+use mathlib.Core.Bool.{Bool, true, false, _&&_, cond}
 use Prim.Native.Nat.{ℕ, _+_}
 use lib.Dec.{ltb, eqb}
 use lib.ListN.{length, take, drop, getD}
-use Rattle.seqs.specs.Lists.{choose}
 use Rattle.table_lines.specs.Decimal.{valueAfter}
 use Rattle.request_texts.specs.declared.Value.{Value}
 use Rattle.request_texts.specs.Texts.{packedName, leading, within, malformedValue}
@@ -13,7 +12,7 @@ use Rattle.inquire_holds.specs.declared.Call.{Call}
 
 -- digits, one at least, and nothing else; a number of more than 64 bits is too large
 unfoldable pub numberAlone : List ℕ → Value
-numberAlone text = choose (ltb 0 (leading text) && eqb (leading text) (length text)) (within (valueAfter 0 text)) malformedValue
+numberAlone text = cond (ltb 0 (leading text) && eqb (leading text) (length text)) (within (valueAfter 0 text)) malformedValue
 
 -- what is wrong with a word, beside zeros
 abbrev pub noCall : ℕ → Call
@@ -22,8 +21,8 @@ noCall n = record { number = n; release = false; at = 0; length = 0 }
 -- the call of two numbers, or what is wrong with the first that is refused
 unfoldable pub calledWith : Bool → Value → Value → Call
 calledWith release a n =
-    choose (eqb (a .number) 0)
-    (choose (eqb (n .number) 0) (record { number = 0; release = release; at = a .value; length = n .value }) (noCall (n .number)))
+    cond (eqb (a .number) 0)
+    (cond (eqb (n .number) 0) (record { number = 0; release = release; at = a .value; length = n .value }) (noCall (n .number)))
     (noCall (a .number))
 
 abbrev pub colon : ℕ
@@ -32,7 +31,7 @@ colon = 58
 -- `START:LENGTH`
 unfoldable pub runIn : Bool → List ℕ → Call
 runIn release text =
-    choose (ltb (leading text) (length text) && eqb (getD text (leading text) 0) colon)
+    cond (ltb (leading text) (length text) && eqb (getD text (leading text) 0) colon)
     (calledWith release (numberAlone (take (leading text) text)) (numberAlone (drop (leading text + 1) text)))
     (noCall 3)
 
@@ -50,5 +49,5 @@ wordIs n name text = ltb n (length text) && (eqb (packedName (take n text)) name
 -- `hold:START:LENGTH` or `release:START:LENGTH`; any other word is malformed
 unfoldable pub callIn : List ℕ → Call
 callIn text =
-    choose (wordIs 4 holdName text) (runIn false (drop 5 text))
-    (choose (wordIs 7 releaseName text) (runIn true (drop 8 text)) (noCall 3))
+    cond (wordIs 4 holdName text) (runIn false (drop 5 text))
+    (cond (wordIs 7 releaseName text) (runIn true (drop 8 text)) (noCall 3))

@@ -1,8 +1,8 @@
 // What the lines of `inquire` are made of, written into a lent buffer: a word and a number, or a word alone. As in table_lines: 0 and where
 // the bytes end, or 27 where they don't fit, and then nothing has changed.
+ghost use mathlib.Core.Bool.{cond};
 ghost use mathlib.Core.Path.{_≡_};
 ghost use Rattle.refusals.specs.Numbers.{wrongLength};
-ghost use Rattle.seqs.specs.Lists.{choose};
 ghost use Rattle.table_lines.specs.Lines.{space, newline, PutLine};
 ghost use Rattle.inquire_lines.specs.Items.{withByte, wordBytes, itemBytes};
 use table_lines::Written;
@@ -19,7 +19,7 @@ fn refused() -> Written
 
 // What stands behind an item: a space, or a newline behind the last of a line.
 fn behind(last: bool) -> u8
-    ensures { λ r. ⌜ r ≡ choose last newline space ⌝ }
+    ensures { λ r. ⌜ r ≡ cond last newline space ⌝ }
 {
     if last {
         return b'\n';

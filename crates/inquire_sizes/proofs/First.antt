@@ -1,12 +1,11 @@
 -- The first number that passes a test: what one turn of a loop does to it, and what it means.
 -- Assumes nothing.
 use mathlib.Core.Path.{_≡_, refl}
-use mathlib.Core.Bool.{Bool, true, false}
+use mathlib.Core.Bool.{Bool, true, false, cond}
 use mathlib.Core.Logic.{⊎-elim}
 use Prim.Native.Nat.{ℕ, zero, suc, _+_, _-_, _≤_, _<_}
 use native.Mathlib.Omega.{arith}
 use native.Mathlib.Nat.{not-suc-le-zero}
-use Rattle.seqs.specs.Lists.{choose}
 use Rattle.seqs.proofs.Laws.{lt-or-le}
 use Rattle.inquire_sizes.specs.First.{firstFrom}
 
@@ -30,7 +29,7 @@ module _ (t : ℕ → Bool) where
   -- ---- what it means
 
   from-at : (at n : ℕ) (b : Bool) → at + 1 ≤ firstFrom t (at + 1) n → firstFrom t (at + 1) n ≤ at + 1 + n
-      → (at ≤ choose b at (firstFrom t (at + 1) n)) × (choose b at (firstFrom t (at + 1) n) ≤ at + suc n)
+      → (at ≤ cond b at (firstFrom t (at + 1) n)) × (cond b at (firstFrom t (at + 1) n) ≤ at + suc n)
   from-at at n true l m = (omega arith, omega arith)
   from-at at n false l m = (omega arith, omega arith)
 
@@ -40,8 +39,8 @@ module _ (t : ℕ → Bool) where
   first-within at zero = (omega arith, omega arith)
   first-within at (suc n) = let i = first-within (at + 1) n in from-at at n (t at) (i .0) (i .1)
 
-  passes-at : (at n : ℕ) (b : Bool) → t at ≡ b → choose b at (firstFrom t (at + 1) n) < at + suc n
-      → (firstFrom t (at + 1) n < at + 1 + n → t (firstFrom t (at + 1) n) ≡ true) → t (choose b at (firstFrom t (at + 1) n)) ≡ true
+  passes-at : (at n : ℕ) (b : Bool) → t at ≡ b → cond b at (firstFrom t (at + 1) n) < at + suc n
+      → (firstFrom t (at + 1) n < at + 1 + n → t (firstFrom t (at + 1) n) ≡ true) → t (cond b at (firstFrom t (at + 1) n)) ≡ true
   passes-at at n true e h i = e
   passes-at at n false e h i = i (omega arith)
 
@@ -51,7 +50,7 @@ module _ (t : ℕ → Bool) where
   first-passes at zero h = absurd (omega arith)
   first-passes at (suc n) h = passes-at at n (t at) refl h (first-passes (at + 1) n)
 
-  fails-at : (at n k : ℕ) (b : Bool) → t at ≡ b → at ≤ k → k < choose b at (firstFrom t (at + 1) n)
+  fails-at : (at n k : ℕ) (b : Bool) → t at ≡ b → at ≤ k → k < cond b at (firstFrom t (at + 1) n)
       → (at + 1 ≤ k → k < firstFrom t (at + 1) n → t k ≡ false) → t k ≡ false
   fails-at at n k true e l h i = absurd (omega arith)
   fails-at at n k false e l h i =

@@ -1,7 +1,7 @@
 -- What the answers about a range mean: of every size in bytes, of the smallest refused one, of 1 to 8, and of runs.
 -- Assumes nothing.
 use mathlib.Core.Path.{_≡_, refl, sym, ap, _∙_}
-use mathlib.Core.Bool.{Bool, true, false}
+use mathlib.Core.Bool.{Bool, true, false, cond}
 use mathlib.Core.Logic.{_⊎_, inl, inr, ⊎-elim}
 use Prim.Native.Nat.{ℕ, _+_, _*_, _-_, _/_, _≤_, _<_}
 use native.Mathlib.Omega.{arith}
@@ -10,7 +10,6 @@ use borrow.Author.Tests.{ltb-true, ltb-false, eqb-true, eqb-false, eq-eqb, ne-eq
 use lib.Dec.{ltb, eqb}
 use Rattle.arith.specs.Choice.{when}
 use Rattle.refusals.specs.Table.{first}
-use Rattle.seqs.specs.Lists.{choose}
 use Rattle.params.specs.declared.Params.{Params}
 use Rattle.geometry_sizes.specs.Sizes.{sizesRefusals}
 use Rattle.geometry.specs.declared.Computed.{Computed}
@@ -52,7 +51,7 @@ module _ (number : ℕ → ℕ) (from to : ℕ) where
   unfolding smallestRefused
   smallest-from = first-within (isRefused number) from (to + 1 - from) .0
 
-  none-at : (t : Bool) → ltb to smallest ≡ t → choose t allFormatted (refusedSize smallest (number smallest)) .refusal ≡ 0 → to < smallest
+  none-at : (t : Bool) → ltb to smallest ≡ t → cond t allFormatted (refusedSize smallest (number smallest)) .refusal ≡ 0 → to < smallest
   none-at true e z = ltb-true to smallest e
   none-at false e z = absurd (smallest-refused (ltb-false to smallest e) z)
 
@@ -61,8 +60,8 @@ module _ (number : ℕ → ℕ) (from to : ℕ) where
   unfolding rangeOf
   range-formatted z n l h = let m = none-at (ltb to smallest) refl z in passed-before n l (omega arith)
 
-  some-at : (t : Bool) → ltb to smallest ≡ t → (choose t allFormatted (refusedSize smallest (number smallest)) .refusal ≡ 0 → ⊥)
-      → (smallest ≤ to) × (choose t allFormatted (refusedSize smallest (number smallest)) .blocks ≡ smallest) × (choose t allFormatted (refusedSize smallest (number smallest)) .refusal ≡ number smallest)
+  some-at : (t : Bool) → ltb to smallest ≡ t → (cond t allFormatted (refusedSize smallest (number smallest)) .refusal ≡ 0 → ⊥)
+      → (smallest ≤ to) × (cond t allFormatted (refusedSize smallest (number smallest)) .blocks ≡ smallest) × (cond t allFormatted (refusedSize smallest (number smallest)) .refusal ≡ number smallest)
   some-at true e r = absurd (r refl)
   some-at false e r = (ltb-false to smallest e, refl, refl)
 
@@ -77,7 +76,7 @@ module _ (p : Params) (logical physical : ℕ) where
   abbrev answerOn : ℕ → ℕ → Range
   answerOn least most = sizesAnswer p logical physical least most
 
-  asked-at : (n : ℕ) (r : Range) (t : Bool) → eqb n 0 ≡ t → choose t r (sizesCallRefused n) .number ≡ 0 → n ≡ 0
+  asked-at : (n : ℕ) (r : Range) (t : Bool) → eqb n 0 ≡ t → cond t r (sizesCallRefused n) .number ≡ 0 → n ≡ 0
   asked-at n r true e h = eqb-true n 0 e
   asked-at n r false e h = absurd (eqb-false n 0 e h)
 

@@ -1,7 +1,7 @@
 -- What the code works out of a block count is the number of a device of so many blocks.
 -- Assumes nothing.
 use mathlib.Core.Path.{_≡_, refl, sym, ap, _∙_}
-use mathlib.Core.Bool.{Bool, true, false, _&&_}
+use mathlib.Core.Bool.{Bool, true, false, _&&_, cond}
 use mathlib.Core.List.{List, [], _∷_, _++_}
 use Prim.Native.Nat.{ℕ, _+_, _*_, _-_, _/_, _^_, _<_}
 use native.Mathlib.Omega.{arith}
@@ -12,7 +12,6 @@ use lib.ListN.{length}
 use Rattle.refusals.specs.Numbers.{freeListShort, imaxpctAbove100, labelTooLong}
 use Rattle.arith.specs.Choice.{when}
 use Rattle.refusals.specs.Table.{Refusal, _if_, first}
-use Rattle.seqs.specs.Lists.{choose}
 use Rattle.params.specs.declared.OptU64.{OptU64}
 use Rattle.params.specs.declared.OptU64.the-variants.{Absent, Given}
 use Rattle.params.specs.declared.OptU8.{OptU8}
@@ -52,7 +51,7 @@ and-false : (b : Bool) → (b && false) ≡ false
 and-false true = refl
 and-false false = refl
 
-choose-when : (t : Bool) (a b : ℕ) → choose t a b ≡ when t a b
+choose-when : (t : Bool) (a b : ℕ) → cond t a b ≡ when t a b
 unfolding when
 choose-when true a b = refl
 choose-when false a b = refl
@@ -210,7 +209,7 @@ module _ (p : Params) (logical physical : ℕ) (z : optionsNumber p logical phys
         ∙ ap (λ (x : Geometry). when (ltb (behind x) (freelistOf (x .features))) freeListShort 0) (its-geometry p device logical physical e)
         ∙ rw (behind-is, features-is)
 
-    number-at : (t : Bool) → eqb (step .number) 0 ≡ t → choose t (plansNumber (step .geometry)) (step .number) ≡ choose t last (step .number)
+    number-at : (t : Bool) → eqb (step .number) 0 ≡ t → cond t (plansNumber (step .geometry)) (step .number) ≡ cond t last (step .number)
     number-at true e = plans-are (eqb-true (step .number) 0 e)
     number-at false e = refl
 

@@ -1,12 +1,11 @@
 -- What one turn of the loop over a range does to what its definition says; a range by another rule that agrees on its sizes.
 -- Assumes nothing.
 use mathlib.Core.Path.{_≡_, refl, ap, _∙_}
-use mathlib.Core.Bool.{Bool, true, false, not}
+use mathlib.Core.Bool.{Bool, true, false, not, cond}
 use Prim.Native.Nat.{ℕ, _+_, _-_, _≤_, _<_}
 use native.Mathlib.Omega.{arith}
 use borrow.Author.Tests.{lt-ltb, le-ltb, ltb-false, eq-eqb, ne-eqb}
 use lib.Dec.{ltb, eqb}
-use Rattle.seqs.specs.Lists.{choose}
 use Rattle.inquire_sizes.specs.declared.Range.{Range}
 use Rattle.inquire_sizes.specs.First.{firstFrom}
 use Rattle.inquire_sizes.specs.Ranges.{smallestRefused, allFormatted, refusedSize, rangeOf}
@@ -51,7 +50,7 @@ module _ (number other : ℕ → ℕ) (from to : ℕ) (order : from ≤ to) (ali
   unfolding smallestRefused
   smallest-from = first-within (isRefused number) from (to + 1 - from) .0
 
-  range-at : (n : ℕ) (t : Bool) → ltb to n ≡ t → from ≤ n → choose t allFormatted (refusedSize n (number n)) ≡ choose t allFormatted (refusedSize n (other n))
+  range-at : (n : ℕ) (t : Bool) → ltb to n ≡ t → from ≤ n → cond t allFormatted (refusedSize n (number n)) ≡ cond t allFormatted (refusedSize n (other n))
   range-at n true e l = refl
   range-at n false e l = ap (λ (m : ℕ). refusedSize n m) (alike n l (ltb-false to n e))
 
@@ -61,4 +60,4 @@ module _ (number other : ℕ → ℕ) (from to : ℕ) (order : from ≤ to) (ali
   range-alike =
       let n = smallestRefused number from to in
       range-at n (ltb to n) refl smallest-from
-      ∙ ap (λ (m : ℕ). choose (ltb to m) allFormatted (refusedSize m (other m))) smallest-alike
+      ∙ ap (λ (m : ℕ). cond (ltb to m) allFormatted (refusedSize m (other m))) smallest-alike

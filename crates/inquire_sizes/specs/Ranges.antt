@@ -1,14 +1,13 @@
 -- Disks known only by their label: whether every device size of a range is formatted.
 -- Assumes nothing.
 use mathlib.Core.Path.{_≡_}
-use mathlib.Core.Bool.{Bool, not, _&&_, _||_}
+use mathlib.Core.Bool.{Bool, not, _&&_, _||_, cond}
 use mathlib.Core.List.{List, _∷_}
 use Prim.Native.Nat.{ℕ, _+_, _*_, _-_, _/_, _≤_, _<_}
 use lib.Dec.{ltb, eqb}
 use Rattle.arith.specs.Choice.{when}
 use Rattle.refusals.specs.Numbers.{inobtcountAlone, badRange}
 use Rattle.refusals.specs.Table.{_if_, first}
-use Rattle.seqs.specs.Lists.{choose}
 use Rattle.params.specs.declared.Params.{Params}
 use Rattle.geometry_sizes.specs.declared.Sizes.{Sizes}
 use Rattle.geometry_sizes.specs.Sizes.{blockOf, sizesOf, sizesRefusals}
@@ -52,7 +51,7 @@ refusedSize n number = record { number = 0; blocks = n; refusal = number }
 
 unfoldable pub rangeOf : (ℕ → ℕ) → ℕ → ℕ → Range
 rangeOf number from to =
-    choose (ltb to (smallestRefused number from to)) allFormatted
+    cond (ltb to (smallestRefused number from to)) allFormatted
     (refusedSize (smallestRefused number from to) (number (smallestRefused number from to)))
 
 -- ---- the question
@@ -84,7 +83,7 @@ unfoldable pub sizesAnswer : Params → ℕ → ℕ → ℕ → ℕ → Range
 sizesAnswer p logical physical smallest largest =
     let from = smallest / blockBytes p in
     let to = largest / blockBytes p in
-    choose (eqb (sizesQuestion p logical physical from to) 0)
+    cond (eqb (sizesQuestion p logical physical from to) 0)
     (rangeOf (blocksNumber p logical physical) from to)
     (sizesCallRefused (sizesQuestion p logical physical from to))
 
@@ -92,7 +91,7 @@ sizesAnswer p logical physical smallest largest =
 unfoldable pub sizesAsked : List ℕ → ℕ → ℕ → Range
 sizesAsked input smallest largest =
     let q = parseDef input in
-    choose (eqb (q .number) 0) (sizesAnswer (q .params) (q .logical) (q .physical) smallest largest) (sizesCallRefused (q .number))
+    cond (eqb (q .number) 0) (sizesAnswer (q .params) (q .logical) (q .physical) smallest largest) (sizesCallRefused (q .number))
 
 -- ---- what the answers mean
 

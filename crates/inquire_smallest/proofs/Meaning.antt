@@ -1,7 +1,7 @@
 -- What the answers mean: the smallest candidate that reaches the count, 38 and 39 exactly where, and agsize and agcount without effect.
 -- Assumes nothing.
 use mathlib.Core.Path.{_≡_, refl, sym, ap, _∙_}
-use mathlib.Core.Bool.{Bool, true, false, _||_}
+use mathlib.Core.Bool.{Bool, true, false, _||_, cond}
 use mathlib.Core.Logic.{_⊎_, inl, inr, ⊎-elim}
 use Prim.Native.Nat.{ℕ, _-_, _^_, _≤_, _<_}
 use native.Mathlib.Omega.{arith}
@@ -10,7 +10,6 @@ use lib.Dec.{leb, ltb, eqb}
 use Rattle.refusals.specs.Numbers.{badSizes, noneReaches}
 use Rattle.arith.specs.Choice.{when}
 use Rattle.arith.proofs.Both.{left-true, right-true}
-use Rattle.seqs.specs.Lists.{choose}
 use Rattle.seqs.proofs.Laws.{lt-or-le}
 use Rattle.params.specs.declared.Params.{Params}
 use Rattle.params.specs.Params.{withAgcount, withAgsize}
@@ -47,36 +46,36 @@ module _ (q : Params) (logical physical wanted device : ℕ) where
 
 -- ---- the question
 
-question-at : (n : ℕ) (r : Found) (t : Bool) → eqb n 0 ≡ t → choose t r (smallestCallRefused n) .number ≡ 0 → n ≡ 0
+question-at : (n : ℕ) (r : Found) (t : Bool) → eqb n 0 ≡ t → cond t r (smallestCallRefused n) .number ≡ 0 → n ≡ 0
 question-at n r true e h = eqb-true n 0 e
 question-at n r false e h = absurd (eqb-false n 0 e h)
 
-found-at : (s : ℕ) (t : Bool) → choose {A = Found} t (record { number = 0; size = s }) (smallestCallRefused noneReaches) .number ≡ 0 → t ≡ true
+found-at : (s : ℕ) (t : Bool) → cond {A = Found} t (record { number = 0; size = s }) (smallestCallRefused noneReaches) .number ≡ 0 → t ≡ true
 found-at s true e = refl
 found-at s false e = absurd (let z : _≡_ {A = ℕ} noneReaches 0 = e in omega arith)
 
-none-at : (n : ℕ) (s : ℕ) (t u : Bool) → eqb n 0 ≡ t → (n ≡ noneReaches → ⊥) → choose {A = Found} t (choose u (record { number = 0; size = s }) (smallestCallRefused noneReaches)) (smallestCallRefused n) .number ≡ noneReaches
+none-at : (n : ℕ) (s : ℕ) (t u : Bool) → eqb n 0 ≡ t → (n ≡ noneReaches → ⊥) → cond {A = Found} t (cond u (record { number = 0; size = s }) (smallestCallRefused noneReaches)) (smallestCallRefused n) .number ≡ noneReaches
     → u ≡ false
 none-at n s true true e h z = absurd (let y : _≡_ {A = ℕ} 0 noneReaches = z in omega arith)
 none-at n s true false e h z = refl
 none-at n s false u e h z = absurd (h z)
 
 -- 1 to 8, or 39, or 0
-not-38 : (o : ℕ) (t u : Bool) → eqb o 0 ≡ t → o ≤ 8 → choose t (when u badSizes 0) o ≡ noneReaches → ⊥
+not-38 : (o : ℕ) (t u : Bool) → eqb o 0 ≡ t → o ≤ 8 → cond t (when u badSizes 0) o ≡ noneReaches → ⊥
 unfolding when
 not-38 o true true e l z = let y : _≡_ {A = ℕ} badSizes noneReaches = z in omega arith
 not-38 o true false e l z = let y : _≡_ {A = ℕ} 0 noneReaches = z in omega arith
 not-38 o false u e l z = omega arith
 
 only-39 : (o : ℕ) (t u v : Bool) (s : ℕ) → eqb o 0 ≡ t → o ≤ 8
-    → choose {A = Found} (eqb (choose t (when u badSizes 0) o) 0) (choose v (record { number = 0; size = s }) (smallestCallRefused noneReaches)) (smallestCallRefused (choose t (when u badSizes 0) o)) .number ≡ badSizes
+    → cond {A = Found} (eqb (cond t (when u badSizes 0) o) 0) (cond v (record { number = 0; size = s }) (smallestCallRefused noneReaches)) (smallestCallRefused (cond t (when u badSizes 0) o)) .number ≡ badSizes
     → (o ≡ 0) × (u ≡ true)
 unfolding when
 only-39 o true true v s e l z = (eqb-true o 0 e, refl)
 only-39 o true false true s e l z = absurd (let y : _≡_ {A = ℕ} 0 badSizes = z in omega arith)
 only-39 o true false false s e l z = absurd (let y : _≡_ {A = ℕ} noneReaches badSizes = z in omega arith)
 only-39 o false u v s e l z =
-    let y : _≡_ {A = ℕ} o badSizes = sym (ap (λ (b : Bool). choose {A = Found} b (choose v (record { number = 0; size = s }) (smallestCallRefused noneReaches)) (smallestCallRefused o) .number) e) ∙ z in
+    let y : _≡_ {A = ℕ} o badSizes = sym (ap (λ (b : Bool). cond {A = Found} b (cond v (record { number = 0; size = s }) (smallestCallRefused noneReaches)) (smallestCallRefused o) .number) e) ∙ z in
     absurd (omega arith)
 
 which-of : (start count : ℕ) (a b c : Bool) → eqb count 0 ≡ a → ltb 65536 count ≡ b → leb (2 ^ 64) (sizeTried start (count - 1)) ≡ c → (a || (b || c)) ≡ true
@@ -134,7 +133,7 @@ module _ (p : Params) (logical physical start count wanted : ℕ) where
   unfolding foundIn
   size-is z =
       ap (λ (r : Found). r .size) (is-found (question-zero z))
-      ∙ ap (λ (t : Bool). choose {A = Found} t (record { number = 0; size = sizeTried start index }) (smallestCallRefused noneReaches) .size) (lt-ltb index count (index-below z))
+      ∙ ap (λ (t : Bool). cond {A = Found} t (record { number = 0; size = sizeTried start index }) (smallestCallRefused noneReaches) .size) (lt-ltb index count (index-below z))
 
   -- THE ANSWER IS AMONG THE SIZES, A CANDIDATE, REACHES THE COUNT, AND NO SMALLER CANDIDATE DOES
   pub smallest-found : its-answer .number ≡ 0 → SmallestSize p logical physical start count wanted (its-answer .size)
@@ -168,7 +167,7 @@ module _ (p : Params) (logical physical start count wanted : ℕ) where
       ⊎-elim (λ l. absurd (let w = reached q logical physical wanted (sizeTried start index) (reaches-index l) in let f = n index l (w .0) in let g = w .1 in omega arith)) (λ l. l) (lt-or-le index count)
       in
       ap (λ (r : Found). r .number) (is-found z)
-      ∙ ap (λ (t : Bool). choose {A = Found} t (record { number = 0; size = sizeTried start index }) (smallestCallRefused noneReaches) .number) (le-ltb index count m)
+      ∙ ap (λ (t : Bool). cond {A = Found} t (record { number = 0; size = sizeTried start index }) (smallestCallRefused noneReaches) .number) (le-ltb index count m)
 
   -- 39 AFTER 1 TO 8, WHERE THERE IS NO SIZE, TOO MANY, OR A LAST ONE THAT DOESN'T FIT
   pub no-sizes-39 : its-answer .number ≡ badSizes → (optionsNumber q logical physical ≡ 0) × (noSizes start count ≡ true)

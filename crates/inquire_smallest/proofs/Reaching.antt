@@ -1,13 +1,12 @@
 -- Whether a size reaches a count, by its geometry and plans; 39 without a sum that wraps.
 -- Assumes nothing.
 use mathlib.Core.Path.{_≡_, refl, sym, ap}
-use mathlib.Core.Bool.{Bool, true, false, _&&_}
+use mathlib.Core.Bool.{Bool, true, false, _&&_, cond}
 use mathlib.Core.List.{List}
 use Prim.Native.Nat.{ℕ, _+_, _*_, _-_, _^_, _≤_, _<_}
 use native.Mathlib.Omega.{arith}
 use borrow.Author.Tests.{eq-eqb, ne-eqb, eqb-true, ltb-true, ltb-false, le-leb, lt-leb, lt-ltb, le-ltb}
 use lib.Dec.{leb, ltb, eqb}
-use Rattle.seqs.specs.Lists.{choose}
 use Rattle.params.specs.declared.Params.{Params}
 use Rattle.geometry.specs.declared.Geometry.{Geometry}
 use Rattle.geometry.specs.declared.Computed.{Computed}
@@ -21,7 +20,7 @@ use Rattle.inquire_sizes.specs.Ranges.{sizeNumber}
 use Rattle.inquire_smallest.specs.Question.{freeOnDevice, reaches, noSizes}
 
 -- the finished state's number is that of the plans
-state-number : (n : ℕ) (s : SbState) (t : Bool) → eqb n 0 ≡ t → choose t (record { number = 0; state = s }) (stateRefused n) .number ≡ n
+state-number : (n : ℕ) (s : SbState) (t : Bool) → eqb n 0 ≡ t → cond t (record { number = 0; state = s }) (stateRefused n) .number ≡ n
 state-number n s true e = sym (eqb-true n 0 e)
 state-number n s false e = refl
 

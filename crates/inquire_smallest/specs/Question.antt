@@ -1,13 +1,12 @@
 -- A disk for so many pictures: the smallest device size, among some in steps of 1 MiB, that leaves so many free blocks.
 -- Assumes nothing.
 use mathlib.Core.Path.{_≡_}
-use mathlib.Core.Bool.{Bool, _&&_, _||_}
+use mathlib.Core.Bool.{Bool, _&&_, _||_, cond}
 use mathlib.Core.List.{List}
 use Prim.Native.Nat.{ℕ, _+_, _*_, _-_, _^_, _≤_, _<_}
 use lib.Dec.{leb, ltb, eqb}
 use Rattle.arith.specs.Choice.{when}
 use Rattle.refusals.specs.Numbers.{noneReaches, badSizes}
-use Rattle.seqs.specs.Lists.{choose}
 use Rattle.params.specs.declared.OptU64.the-variants.{Absent}
 use Rattle.params.specs.declared.Params.{Params}
 use Rattle.params.specs.Params.{options}
@@ -57,7 +56,7 @@ smallestCallRefused n = record { number = n; size = 0 }
 -- its size, or 38
 unfoldable pub foundIn : Params → ℕ → ℕ → ℕ → ℕ → ℕ → Found
 foundIn p logical physical start count wanted =
-    choose (ltb (firstReaching p logical physical start count wanted) count)
+    cond (ltb (firstReaching p logical physical start count wanted) count)
     (record { number = 0; size = sizeTried start (firstReaching p logical physical start count wanted) })
     (smallestCallRefused noneReaches)
 
@@ -79,7 +78,7 @@ smallestQuestion p logical physical start count = orNext (optionsNumber p logica
 unfoldable pub smallestAnswer : Params → ℕ → ℕ → ℕ → ℕ → ℕ → Found
 smallestAnswer p logical physical start count wanted =
     let q = defaultGroups p in
-    choose (eqb (smallestQuestion q logical physical start count) 0)
+    cond (eqb (smallestQuestion q logical physical start count) 0)
     (foundIn q logical physical start count wanted)
     (smallestCallRefused (smallestQuestion q logical physical start count))
 
@@ -87,7 +86,7 @@ smallestAnswer p logical physical start count wanted =
 unfoldable pub smallestAsked : List ℕ → ℕ → ℕ → ℕ → Found
 smallestAsked input start count wanted =
     let q = parseDef input in
-    choose (eqb (q .number) 0) (smallestAnswer (q .params) (q .logical) (q .physical) start count wanted) (smallestCallRefused (q .number))
+    cond (eqb (q .number) 0) (smallestAnswer (q .params) (q .logical) (q .physical) start count wanted) (smallestCallRefused (q .number))
 
 -- ---- what the answers mean, with the groups left to default
 

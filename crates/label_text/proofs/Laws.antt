@@ -1,7 +1,7 @@
 -- Laws of a byte's text, and a turn of the loop that stores a label's.
 -- Assumes nothing.
 use mathlib.Core.Path.{_≡_, refl, sym, ap, _∙_}
-use mathlib.Core.Bool.{Bool, true, false, not, _&&_}
+use mathlib.Core.Bool.{Bool, true, false, not, _&&_, cond}
 use mathlib.Core.List.{List, [], _∷_, _++_}
 use Prim.Native.Nat.{ℕ, _+_, _-_, _*_, _/_, _%_, _≤_, _<_}
 use native.Mathlib.Omega.{arith}
@@ -10,7 +10,6 @@ use lib.ListN.{length, getD, set, drop, replicate, length-append}
 use lib.Seq.{drop-length}
 use borrow.Author.Tests.{lt-leb, le-leb, lt-ltb, le-ltb, eq-eqb, ne-eqb}
 use Rattle.arith.specs.Choice.{when}
-use Rattle.seqs.specs.Lists.{choose}
 use Rattle.endian.specs.Bytes.{patch}
 use Rattle.endian.proofs.Laws.{patch-append, drop-turn}
 use Rattle.label_text.specs.Text.{isPlain, hexDigit, escape, shownByte, labelText, textOf}
@@ -60,7 +59,7 @@ module _ (b : ℕ) where
   unfolding escape
   escape-most = by (isPlain b)
     where
-      by : (t : Bool) → length (choose t (b ∷ []) (92 ∷ 120 ∷ hexDigit (b / 16) ∷ hexDigit (b % 16) ∷ [])) ≤ 4
+      by : (t : Bool) → length (cond t (b ∷ []) (92 ∷ 120 ∷ hexDigit (b / 16) ∷ hexDigit (b % 16) ∷ [])) ≤ 4
       by true = omega arith
       by false = omega arith
 
@@ -82,7 +81,7 @@ module _ (b n : ℕ) where
   unfolding shownByte
   shown-most = by (eqb b 0 && eqb n 0)
     where
-      by : (t : Bool) → length (choose t [] (escape b)) ≤ 4
+      by : (t : Bool) → length (cond t [] (escape b)) ≤ 4
       by true = omega arith
       by false = escape-most b
 

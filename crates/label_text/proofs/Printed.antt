@@ -1,7 +1,7 @@
 -- What a label's text is good for: every byte of it is printable, and it says which label it is.
 -- Assumes nothing.
 use mathlib.Core.Path.{_≡_, refl, sym, ap, ap₂, _∙_}
-use mathlib.Core.Bool.{Bool, true, false, not, _&&_}
+use mathlib.Core.Bool.{Bool, true, false, not, _&&_, cond}
 use mathlib.Core.List.{List, [], _∷_, _++_}
 use Prim.Native.Nat.{ℕ, zero, suc, _+_, _*_, _/_, _%_, _≤_, _<_}
 use native.Mathlib.Omega.{arith}
@@ -9,7 +9,6 @@ use lib.Dec.{leb, ltb, eqb}
 use lib.ListN.{length}
 use borrow.Author.Tests.{le-leb, ltb-true, ltb-false}
 use Rattle.arith.specs.Choice.{when}
-use Rattle.seqs.specs.Lists.{choose}
 use Rattle.endian.specs.Bytes.{below}
 use Rattle.label_text.specs.Text.{printable, isPlain, hexDigit, escape, shownByte, labelText, allPrintable}
 
@@ -40,7 +39,7 @@ escape-printable : (b : ℕ) → b < 256 → allPrintable (escape b) ≡ true
 unfolding escape isPlain allPrintable
 escape-printable b h = by (isPlain b) refl
   where
-    by : (t : Bool) → isPlain b ≡ t → allPrintable (choose t (b ∷ []) (92 ∷ 120 ∷ hexDigit (b / 16) ∷ hexDigit (b % 16) ∷ [])) ≡ true
+    by : (t : Bool) → isPlain b ≡ t → allPrintable (cond t (b ∷ []) (92 ∷ 120 ∷ hexDigit (b / 16) ∷ hexDigit (b % 16) ∷ [])) ≡ true
     by true e = rw (and-left (printable b) (not (eqb b 34) && not (eqb b 92)) e) refl
     by false e = rw (digit-printable (b / 16) (omega arith), digit-printable (b % 16) (omega arith)) refl
 
@@ -48,7 +47,7 @@ shown-printable : (b n : ℕ) → b < 256 → allPrintable (shownByte b n) ≡ t
 unfolding shownByte allPrintable
 shown-printable b n h = by (eqb b 0 && eqb n 0)
   where
-    by : (t : Bool) → allPrintable (choose t [] (escape b)) ≡ true
+    by : (t : Bool) → allPrintable (cond t [] (escape b)) ≡ true
     by true = refl
     by false = escape-printable b h
 

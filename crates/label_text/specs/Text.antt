@@ -1,12 +1,11 @@
 -- A label as text that a terminal can show: bytes outside printable ASCII are escaped, and so are the quote and the backslash.
 -- Assumes nothing.
-use mathlib.Core.Bool.{Bool, true, not, _&&_}
+use mathlib.Core.Bool.{Bool, true, not, _&&_, cond}
 use mathlib.Core.List.{List, [], _∷_, _++_}
 use Prim.Native.Nat.{ℕ, _+_, _-_, _/_, _%_}
 use lib.Dec.{leb, ltb, eqb}
 use lib.ListN.{length, replicate}
 use Rattle.arith.specs.Choice.{when}
-use Rattle.seqs.specs.Lists.{choose}
 use Rattle.endian.specs.Bytes.{patch}
 use Rattle.label_text.specs.declared.LabelText.{LabelText}
 
@@ -24,11 +23,11 @@ hexDigit d = when (ltb d 10) (48 + d) (87 + d)
 
 -- a byte as text: itself, or a backslash, an x and its two hexadecimal digits
 unfoldable pub escape : ℕ → List ℕ
-escape b = choose (isPlain b) (b ∷ []) (92 ∷ 120 ∷ hexDigit (b / 16) ∷ hexDigit (b % 16) ∷ [])
+escape b = cond (isPlain b) (b ∷ []) (92 ∷ 120 ∷ hexDigit (b / 16) ∷ hexDigit (b % 16) ∷ [])
 
 -- a byte before a text of n bytes: zeros with nothing behind them only fill the label up, and aren't shown
 unfoldable pub shownByte : ℕ → ℕ → List ℕ
-shownByte b n = choose (eqb b 0 && eqb n 0) [] (escape b)
+shownByte b n = cond (eqb b 0 && eqb n 0) [] (escape b)
 
 -- the text of a label
 unfoldable pub labelText : List ℕ → List ℕ

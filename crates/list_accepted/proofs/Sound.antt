@@ -1,7 +1,7 @@
 -- Every accepted run is sound on its device: its parts lie one behind the other, inside, and have their lengths.
 -- Assumes nothing.
 use mathlib.Core.Path.{_≡_, refl, ap, _∙_}
-use mathlib.Core.Bool.{Bool, true, false}
+use mathlib.Core.Bool.{Bool, true, false, cond, _&&_}
 use mathlib.Core.List.{List}
 use Prim.Native.Nat.{ℕ, _+_, _*_, _-_, _^_, _≤_, _<_}
 use native.Mathlib.Omega.{arith}
@@ -12,7 +12,6 @@ use lib.Pow.{pow-add}
 use lib.ListN.{length, replicate, length-append, length-replicate}
 use Rattle.arith.specs.Choice.{when}
 use Rattle.endian.proofs.Fields.{write-length}
-use Rattle.seqs.specs.Lists.{both, choose}
 use Rattle.geometry.specs.declared.Geometry.{Geometry}
 use Rattle.geometry.specs.Log.{preallocOf}
 use Rattle.geometry_layout.specs.Places.{freelistOf, groupBlocks, lsunitBytes, logsunitOf}
@@ -119,7 +118,7 @@ module _ (g : Geometry) (z : Bounds g) where
 
 -- the log group has its free list behind the log: the log ends inside it
 module _ (g : Geometry) (z : Bounds g) (l : length (g .label) ≡ 12) (p : plansNumber g ≡ 0) where
-  not-short : both (eqb (g .logagno) (g .logagno)) (ltb (groupBlocks (g .dblocks) (g .agsize) (g .agcount) (g .logagno) - choose (eqb (g .logagno) (g .logagno)) (g .«log_agbno» + g .logblocks) (headBlocks g)) (freelistOf (g .features))) ≡ false
+  not-short : (eqb (g .logagno) (g .logagno) && ltb (groupBlocks (g .dblocks) (g .agsize) (g .agcount) (g .logagno) - cond (eqb (g .logagno) (g .logagno)) (g .«log_agbno» + g .logblocks) (headBlocks g)) (freelistOf (g .features))) ≡ false
   unfolding listShort listAt siteOf
   not-short = all-planned g l p .1
 

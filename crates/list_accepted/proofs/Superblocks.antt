@@ -1,7 +1,7 @@
 -- What the heads that an accepted run leaves say: which superblocks name the root inode, what they count as free, which is finished.
 -- Assumes nothing.
 use mathlib.Core.Path.{_≡_, refl, sym, _∙_}
-use mathlib.Core.Bool.{Bool, true, false, _||_}
+use mathlib.Core.Bool.{Bool, true, false, _||_, cond}
 use mathlib.Core.List.{List}
 use mathlib.Core.Logic.{_⊎_, inl, inr}
 use Prim.Native.Nat.{ℕ, _+_, _-_, _/_, _^_, _<_}
@@ -11,7 +11,6 @@ use lib.Dec.{eqb, lit<}
 use lib.ListN.{length, getD}
 use Rattle.arith.specs.Choice.{when, bit}
 use Rattle.endian.specs.Bytes.{beAt}
-use Rattle.seqs.specs.Lists.{choose}
 use Rattle.structs.specs.Written.{null64}
 use Rattle.geometry.specs.declared.Geometry.{Geometry}
 use Rattle.geometry_layout.specs.Places.{chunkOf, initialFree}
@@ -120,7 +119,7 @@ module _ (g : Geometry) (uuid : List ℕ) (z : Source g uuid) where
       says-state k h (secondaryState g uuid k) (source-uuid g uuid z) refl (n .0) (n .1) (n .2)
       (one-of (namesRoot (g .agcount) k) (rootIno g) null64 (omega arith) (lit< tt)) (omega arith) (lit< tt)
 
-  left-at : (k : ℕ) → k < g .agcount → (t : Bool) → eqb k 0 ≡ t → Says g uuid k (choose t (headFinished g uuid) (headWritten g uuid k))
+  left-at : (k : ℕ) → k < g .agcount → (t : Bool) → eqb k 0 ≡ t → Says g uuid k (cond t (headFinished g uuid) (headWritten g uuid k))
   unfolding headWritten
   left-at k h true e = let d = eqb-true k 0 e in rw d (finished-says (omega arith))
   left-at k h false e = rw (secondary-is k e) (secondary-says k h e)

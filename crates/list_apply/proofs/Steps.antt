@@ -1,13 +1,12 @@
 -- What is wanted, and what a piece that is fed asks for, by the code's own steps.
 -- Assumes nothing.
 use mathlib.Core.Path.{_≡_, refl, _∙_}
-use mathlib.Core.Bool.{Bool, true, false}
+use mathlib.Core.Bool.{Bool, true, false, cond}
 use mathlib.Core.List.{List}
 use Prim.Native.Nat.{ℕ, _+_, _-_, _%_, _^_, _<_, _≤_}
 use lib.Dec.{leb, ltb, eqb}
 use lib.ListN.{length}
 use borrow.Author.Tests.{eq-eqb, ne-eqb, lt-ltb, le-ltb, le-leb, lt-leb}
-use Rattle.seqs.specs.Lists.{choose}
 use Rattle.list_read.specs.declared.Decoded.{Decoded}
 use Rattle.list_read.specs.declared.Passed.{Passed}
 use Rattle.list_read.specs.Records.{flush, zerosKind, decodeDef, withinDef}
@@ -16,10 +15,10 @@ use Rattle.list_apply.specs.declared.Applying.{Applying as State}
 use Rattle.list_apply.specs.declared.Step.{Step}
 use Rattle.list_apply.specs.Applying.{goesOn, ended, listCut, listMalformed, recordBehind, tooFar, held, past, firstDone, state, headNext, headBytesWanted, pieceLength, applyingWanted, idleStep, stoppedBy, markedStep, inputEnded, followingOf, takenUp, waitsDef, heldBack, released, acceptedBy, putPiece, inLimit, fedRecord, fedDecoded, applyingFedHead, fedBytes, applyingFed}
 
-pick-first : (b : Bool) (x y : Step) → b ≡ true → x ≡ choose b x y
+pick-first : (b : Bool) (x y : Step) → b ≡ true → x ≡ cond b x y
 pick-first b x y e = rw e refl
 
-pick-second : (b : Bool) (x y : Step) → b ≡ false → y ≡ choose b x y
+pick-second : (b : Bool) (x y : Step) → b ≡ false → y ≡ cond b x y
 pick-second b x y e = rw e refl
 
 -- ---- the limit

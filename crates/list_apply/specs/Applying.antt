@@ -1,11 +1,10 @@
 -- Taking up a list of written records piece by piece: what is wanted next, and what a piece that is fed asks for.
 -- Assumes nothing.
-use mathlib.Core.Bool.{Bool, true, false}
+use mathlib.Core.Bool.{Bool, true, false, cond, _&&_}
 use mathlib.Core.List.{List}
 use Prim.Native.Nat.{ℕ, _+_, _-_, _%_, _^_, min}
 use lib.Dec.{leb, ltb, eqb}
 use lib.ListN.{length}
-use Rattle.seqs.specs.Lists.{choose, both}
 use Rattle.list_read.specs.Records.{flush, zerosKind, decodeDef, withinDef}
 use Rattle.list_read.specs.Flushes.{nextDef, endedDef}
 use Rattle.list_apply.specs.declared.Applying.{Applying as State}
@@ -72,7 +71,7 @@ headBytesWanted false = 2
 
 -- the bytes of it that were fed before: the mark
 abbrev pub keptOf : State → ℕ
-keptOf a = choose (a .marked) 2 0
+keptOf a = cond (a .marked) 2 0
 
 -- what is left of a record, as much as `size` bytes hold
 abbrev pub pieceLength : State → ℕ → ℕ
@@ -80,13 +79,13 @@ pieceLength a size = min (a .left) size
 
 -- a head is next: behind a whole record, and while the first one waits
 unfoldable pub headNext : State → Bool
-headNext a = choose (eqb (a .first) held) true (eqb (a .left) 0)
+headNext a = cond (eqb (a .first) held) true (eqb (a .left) 0)
 
 -- nothing where it stopped; a head behind a whole record; nothing more for zeros; or a piece of a block
 unfoldable pub applyingWanted : State → ℕ → ℕ
 applyingWanted a size =
-    choose (eqb (a .stop) goesOn)
-    (choose (headNext a) (headBytesWanted (a .marked)) (choose (eqb (a .kind) zerosKind) 0 (pieceLength a size)))
+    cond (eqb (a .stop) goesOn)
+    (cond (headNext a) (headBytesWanted (a .marked)) (cond (eqb (a .kind) zerosKind) 0 (pieceLength a size)))
     0
 
 -- ---- what is to be done
@@ -105,25 +104,25 @@ markedStep a = idleStep (state (a .limit) (a .first) (a .stop) true (a .ordinal)
 
 -- the input ends before a record: the list is cut unless two flushes are past
 unfoldable pub inputEnded : State → Step
-inputEnded a = choose (eqb (endedDef (a .flushes)) 0) (stoppedBy a ended) (stoppedBy a listCut)
+inputEnded a = cond (eqb (endedDef (a .flushes)) 0) (stoppedBy a ended) (stoppedBy a listCut)
 
 -- the record in hand, where so many bytes of this one are left
 unfoldable pub followingOf : ℕ → ℕ → ℕ
-followingOf ordinal left = choose (eqb left 0) ((ordinal + 1) % 2 ^ 64) ordinal
+followingOf ordinal left = cond (eqb left 0) ((ordinal + 1) % 2 ^ 64) ordinal
 
 -- a record's head: a flush is done at once, what it writes comes in pieces
 unfoldable pub takenUp : State → ℕ → ℕ → ℕ → ℕ → Step
 takenUp a flushes kind at len =
     record {
       applying = state (a .limit) past goesOn false (followingOf (a .ordinal) len) flushes kind at len;
-      action = choose (eqb kind flush) flush 0;
+      action = cond (eqb kind flush) flush 0;
       at = 0;
       len = 0;
     }
 
 -- zeros wait where they are the first record
 unfoldable pub waitsDef : ℕ → ℕ → Bool
-waitsDef first kind = both (eqb first firstToCome) (eqb kind zerosKind)
+waitsDef first kind = eqb first firstToCome && eqb kind zerosKind
 
 -- nothing is done for them until the next head is in order
 unfoldable pub heldBack : State → ℕ → ℕ → Step
@@ -142,8 +141,8 @@ released a flushes kind at len =
 -- a head that is in order
 unfoldable pub acceptedBy : State → ℕ → ℕ → ℕ → ℕ → Step
 acceptedBy a flushes kind at len =
-    choose (eqb (a .first) held) (released a flushes kind at len)
-    (choose (waitsDef (a .first) kind) (heldBack a at len) (takenUp a flushes kind at len))
+    cond (eqb (a .first) held) (released a flushes kind at len)
+    (cond (waitsDef (a .first) kind) (heldBack a at len) (takenUp a flushes kind at len))
 
 -- the next n bytes of what a record writes
 unfoldable pub putPiece : State → ℕ → Step
@@ -158,34 +157,34 @@ putPiece a n =
 
 -- a write of `len` bytes at the offset `at` ends no later than the limit, and where a file can
 unfoldable pub inLimit : ℕ → ℕ → ℕ → Bool
-inLimit limit at len = both (leb (at + len) limit) (withinDef at len)
+inLimit limit at len = leb (at + len) limit && withinDef at len
 
 -- a record may not stand behind the second flush, nor end behind the limit or where no file can
 unfoldable pub fedRecord : State → ℕ → ℕ → ℕ → Step
 fedRecord a kind at len =
-    choose (eqb (nextDef (a .flushes) kind .number) 0)
-    (choose (inLimit (a .limit) at len) (acceptedBy a (nextDef (a .flushes) kind .flushes) kind at len) (stoppedBy a tooFar))
+    cond (eqb (nextDef (a .flushes) kind .number) 0)
+    (cond (inLimit (a .limit) at len) (acceptedBy a (nextDef (a .flushes) kind .flushes) kind at len) (stoppedBy a tooFar))
     (stoppedBy a recordBehind)
 
 -- a head, or a mark; the list ends with them where they are fewer bytes than wanted
 unfoldable pub fedDecoded : State → List ℕ → Step
 fedDecoded a xs =
     let d = decodeDef (ltb (length xs) (headBytesWanted (a .marked))) xs in
-    choose (eqb (d .number) 0)
-    (choose (eqb (d .kind) 0) (markedStep a) (fedRecord a (d .kind) (d .at) (d .len)))
+    cond (eqb (d .number) 0)
+    (cond (eqb (d .kind) 0) (markedStep a) (fedRecord a (d .kind) (d .at) (d .len)))
     (stoppedBy a listMalformed)
 
 -- no byte in place of a mark: the input ends
 unfoldable pub applyingFedHead : State → List ℕ → Step
-applyingFedHead a xs = choose (a .marked) (fedDecoded a xs) (choose (eqb (length xs) 0) (inputEnded a) (fedDecoded a xs))
+applyingFedHead a xs = cond (a .marked) (fedDecoded a xs) (cond (eqb (length xs) 0) (inputEnded a) (fedDecoded a xs))
 
 -- a piece of a block is applied whole, or the list is cut in it
 unfoldable pub fedBytes : State → List ℕ → ℕ → Step
-fedBytes a xs size = choose (ltb (length xs) (pieceLength a size)) (stoppedBy a listMalformed) (putPiece a (pieceLength a size))
+fedBytes a xs size = cond (ltb (length xs) (pieceLength a size)) (stoppedBy a listMalformed) (putPiece a (pieceLength a size))
 
 -- the bytes that were wanted, in a buffer of `size`
 unfoldable pub applyingFed : State → List ℕ → ℕ → Step
 applyingFed a xs size =
-    choose (eqb (a .stop) goesOn)
-    (choose (headNext a) (applyingFedHead a xs) (choose (eqb (a .kind) zerosKind) (putPiece a (pieceLength a size)) (fedBytes a xs size)))
+    cond (eqb (a .stop) goesOn)
+    (cond (headNext a) (applyingFedHead a xs) (cond (eqb (a .kind) zerosKind) (putPiece a (pieceLength a size)) (fedBytes a xs size)))
     (idleStep a)

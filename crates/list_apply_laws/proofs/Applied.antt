@@ -1,7 +1,7 @@
 -- A whole list, fed as it is wanted: every record is taken up, and what is done leaves what the records leave.
 -- Assumes nothing.
 use mathlib.Core.Path.{_≡_, refl, sym, ap, ap₂, _∙_}
-use mathlib.Core.Bool.{Bool, true, false, true≢false}
+use mathlib.Core.Bool.{Bool, true, false, true≢false, cond, _&&_}
 use mathlib.Core.List.{List, [], _∷_, _++_, append-assoc, append-nil}
 use Prim.Native.Nat.{ℕ, zero, suc, _+_, _-_, _%_, _^_, _≤_, _<_}
 use native.Mathlib.Omega.{arith}
@@ -11,7 +11,6 @@ use lib.ListN.{length, take, drop, length-append}
 use lib.Seq.{length-take-le, take-at, drop-at}
 use borrow.Author.Tests.{le-leb}
 use Rattle.endian.specs.Bytes.{beAt}
-use Rattle.seqs.specs.Lists.{choose, both}
 use Rattle.list_records.specs.Records.{Record, WZ, WB, FL, All, byKind, recordBytes, listBytes}
 use Rattle.list_records.proofs.Sizes.{zeros-bytes, block-bytes}
 use Rattle.list_records.specs.Device.{Device, at, len, byte, stepRecord, applied}
@@ -63,7 +62,7 @@ module _ (rest : List ℕ) where
       bytes-cut-head off 0 (c ∷ cs) rest f (omega arith) .0 ∙ decode-last (take 18 (recordBytes w ++ rest)) (omega arith)
 
 -- ---- what ends before the limit ends where a file can
-kept-by : (b c : Bool) → both b c ≡ true → c ≡ true
+kept-by : (b c : Bool) → (b && c) ≡ true → c ≡ true
 kept-by true c e = e
 kept-by false c e = absurd (true≢false (sym e))
 
@@ -128,7 +127,7 @@ pub applied-same : (ws : List Record) (d e : Device) → ((x : ℕ) → d x ≡ 
 unfolding applied stepRecord
 applied-same [] d e h x = h x
 applied-same (w ∷ ws) d e h x =
-    applied-same ws (stepRecord w d) (stepRecord w e) (λ y. ap (choose (both (leb (at w) y) (ltb y (at w + len w))) (byte w (y - at w))) (h y)) x
+    applied-same ws (stepRecord w d) (stepRecord w e) (λ y. ap (cond (leb (at w) y && ltb y (at w + len w)) (byte w (y - at w))) (h y)) x
 
 record All-taken (size limit : ℕ) (s : State) (ws : List Record) : Type 0 where
   o : ℕ

@@ -1,14 +1,14 @@
 -- A list is applied to its end only where two flushes are past, whatever was fed.
 -- Assumes nothing.
 use mathlib.Core.Path.{_≡_, refl, sym, _∙_}
-use mathlib.Core.Bool.{Bool, true, false, true≢false}
+use mathlib.Core.Bool.{Bool, true, false, true≢false, cond}
 use mathlib.Core.List.{List, [], _∷_}
 use Prim.Native.Nat.{ℕ}
 use native.Mathlib.Omega.{arith}
 use lib.Dec.{ltb, eqb}
 use lib.ListN.{length}
 use borrow.Author.Tests.{eqb-true, eqb-false}
-use Rattle.seqs.specs.Lists.{choose, fold}
+use Rattle.seqs.specs.Lists.{fold}
 use Rattle.list_read.specs.Records.{zerosKind, decodeDef}
 use Rattle.list_read.specs.Flushes.{nextDef, endedDef}
 use Rattle.list_read.proofs.Ending.{cut-end}
@@ -18,7 +18,7 @@ use Rattle.list_apply.specs.Applying.{goesOn, ended, listCut, held, applyingBeg
 use Rattle.list_apply_laws.specs.Turns.{fedAll, Fed, TwoFlushesPast}
 
 -- by a test
-by-test : (b : Bool) (x y : Step) → (b ≡ true → TwoFlushesPast (x .applying)) → (b ≡ false → TwoFlushesPast (y .applying)) → TwoFlushesPast (choose b x y .applying)
+by-test : (b : Bool) (x y : Step) → (b ≡ true → TwoFlushesPast (x .applying)) → (b ≡ false → TwoFlushesPast (y .applying)) → TwoFlushesPast (cond b x y .applying)
 by-test true x y f g = f refl
 by-test false x y f g = g refl
 

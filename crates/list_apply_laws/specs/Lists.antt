@@ -1,13 +1,13 @@
 -- A list's bytes, fed as they are wanted through a buffer of `size` bytes, and what is done for them.
 -- Assumes nothing.
 use mathlib.Core.Path.{_≡_}
-use mathlib.Core.Bool.{true}
+use mathlib.Core.Bool.{true, cond}
 use mathlib.Core.List.{List, [], _∷_, _++_}
 use mathlib.Core.Logic.{_⊎_}
 use Prim.Native.Nat.{ℕ, _≤_}
 use lib.Dec.{eqb}
 use lib.ListN.{length, take, drop}
-use Rattle.seqs.specs.Lists.{choose, turns}
+use Rattle.seqs.specs.Lists.{turns}
 use Rattle.list_records.specs.Records.{Record, WZ, WB, FL, listBytes, carried}
 use Rattle.list_records.specs.Device.{Device, applied}
 use Rattle.list_read.specs.Records.{flush, zerosKind, bytes, headSaid}
@@ -27,17 +27,17 @@ point a rest done = record { applying = a; rest = rest; done = done }
 -- what a step asks for, as records: the bytes are the first of those that were fed
 unfoldable pub asked : Step → List ℕ → List Record
 asked s xs =
-    choose (eqb (s .action) firstDone) (WZ (s .at) (s .len) ∷ FL ∷ [])
-    (choose (eqb (s .action) flush) (FL ∷ [])
-    (choose (eqb (s .action) zerosKind) (WZ (s .at) (s .len) ∷ [])
-    (choose (eqb (s .action) bytes) (WB (s .at) (take (s .len) xs) ∷ []) [])))
+    cond (eqb (s .action) firstDone) (WZ (s .at) (s .len) ∷ FL ∷ [])
+    (cond (eqb (s .action) flush) (FL ∷ [])
+    (cond (eqb (s .action) zerosKind) (WZ (s .at) (s .len) ∷ [])
+    (cond (eqb (s .action) bytes) (WB (s .at) (take (s .len) xs) ∷ []) [])))
 
 -- A turn: the bytes that are wanted are fed. A mark stays where it is until all of its head is wanted.
 unfoldable pub turnOn : ℕ → Point → Point
 turnOn size p =
     let n = applyingWanted (p .applying) size in
     let s = applyingFed (p .applying) (take n (p .rest)) size in
-    point (s .applying) (choose (s .applying .marked) (p .rest) (drop n (p .rest))) (p .done ++ asked s (take n (p .rest)))
+    point (s .applying) (cond (s .applying .marked) (p .rest) (drop n (p .rest))) (p .done ++ asked s (take n (p .rest)))
 
 -- q is reached from p in some turns
 abbrev pub Reach : ℕ → Point → Point → Type 0

@@ -1,7 +1,7 @@
 -- Disks that are handed in one after the other are answered as the call says.
 -- Assumes nothing.
 use mathlib.Core.Path.{_≡_, refl, sym, ap, ap₂, _∙_}
-use mathlib.Core.Bool.{Bool, true, false}
+use mathlib.Core.Bool.{Bool, true, false, cond}
 use mathlib.Core.List.{List, [], _∷_, map}
 use Prim.Native.Nat.{ℕ, suc, _+_, _-_, _<_, _≤_}
 use native.Mathlib.Omega.{arith}
@@ -10,7 +10,6 @@ use lib.Dec.{ltb, eqb}
 use lib.ListN.{length}
 use Rattle.refusals.specs.Numbers.{tooManyDisks}
 use Rattle.arith.specs.Choice.{when}
-use Rattle.seqs.specs.Lists.{choose}
 use Rattle.list_size.specs.declared.ListSize.{ListSize}
 use Rattle.list_size.specs.Sizes.{noSize, inputSize}
 use Rattle.list_cabinet.specs.declared.Cabinet.{Cabinet as State}
@@ -66,7 +65,7 @@ refused-at n area input h =
     let z = ne-eqb n 0 (λ e. omega arith) in
     sym (turned-away (cabinetOpened n area) input tooManyDisks (noSize tooManyDisks) (rw (z, t) refl) (λ e. omega arith) refl)
 
-number-at : (area : ℕ) (disks : List ListSize) (t : Bool) → when t tooManyDisks 0 ≡ choose t (notShared area) (sharedBy area disks) .number
+number-at : (area : ℕ) (disks : List ListSize) (t : Bool) → when t tooManyDisks 0 ≡ cond t (notShared area) (sharedBy area disks) .number
 unfolding when
 number-at area disks true = refl
 number-at area disks false = refl

@@ -1,7 +1,7 @@
 -- What holds of disks that share an area: what each takes, what is left, and which are admitted.
 -- Assumes nothing.
 use mathlib.Core.Path.{_≡_, refl, sym, ap, ap₂, _∙_}
-use mathlib.Core.Bool.{Bool, true, false}
+use mathlib.Core.Bool.{Bool, true, false, cond}
 use mathlib.Core.List.{List, [], _∷_, _++_}
 use Prim.Native.Nat.{ℕ, suc, _+_, _-_, _<_, _≤_}
 use native.Mathlib.Omega.{arith}
@@ -9,7 +9,7 @@ use borrow.Author.Tests.{eq-eqb, ne-eqb, le-leb, lt-leb, leb-true}
 use lib.Dec.{leb, eqb}
 use lib.ListN.{length}
 use Rattle.refusals.specs.Numbers.{areaTooSmall}
-use Rattle.seqs.specs.Lists.{choose, total}
+use Rattle.seqs.specs.Lists.{total}
 use Rattle.list_size.specs.declared.ListSize.{ListSize}
 use Rattle.list_size.specs.Sizes.{noSize}
 use Rattle.list_cabinet.specs.Cabinet.{answerWith, takenBy, answers, leftAfter}
@@ -30,7 +30,7 @@ module _ (left : ℕ) (own : ListSize) where
   no-room z h = rw (eq-eqb (own .number) 0 z, lt-leb (own .bytes) left h) refl
 
   -- it takes no more than is left
-  taken-at : (s t : Bool) → eqb (own .number) 0 ≡ s → leb (own .bytes) left ≡ t → takenBy (choose s (choose t own (noSize areaTooSmall)) own) ≤ left
+  taken-at : (s t : Bool) → eqb (own .number) 0 ≡ s → leb (own .bytes) left ≡ t → takenBy (cond s (cond t own (noSize areaTooSmall)) own) ≤ left
   unfolding takenBy
   taken-at true true e f = rw e (leb-true (own .bytes) left f)
   taken-at true false e f = omega arith
@@ -53,7 +53,7 @@ used left (own ∷ rest) =
     let r = used (left - takenBy (answerWith left own)) rest in
     omega arith
 
-lengths-at : (t : Bool) (bytes : ℕ) (lengths : List ℕ) → choose t bytes 0 + total (λ (n : ℕ). n) lengths ≡ total (λ (n : ℕ). n) (choose t (bytes ∷ lengths) lengths)
+lengths-at : (t : Bool) (bytes : ℕ) (lengths : List ℕ) → cond t bytes 0 + total (λ (n : ℕ). n) lengths ≡ total (λ (n : ℕ). n) (cond t (bytes ∷ lengths) lengths)
 unfolding total
 lengths-at true bytes lengths = refl
 lengths-at false bytes lengths = omega arith
@@ -125,11 +125,11 @@ module _ (area : ℕ) (before : List ListSize) (own : ListSize) where
       }
 
 -- ---- two cabinets
-number-at : (t : Bool) (own : ListSize) → own .number ≡ 0 → choose t own (noSize areaTooSmall) .number ≡ choose t 0 areaTooSmall
+number-at : (t : Bool) (own : ListSize) → own .number ≡ 0 → cond t own (noSize areaTooSmall) .number ≡ cond t 0 areaTooSmall
 number-at true own z = z
 number-at false own z = refl
 
-number-by : (left : ℕ) (own : ListSize) → own .number ≡ 0 → answerWith left own .number ≡ choose (leb (own .bytes) left) 0 areaTooSmall
+number-by : (left : ℕ) (own : ListSize) → own .number ≡ 0 → answerWith left own .number ≡ cond (leb (own .bytes) left) 0 areaTooSmall
 unfolding answerWith
 number-by left own z = rw (eq-eqb (own .number) 0 z) (number-at (leb (own .bytes) left) own z)
 
@@ -140,5 +140,5 @@ by-lengths area before others own other e z w b =
     left-is area before ∙ ap (λ (ns : List ℕ). area - total (λ (n : ℕ). n) ns) e ∙ sym (left-is area others)
     in
     number-by (leftAfter area before) own z
-    ∙ ap₂ (λ (n m : ℕ). choose (leb n m) 0 areaTooSmall) b l
+    ∙ ap₂ (λ (n m : ℕ). cond (leb n m) 0 areaTooSmall) b l
     ∙ sym (number-by (leftAfter area others) other w)

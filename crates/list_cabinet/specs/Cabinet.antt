@@ -1,11 +1,11 @@
 -- One staging area for the lists of a cabinet's disks. A disk stands here for what `list_size` answers it alone.
 -- Assumes nothing.
+use mathlib.Core.Bool.{cond}
 use mathlib.Core.List.{List, [], _∷_, map}
 use Prim.Native.Nat.{ℕ, _-_}
 use lib.Dec.{ltb, leb, eqb}
 use lib.ListN.{length}
 use Rattle.refusals.specs.Numbers.{areaTooSmall, tooManyDisks}
-use Rattle.seqs.specs.Lists.{choose}
 use Rattle.list_size.specs.declared.ListSize.{ListSize}
 use Rattle.list_size.specs.Sizes.{noSize, inputSize}
 
@@ -13,11 +13,11 @@ use Rattle.list_size.specs.Sizes.{noSize, inputSize}
 
 -- one whose own run is refused keeps its number; one whose list is longer than what is left is refused by 40; else its answer is its own
 unfoldable pub answerWith : ℕ → ListSize → ListSize
-answerWith left own = choose (eqb (own .number) 0) (choose (leb (own .bytes) left) own (noSize areaTooSmall)) own
+answerWith left own = cond (eqb (own .number) 0) (cond (leb (own .bytes) left) own (noSize areaTooSmall)) own
 
 -- an admitted disk takes its list's bytes, a refused one nothing
 unfoldable pub takenBy : ListSize → ℕ
-takenBy answer = choose (eqb (answer .number) 0) (answer .bytes) 0
+takenBy answer = cond (eqb (answer .number) 0) (answer .bytes) 0
 
 -- ---- disks in order
 
@@ -53,4 +53,4 @@ sharedBy area disks = record { number = 0; answered = answers area disks; left =
 
 -- THE CALL: more than 16 disks are refused by 41, before everything
 unfoldable pub shared : ℕ → List (List ℕ) → Sharing
-shared area inputs = choose (ltb mostDisks (length inputs)) (notShared area) (sharedBy area (map inputSize inputs))
+shared area inputs = cond (ltb mostDisks (length inputs)) (notShared area) (sharedBy area (map inputSize inputs))

@@ -1,5 +1,6 @@
 -- The state that disks are handed in to, one after the other, and that it answers as the call does.
 -- Assumes nothing.
+use mathlib.Core.Bool.{cond}
 use mathlib.Core.Path.{_≡_}
 use mathlib.Core.List.{List, [], _∷_}
 use Prim.Native.Nat.{ℕ, _-_, _<_, _≤_}
@@ -7,7 +8,6 @@ use lib.Dec.{ltb, eqb}
 use lib.ListN.{length}
 use Rattle.refusals.specs.Numbers.{tooManyDisks}
 use Rattle.arith.specs.Choice.{when}
-use Rattle.seqs.specs.Lists.{choose}
 use Rattle.list_size.specs.declared.ListSize.{ListSize}
 use Rattle.list_size.specs.Sizes.{noSize, inputSize}
 use Rattle.list_cabinet.specs.declared.Cabinet.{Cabinet as State}
@@ -34,7 +34,7 @@ enteredBy c own =
 
 -- the next disk
 unfoldable pub entered : State → List ℕ → Answer
-entered c input = choose (eqb (cabinetNumber c) 0) (enteredBy c (inputSize input)) (answering (noSize (cabinetNumber c)) c)
+entered c input = cond (eqb (cabinetNumber c) 0) (enteredBy c (inputSize input)) (answering (noSize (cabinetNumber c)) c)
 
 -- ---- all disks, one after the other
 

@@ -1,12 +1,13 @@
 -- What holds of disks that share an area.
 -- Assumes nothing.
+use mathlib.Core.Bool.{cond}
 use mathlib.Core.Path.{_≡_}
 use mathlib.Core.List.{List, [], _∷_, _++_}
 use Prim.Native.Nat.{ℕ, _+_, _-_, _<_, _≤_}
 use lib.Dec.{eqb}
 use lib.ListN.{length}
 use Rattle.refusals.specs.Numbers.{areaTooSmall}
-use Rattle.seqs.specs.Lists.{choose, total}
+use Rattle.seqs.specs.Lists.{total}
 use Rattle.list_size.specs.declared.ListSize.{ListSize}
 use Rattle.list_size.specs.Sizes.{noSize}
 use Rattle.list_cabinet.specs.Cabinet.{answerWith, answers, leftAfter}
@@ -14,7 +15,7 @@ use Rattle.list_cabinet.specs.Cabinet.{answerWith, answers, leftAfter}
 -- of answers: the lengths of the admitted disks' lists, in order
 unfoldable pub admittedLengths : List ListSize → List ℕ
 admittedLengths [] = []
-admittedLengths (a ∷ rest) = choose (eqb (a .number) 0) (a .bytes ∷ admittedLengths rest) (admittedLengths rest)
+admittedLengths (a ∷ rest) = cond (eqb (a .number) 0) (a .bytes ∷ admittedLengths rest) (admittedLengths rest)
 
 -- and their bytes together
 abbrev pub admittedBytes : List ListSize → ℕ

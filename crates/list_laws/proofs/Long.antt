@@ -1,7 +1,7 @@
 -- Each chunk of a sound run's list has the length that `chunk_length` answers.
 -- Assumes nothing.
 use mathlib.Core.Path.{_≡_, refl}
-use mathlib.Core.Bool.{Bool, true, false}
+use mathlib.Core.Bool.{Bool, true, false, cond}
 use mathlib.Core.List.{[], _∷_}
 use Prim.Native.Nat.{ℕ, _+_, _*_, _-_, _<_}
 use native.Mathlib.Omega.{arith}
@@ -10,7 +10,6 @@ use borrow.Author.Tests.{eqb-false, leb-true}
 use lib.Dec.{leb, eqb}
 use lib.ListN.{length}
 use Rattle.arith.specs.Choice.{when}
-use Rattle.seqs.specs.Lists.{choose}
 use Rattle.geometry_layout.specs.Places.{byteOf}
 use Rattle.geometry_places.specs.Answers.{rootChunk}
 use Rattle.chunk.specs.Chunk.{chunkBytes}
@@ -55,7 +54,7 @@ module _ (run : Run) (device : ℕ) (s : SoundRun run device) where
       omega (arith, bytes-total bs (closing run) whole, closing-total 18 (18 + bs) 2 run)
 
   long-at : (k : ℕ) (a b c : Bool) → eqb k 0 ≡ a → leb k groups ≡ b
-      → length (listBytes (choose a (opening run device) (choose b (headRecords run (k - 1)) (choose c (chunkRecords run) (closing run)))))
+      → length (listBytes (cond a (opening run device) (cond b (headRecords run (k - 1)) (cond c (chunkRecords run) (closing run)))))
       ≡ when a (3 * 18 + blocksLength bs 1) (when b (blocksLength bs (headBlocks (run .geometry))) (when c (blocksLength bs (chunkBlocks (run .geometry))) (2 + blocksLength bs (headerBlocks (run .geometry)) + 2)))
   unfolding when
   long-at k true b c e f = opening-long

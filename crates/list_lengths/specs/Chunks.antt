@@ -1,12 +1,12 @@
 -- What is answered about the chunks of a run's list: how many there are, how many bytes each has and the part that it is split from, and
 -- the numbers of a refusal.
 -- Assumes nothing.
+use mathlib.Core.Bool.{cond}
 use Prim.Native.Nat.{ℕ}
 use lib.Dec.{leb, eqb}
 use Rattle.refusals.specs.Numbers.{wrongLength, noPlace}
 use Rattle.arith.specs.Choice.{when}
 use Rattle.structs.specs.Written.{require}
-use Rattle.seqs.specs.Lists.{choose}
 use Rattle.geometry.specs.declared.Geometry.{Geometry}
 use Rattle.plan_totals.specs.Totals.{plansNumber}
 use Rattle.run.specs.declared.Run.{Run}
@@ -49,7 +49,7 @@ writeNumber run k len work =
 
 -- the count where the number is 0, else the refusal
 abbrev pub countedAs : ℕ → ℕ → Counted
-countedAs n v = choose (eqb n 0) (record { number = 0; value = v }) (record { number = n; value = 0 })
+countedAs n v = cond (eqb n 0) (record { number = 0; value = v }) (record { number = n; value = 0 })
 
 -- `chunk_count`, `chunk_length` and `part_length`
 unfoldable pub countAnswer : Run → Counted

@@ -1,7 +1,7 @@
 -- What is read is what was written: bytes that are read as a whole list are the bytes of its records.
 -- Assumes nothing.
 use mathlib.Core.Path.{_≡_, refl, ap, ap₂, sym, _∙_}
-use mathlib.Core.Bool.{Bool, true, false, true≢false}
+use mathlib.Core.Bool.{Bool, true, false, true≢false, cond, _&&_}
 use mathlib.Core.List.{List, [], _∷_, _++_, append-assoc}
 use mathlib.Core.Logic.{_↔_}
 use Prim.Native.Nat.{ℕ, zero, suc, _+_, _*_, _/_, _%_, _≤_, _<_, _^_}
@@ -15,7 +15,6 @@ use Rattle.endian.specs.Bytes.{beAt, beBytes}
 use Rattle.endian.specs.Fields.{part}
 use Rattle.endian.proofs.Laws.{at-more, at-bound}
 use Rattle.endian.proofs.Widths.{be-last}
-use Rattle.seqs.specs.Lists.{both, choose}
 use Rattle.list_records.specs.Records.{Record, WZ, WB, FL, recordBytes, listBytes}
 use Rattle.list_read.specs.declared.Decoded.{Decoded}
 use Rattle.list_read.specs.Records.{flushMark, zerosMark, bytesMark, flush, zerosKind, bytes, head, headRefused, writeHead, decodeDef, headSaid, RecordFits}
@@ -113,7 +112,7 @@ module _ (xs : List ℕ) (o : Octets xs) where
 
   abbrev byTests : Bool → Bool → Bool → Bool → Bool → Decoded
   byTests a l f z b =
-      choose a (choose f (head flush 0 0 2) (choose z (choose l (head zerosKind offset size 18) headRefused) (choose b (choose l (head bytes offset size 18) headRefused) headRefused))) headRefused
+      cond a (cond f (head flush 0 0 2) (cond z (cond l (head zerosKind offset size 18) headRefused) (cond b (cond l (head bytes offset size 18) headRefused) headRefused))) headRefused
 
   read-by : (a l f z b : Bool) → leb 2 (length xs) ≡ a → leb 18 (length xs) ≡ l → eqb mark flushMark ≡ f → eqb mark zerosMark ≡ z → eqb mark bytesMark ≡ b
       → byTests a l f z b .number ≡ 0 → own (byTests a l f z b) ≤ length (drop (byTests a l f z b .size) xs) → Read (byTests a l f z b)
@@ -136,7 +135,7 @@ record Written (n : ℕ) (xs : List ℕ) (ws : List Record) : Type 0 where
   rule : ruled n ws ≡ 0
   back : listBytes ws ≡ xs
 
-all-three : (a b c : Bool) → both a (both b c) ≡ true → (a ≡ true) × ((b ≡ true) × (c ≡ true))
+all-three : (a b c : Bool) → (a && (b && c)) ≡ true → (a ≡ true) × ((b ≡ true) × (c ≡ true))
 all-three true true true e = (refl, (refl, refl))
 all-three true true false e = absurd (true≢false (sym e))
 all-three true false c e = absurd (true≢false (sym e))
@@ -156,8 +155,8 @@ module _ (most n : ℕ) (xs : List ℕ) (o : Octets xs)
 
   abbrev byCase : Bool → Bool → ListRead
   byCase a b =
-      choose a (readStopped (endedDef n))
-      (choose b (readBefore (recordOf d (drop (d .size) xs)) (readFrom most (nextDef n (d .kind) .flushes) rest)) (readStopped malformed))
+      cond a (readStopped (endedDef n))
+      (cond b (readBefore (recordOf d (drop (d .size) xs)) (readFrom most (nextDef n (d .kind) .flushes) rest)) (readStopped malformed))
 
   octets-rest : Octets rest
   octets-rest i = rw (getD-drop (own d) (drop (d .size) xs) i 0, getD-drop (d .size) xs (own d + i) 0) (o (d .size + (own d + i)))
@@ -166,7 +165,7 @@ module _ (most n : ℕ) (xs : List ℕ) (o : Octets xs)
   unfolding ruled
   rule-on w ws e z r = rw (e, z) r
 
-  from-case : (a b : Bool) → eqb (length xs) 0 ≡ a → both (eqb (d .number) 0) (both (eqb (nextDef n (d .kind) .number) 0) (leb (own d) (length (drop (d .size) xs)))) ≡ b
+  from-case : (a b : Bool) → eqb (length xs) 0 ≡ a → (eqb (d .number) 0 && (eqb (nextDef n (d .kind) .number) 0 && leb (own d) (length (drop (d .size) xs)))) ≡ b
       → byCase a b .number ≡ 0 → Written n xs (byCase a b .records)
   unfolding ruled listBytes
   from-case true b p q e = record { fit = tt; rule = e; back = empty-is xs (eqb-true (length xs) 0 p) }

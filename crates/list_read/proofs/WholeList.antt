@@ -1,7 +1,7 @@
 -- A list that was written is read back whole from its bytes, and any proper prefix of these is refused.
 -- Assumes nothing.
 use mathlib.Core.Path.{_≡_, refl, ap, ap₂, sym, _∙_}
-use mathlib.Core.Bool.{Bool, true, false}
+use mathlib.Core.Bool.{Bool, true, false, cond, _&&_}
 use mathlib.Core.List.{List, [], _∷_, _++_}
 use Prim.Native.Nat.{ℕ, zero, suc, _+_, _-_, _≤_, _<_}
 use native.Mathlib.Omega.{arith}
@@ -10,7 +10,6 @@ use lib.ListN.{length, take, drop, length-append}
 use lib.Seq.{length-take-le, take-append-add}
 use borrow.Author.Tests.{le-leb, lt-leb, ne-eqb, eqb-true, eqb-false, ltb-true, ltb-false}
 use Rattle.refusals.specs.Numbers.{malformed}
-use Rattle.seqs.specs.Lists.{both, choose}
 use Rattle.list_records.specs.Records.{Record, WZ, WB, FL, byKind, recordBytes, listBytes}
 use Rattle.list_records.proofs.Sizes.{zeros-bytes, block-bytes, flush-bytes}
 use Rattle.list_read.specs.declared.Decoded.{Decoded}
@@ -113,7 +112,7 @@ unfolding readFrom
 no-head most n xs l e = rw (ne-eqb (length xs) 0 l, ← e) refl
 
 -- a record whose bytes aren't all here
-never : (a b : Bool) (r : ListRead) → choose (both a (both b false)) r (readStopped malformed) ≡ readStopped malformed
+never : (a b : Bool) (r : ListRead) → cond (a && (b && false)) r (readStopped malformed) ≡ readStopped malformed
 never true true r = refl
 never true false r = refl
 never false b r = refl

@@ -1,13 +1,12 @@
 -- A list of written records, read from its start: the head of a record, by its mark, and the bytes behind it.
 -- Assumes nothing.
 use mathlib.Core.List.{List, []}
-use mathlib.Core.Bool.{Bool}
+use mathlib.Core.Bool.{Bool, cond}
 use Prim.Native.Nat.{ℕ, _+_, _^_, _<_}
 use lib.Dec.{leb, eqb}
 use lib.ListN.{length}
 use Rattle.refusals.specs.Numbers.{malformed}
 use Rattle.endian.specs.Bytes.{beAt}
-use Rattle.seqs.specs.Lists.{choose}
 use Rattle.list_records.specs.Records.{Record, WZ, WB, FL}
 use Rattle.list_read.specs.declared.Decoded.{Decoded}
 
@@ -48,22 +47,22 @@ headRefused = record { number = malformed; kind = 0; at = 0; len = 0; size = 0 }
 
 -- too few bytes for a head: malformed where the list ends with them
 abbrev pub headCut : Bool → Decoded
-headCut last = choose last headRefused headIncomplete
+headCut last = cond last headRefused headIncomplete
 
 -- a write's head: the mark, the offset and the length in 8 bytes each
 unfoldable pub writeHead : Bool → ℕ → List ℕ → Decoded
-writeHead last kind xs = choose (leb 18 (length xs)) (head kind (beAt 8 2 xs) (beAt 8 10 xs) 18) (headCut last)
+writeHead last kind xs = cond (leb 18 (length xs)) (head kind (beAt 8 2 xs) (beAt 8 10 xs) 18) (headCut last)
 
 -- by the mark; an unknown one is malformed
 abbrev pub headByMark : ℕ → Bool → List ℕ → Decoded
 headByMark mark last xs =
-    choose (eqb mark flushMark) (head flush 0 0 2)
-    (choose (eqb mark zerosMark) (writeHead last zerosKind xs)
-    (choose (eqb mark bytesMark) (writeHead last bytes xs) headRefused))
+    cond (eqb mark flushMark) (head flush 0 0 2)
+    (cond (eqb mark zerosMark) (writeHead last zerosKind xs)
+    (cond (eqb mark bytesMark) (writeHead last bytes xs) headRefused))
 
 -- The head that the bytes begin with; `last` where the list ends with them.
 unfoldable pub decodeDef : Bool → List ℕ → Decoded
-decodeDef last xs = choose (leb 2 (length xs)) (headByMark (beAt 2 0 xs) last xs) (headCut last)
+decodeDef last xs = cond (leb 2 (length xs)) (headByMark (beAt 2 0 xs) last xs) (headCut last)
 
 -- ---- where a write ends
 

@@ -2,12 +2,11 @@
 -- Assumes nothing.
 use mathlib.Core.Path.{_≡_}
 use mathlib.Core.List.{List, [], _∷_, _++_}
-use mathlib.Core.Bool.{true}
+use mathlib.Core.Bool.{true, cond, _&&_}
 use Prim.Native.Nat.{ℕ, zero, suc}
 use lib.Dec.{leb, eqb}
 use lib.ListN.{length, take, drop}
 use Rattle.refusals.specs.Numbers.{malformed}
-use Rattle.seqs.specs.Lists.{both, choose}
 use Rattle.list_records.specs.Records.{Record, WZ, WB, FL, All}
 use Rattle.list_read.specs.declared.Decoded.{Decoded}
 use Rattle.list_read.specs.Records.{flush, zerosKind, decodeDef, RecordFits}
@@ -15,11 +14,11 @@ use Rattle.list_read.specs.Flushes.{nextDef, endedDef}
 
 -- the record with this head, whose bytes `xs` begins with
 unfoldable pub recordOf : Decoded → List ℕ → Record
-recordOf d xs = choose (eqb (d .kind) flush) FL (choose (eqb (d .kind) zerosKind) (WZ (d .at) (d .len)) (WB (d .at) (take (d .len) xs)))
+recordOf d xs = cond (eqb (d .kind) flush) FL (cond (eqb (d .kind) zerosKind) (WZ (d .at) (d .len)) (WB (d .at) (take (d .len) xs)))
 
 -- how many bytes behind its head are its own
 unfoldable pub own : Decoded → ℕ
-own d = choose (eqb (d .kind) flush) 0 (choose (eqb (d .kind) zerosKind) 0 (d .len))
+own d = cond (eqb (d .kind) flush) 0 (cond (eqb (d .kind) zerosKind) 0 (d .len))
 
 -- 0 for a whole list, 28 for another; and the records before its end, or before the first that is refused
 pub record ListRead : Type 0 where
@@ -43,8 +42,8 @@ readFrom (suc most) n xs =
     let d = decodeDef true xs in
     let p = nextDef n (d .kind) in
     let behind = drop (d .size) xs in
-    choose (eqb (length xs) 0) (readStopped (endedDef n))
-    (choose (both (eqb (d .number) 0) (both (eqb (p .number) 0) (leb (own d) (length behind))))
+    cond (eqb (length xs) 0) (readStopped (endedDef n))
+    (cond (eqb (d .number) 0 && (eqb (p .number) 0 && leb (own d) (length behind)))
     (readBefore (recordOf d behind) (readFrom most (p .flushes) (drop (own d) behind)))
     (readStopped malformed))
 

@@ -1,7 +1,7 @@
 -- What records leave on a device: the last one that covers a byte decides it.
 -- Assumes nothing.
 use mathlib.Core.Path.{_≡_, refl, sym, ap, fun-ext, _∙_}
-use mathlib.Core.Bool.{Bool, true, false}
+use mathlib.Core.Bool.{Bool, true, false, cond, _&&_}
 use mathlib.Core.List.{List, [], _∷_, _++_}
 use Prim.Native.Nat.{ℕ, zero, suc, _+_, _-_, _*_, _≤_, _<_}
 use native.Mathlib.Omega.{arith}
@@ -10,14 +10,13 @@ use borrow.Author.Tests.{leb-true, ltb-true, le-leb, lt-ltb}
 use lib.Dec.{leb, ltb}
 use lib.ListN.{length, take, drop, getD, replicate, length-replicate, getD-replicate, length-take, length-drop}
 use lib.Seq.{length-take-le, take-add, getD-take, getD-drop}
-use Rattle.seqs.specs.Lists.{choose, both}
 use Rattle.list_records.specs.Records.{Record, WZ, WB, All, blockRecords}
 use Rattle.list_records.specs.Device.{Device, at, len, byte, stepRecord, applied, read, Misses, InsideDevice, Rising}
 use Rattle.list_records.proofs.Reading.{getD-read, read-is, read-same, read-append}
 
 -- ---- one record
 
-hit : (s t : Bool) (u v : ℕ) → s ≡ true → t ≡ true → choose (both s t) u v ≡ u
+hit : (s t : Bool) (u v : ℕ) → s ≡ true → t ≡ true → cond (s && t) u v ≡ u
 hit true true u v p q = refl
 hit true false u v p q = let z : _≡_ {A = ℕ} 0 1 = cc in absurd (omega arith)
 hit false t u v p q = let z : _≡_ {A = ℕ} 0 1 = cc in absurd (omega arith)
@@ -26,7 +25,7 @@ pub step-hit : (r : Record) (d : Device) (x : ℕ) → at r ≤ x → x < at r +
 unfolding stepRecord
 step-hit r d x h k = hit (leb (at r) x) (ltb x (at r + len r)) (byte r (x - at r)) (d x) (le-leb (at r) x h) (lt-ltb x (at r + len r) k)
 
-same : (s t : Bool) (u v : ℕ) → (s ≡ true → t ≡ true → u ≡ v) → choose (both s t) u v ≡ v
+same : (s t : Bool) (u v : ℕ) → (s ≡ true → t ≡ true → u ≡ v) → cond (s && t) u v ≡ v
 same true true u v f = f refl refl
 same true false u v f = refl
 same false t u v f = refl

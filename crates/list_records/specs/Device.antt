@@ -1,11 +1,11 @@
 -- A device, and written records applied to whatever stood on it.
 -- Assumes nothing.
+use mathlib.Core.Bool.{cond, _&&_}
 use mathlib.Core.Path.{_≡_}
 use mathlib.Core.List.{List, [], _∷_}
 use Prim.Native.Nat.{ℕ, zero, suc, _+_, _-_, _%_, _≤_, _<_}
 use lib.Dec.{leb, ltb}
 use lib.ListN.{length, getD}
-use Rattle.seqs.specs.Lists.{choose, both}
 use Rattle.list_records.specs.Records.{Record, WZ, WB, FL}
 
 -- the byte at each offset
@@ -31,7 +31,7 @@ byte FL i = 0
 
 -- one record applied: it decides each offset that it covers, elsewhere the device stays
 unfoldable pub stepRecord : Record → Device → Device
-stepRecord r d x = choose (both (leb (at r) x) (ltb x (at r + len r))) (byte r (x - at r)) (d x)
+stepRecord r d x = cond (leb (at r) x && ltb x (at r + len r)) (byte r (x - at r)) (d x)
 
 -- all of a list, in order
 unfoldable pub applied : List Record → Device → Device

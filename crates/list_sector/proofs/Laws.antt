@@ -7,7 +7,6 @@ use Prim.Native.Nat.{ℕ, _+_, _≤_, _<_}
 use lib.Dec.{leb, ltb, eqb}
 use lib.ListN.{length}
 use borrow.Author.Tests.{lt-leb, le-leb, lt-ltb, le-ltb}
-use Rattle.seqs.specs.Lists.{choose}
 use Rattle.endian.specs.Bytes.{beAt}
 use Rattle.list_sector.specs.Sector.{blockIn, beginsSuperblock, sectorBehind, sectorIn, belowLogical}
 

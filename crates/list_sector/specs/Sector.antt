@@ -1,12 +1,11 @@
 -- The sector size that a list of written records says in its first bytes, before anything of it is applied. A run's list begins with three
 -- records of zeros, 18 bytes each, and the log's first block; then comes group 0's first block, which begins with the superblock.
 -- Assumes nothing.
-use mathlib.Core.Bool.{Bool, _&&_}
+use mathlib.Core.Bool.{Bool, _&&_, cond}
 use mathlib.Core.List.{List}
 use Prim.Native.Nat.{ℕ, _+_, _*_}
 use lib.Dec.{leb, ltb, eqb}
 use lib.ListN.{length}
-use Rattle.seqs.specs.Lists.{choose}
 use Rattle.endian.specs.Bytes.{beAt}
 
 -- the mark WB
@@ -28,11 +27,11 @@ beginsSuperblock n xs =
 
 -- sb_sectsize of that superblock, 102 bytes behind its start; 0 where it isn't there
 unfoldable pub sectorBehind : ℕ → List ℕ → ℕ
-sectorBehind n xs = choose (leb n 16384 && leb (194 + n) (length xs)) (choose (beginsSuperblock n xs) (beAt 2 (192 + n) xs) 0) 0
+sectorBehind n xs = cond (leb n 16384 && leb (194 + n) (length xs)) (cond (beginsSuperblock n xs) (beAt 2 (192 + n) xs) 0) 0
 
 -- the sector size that the bytes say, 0 where they say none
 unfoldable pub sectorIn : List ℕ → ℕ
-sectorIn xs = choose (ltb (length xs) 194) 0 (sectorBehind (blockIn xs) xs)
+sectorIn xs = cond (ltb (length xs) 194) 0 (sectorBehind (blockIn xs) xs)
 
 -- so many bytes of any list have it: three heads of 18 bytes, the log's record with the largest block, the head of the next, and 104 bytes
 -- of the superblock

@@ -1,14 +1,13 @@
 -- Sending a run's list turn by turn: what comes next, what a turn answers, and what all turns have handed out.
 -- Assumes nothing.
+use mathlib.Core.Bool.{cond}
 use mathlib.Core.Path.{_≡_}
 use mathlib.Core.List.{List, [], _++_}
 use Prim.Native.Nat.{ℕ, zero, suc, _-_, _≤_, max}
 use lib.Dec.{leb, eqb}
 use lib.ListN.{length, take}
 use Rattle.refusals.specs.Numbers.{wrongLength, noPlace}
-use Rattle.endian.specs.Answer.{chosen}
 use Rattle.endian.specs.Bytes.{patch}
-use Rattle.seqs.specs.Lists.{choose}
 use Rattle.structs.specs.Written.{require}
 use Rattle.request.specs.Parse.{parseDef}
 use Rattle.run.specs.declared.Run.{Run}
@@ -31,7 +30,7 @@ sending run device count left = record { run = run; device = device; count = cou
 unfoldable pub sendingBegun : List ℕ → State
 sendingBegun xs =
     let run = accepted xs in
-    let n = choose (eqb (run .number) 0) (countAnswer run .value) 0 in
+    let n = cond (eqb (run .number) 0) (countAnswer run .value) 0 in
     sending run (parseDef xs .device) n n
 
 -- the number of the chunk that comes next
@@ -54,8 +53,8 @@ sendingRefused n = record { number = n; value = 0 }
 -- how many there are: the run's number comes first, then 29 where all are sent
 unfoldable pub sendingWanted : State → Counted
 sendingWanted s =
-    choose (eqb (s .run .number) 0)
-    (choose (eqb (s .left) 0) (sendingRefused noPlace) (lengthAnswer (s .run) (nextChunk s)))
+    cond (eqb (s .run .number) 0)
+    (cond (eqb (s .left) 0) (sendingRefused noPlace) (lengthAnswer (s .run) (nextChunk s)))
     (sendingRefused (s .run .number))
 
 -- as many as the first head and the root chunk have, whichever has more
@@ -77,15 +76,15 @@ unsent s n = record { number = n; length = 0; sending = s }
 unfoldable pub sentDef : State → ℕ → ℕ → Sent
 sentDef s work len =
     let n = sendNumber s work len in
-    choose (eqb n 0) (record { number = 0; length = sendingWanted s .value; sending = sendingStepped s }) (unsent s n)
+    cond (eqb n 0) (record { number = 0; length = sendingWanted s .value; sending = sendingStepped s }) (unsent s n)
 
 -- and leaves in a buffer that held xs: the chunk at its start, or what stood there
 abbrev pub bufferAfter : State → ℕ → List ℕ → List ℕ
-bufferAfter s work xs = chosen (eqb (sendNumber s work (length xs)) 0) (patch 0 (chunkPiece s) xs) xs
+bufferAfter s work xs = cond (eqb (sendNumber s work (length xs)) 0) (patch 0 (chunkPiece s) xs) xs
 
 -- and in a work buffer that held ws: the part that the chunk is split from
 abbrev pub workAfter : State → ℕ → List ℕ → List ℕ
-workAfter s len ws = chosen (eqb (sendNumber s (length ws) len) 0) (patch 0 (partBytes (s .run) (nextChunk s)) ws) ws
+workAfter s len ws = cond (eqb (sendNumber s (length ws) len) 0) (patch 0 (partBytes (s .run) (nextChunk s)) ws) ws
 
 -- All of a turn: what it answers, and what it leaves in both buffers. The bytes that it hands out lie inside the buffer.
 pub record Turn (s : State) (r : Sent) (work buf workLeft left : List ℕ) : Type 0 where

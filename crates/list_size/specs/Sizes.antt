@@ -1,10 +1,10 @@
 -- How much a run sends: the records of its list, their bytes in all, and how many of these are payload of `WB`.
 -- Assumes nothing.
+use mathlib.Core.Bool.{cond}
 use mathlib.Core.List.{List}
 use Prim.Native.Nat.{ℕ}
 use lib.Dec.{eqb}
 use lib.ListN.{length}
-use Rattle.seqs.specs.Lists.{choose}
 use Rattle.request.specs.Parse.{parseDef}
 use Rattle.run.specs.declared.Run.{Run}
 use Rattle.run.specs.Runs.{accepted}
@@ -22,7 +22,7 @@ noSize n = record { number = n; records = 0; bytes = 0; payload = 0 }
 
 -- of a run on a device of so many bytes: that of its list, or its refusal
 unfoldable pub runSize : Run → ℕ → ListSize
-runSize run device = choose (eqb (run .number) 0) (sizeOf (listOf run device)) (noSize (run .number))
+runSize run device = cond (eqb (run .number) 0) (sizeOf (listOf run device)) (noSize (run .number))
 
 -- of the run that input records ask for
 unfoldable pub inputSize : List ℕ → ListSize

@@ -1,7 +1,7 @@
 -- Where the plans are accepted, each group's is.
 -- Assumes nothing.
 use mathlib.Core.Path.{_≡_, refl, ap, _∙_}
-use mathlib.Core.Bool.{Bool, true, false}
+use mathlib.Core.Bool.{Bool, true, false, cond}
 use Prim.Native.Nat.{ℕ, zero, suc, _<_}
 use native.Mathlib.Omega.{arith}
 use borrow.Author.Tests.{eqb-true, eqb-false}
@@ -9,13 +9,12 @@ use lib.Dec.{eqb}
 use lib.ListN.{length}
 use Rattle.geometry.specs.declared.Geometry.{Geometry}
 use Rattle.plan.specs.Plan.{planned}
-use Rattle.seqs.specs.Lists.{choose}
 use Rattle.plan_totals.specs.Totals.{firstTo, plansNumber}
 use Rattle.plan_totals.proofs.Whole.{all-planned}
 
 -- where the first number that isn't 0 is 0, all are
 module _ (f : ℕ → ℕ) where
-  both-zero : (n a : ℕ) (t : Bool) → eqb a 0 ≡ t → choose t (f n) a ≡ 0 → (a ≡ 0) × (f n ≡ 0)
+  both-zero : (n a : ℕ) (t : Bool) → eqb a 0 ≡ t → cond t (f n) a ≡ 0 → (a ≡ 0) × (f n ≡ 0)
   both-zero n a true e z = (eqb-true a 0 e, z)
   both-zero n a false e z = let o = eqb-false a 0 e z in omega arith
 

@@ -1,12 +1,11 @@
 -- The whole list of an accepted run on a device of so many bytes, in the order of the Rust's format.
 -- Assumes nothing.
-use mathlib.Core.Bool.{true, false}
+use mathlib.Core.Bool.{true, false, cond}
 use mathlib.Core.List.{List, [], _∷_, _++_}
 use Prim.Native.Nat.{ℕ, zero, suc, _+_, _*_, _-_, _/_, _^_, min}
 use lib.Dec.{ltb, leb, eqb}
 use lib.ListN.{length}
 use Rattle.arith.specs.Choice.{when}
-use Rattle.seqs.specs.Lists.{choose}
 use Rattle.geometry.specs.declared.Geometry.{Geometry}
 use Rattle.geometry.specs.Log.{headerOf, preallocOf}
 use Rattle.geometry_layout.specs.Places.{chunkOf, lsunitBytes, logsunitOf, byteOf}
@@ -119,9 +118,9 @@ chunkCount run = run .geometry .agcount + 3
 
 unfoldable pub listChunk : Run → ℕ → ℕ → List Record
 listChunk run device k =
-    choose (eqb k 0) (opening run device)
-    (choose (leb k (run .geometry .agcount)) (headRecords run (k - 1))
-    (choose (eqb k (run .geometry .agcount + 1)) (chunkRecords run) (closing run)))
+    cond (eqb k 0) (opening run device)
+    (cond (leb k (run .geometry .agcount)) (headRecords run (k - 1))
+    (cond (eqb k (run .geometry .agcount + 1)) (chunkRecords run) (closing run)))
 
 -- the first n chunks, one after the other
 unfoldable pub chunksTo : Run → ℕ → ℕ → List Record
@@ -146,4 +145,4 @@ listLength g = 3 * 18 + 2 * 2 + blockCount g * (18 + g .blocksize)
 
 -- in group k's head: group 0's has the finished superblock
 unfoldable pub headLeft : Geometry → List ℕ → ℕ → List ℕ
-headLeft g uuid k = choose (eqb k 0) (headFinished g uuid) (headWritten g uuid k)
+headLeft g uuid k = cond (eqb k 0) (headFinished g uuid) (headWritten g uuid k)

@@ -1,10 +1,10 @@
 -- A run's list written chunk by chunk: the bytes that each chunk is split from, and the code's parts.
 -- Assumes nothing.
+use mathlib.Core.Bool.{cond}
 use mathlib.Core.List.{List, _++_}
 use Prim.Native.Nat.{ℕ, _+_, _-_, min}
 use lib.Dec.{leb, eqb}
 use Rattle.endian.specs.Bytes.{beBytes}
-use Rattle.seqs.specs.Lists.{choose}
 use Rattle.run.specs.declared.Run.{Run}
 use Rattle.list_records.specs.Records.{WZ, recordBytes}
 use Rattle.geometry_places.specs.Answers.{rootChunk}
@@ -14,9 +14,9 @@ use Rattle.list_spec.specs.Listing.{whackSize, blocksEnd, tailStart, logBlock, 
 -- the part that chunk k is split from: the log's first block, a head, the root chunk, and the head of group 0 with the finished superblock
 unfoldable pub partBytes : Run → ℕ → List ℕ
 partBytes run k =
-    choose (eqb k 0) (logBlock (run .geometry) (run .uuid))
-    (choose (leb k (run .geometry .agcount)) (headWritten (run .geometry) (run .uuid) (k - 1))
-    (choose (eqb k (run .geometry .agcount + 1))
+    cond (eqb k 0) (logBlock (run .geometry) (run .uuid))
+    (cond (leb k (run .geometry .agcount)) (headWritten (run .geometry) (run .uuid) (k - 1))
+    (cond (eqb k (run .geometry .agcount + 1))
     (chunkBytes (run .geometry) (rootChunk (run .geometry)) (run .uuid) (run .time) (run .seed))
     (headFinished (run .geometry) (run .uuid))))
 

@@ -2,7 +2,7 @@
 -- xfs_unmount_log_format`.
 -- Assumes nothing.
 use mathlib.Core.List.{List, [], _∷_, _++_}
-use mathlib.Core.Bool.{Bool, true, false}
+use mathlib.Core.Bool.{Bool, true, false, cond}
 use Prim.Native.Nat.{ℕ, zero, suc, _+_, _*_, _-_, _/_, _^_, max}
 use lib.Dec.{leb, eqb}
 use lib.ListN.{replicate}
@@ -41,13 +41,8 @@ clientLog = 0xaa
 abbrev pub unmountTrans : ℕ
 unmountTrans = 0x20
 
--- a log stripe unit of 1 stands for the log's sector size
-abbrev pub byTest : Bool → ℕ → ℕ → ℕ
-byTest true a b = a
-byTest false a b = b
-
 unfoldable pub clearSunit : ℕ → ℕ → ℕ
-clearSunit logsunit logsectsize = byTest (eqb logsunit 1) logsectsize logsunit
+clearSunit logsunit logsectsize = cond (eqb logsunit 1) logsectsize logsunit
 
 -- a log sequence number has the cycle in its high 32 bits and the basic block in its low ones
 unfoldable pub lsnOf : ℕ → ℕ → ℕ

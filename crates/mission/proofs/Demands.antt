@@ -1,13 +1,13 @@
 -- DEMANDS 1 TO 3 ARE MET: each sentence by the theorem that has it.
 -- Assumes nothing.
 use mathlib.Core.Path.{_≡_, refl, sym, ap, _∙_}
-use mathlib.Core.Bool.{Bool, true, false}
+use mathlib.Core.Bool.{Bool, true, false, cond}
 use mathlib.Core.List.{List}
 use Prim.Native.Nat.{ℕ, _+_}
 use lib.Dec.{eqb, lit<}
 use lib.ListN.{length}
 use borrow.Author.Tests.{eqb-true}
-use Rattle.endian.specs.Answer.{room, answer, chosen}
+use Rattle.endian.specs.Answer.{room, answer}
 use Rattle.endian.specs.Bytes.{patch}
 use Rattle.endian.specs.Fields.{writeFields, table, tableFits}
 use Rattle.crc.proofs.Laws.{length-stamped, stamped-verifies}
@@ -53,12 +53,12 @@ use Rattle.mission.proofs.Totals.{used-once, all-totals}
 
 -- ---- a refused call changes nothing
 
-kept : (t : Bool) (n r : ℕ) (new old left : List ℕ) → eqb n 0 ≡ t → r ≡ n → left ≡ chosen t new old → (r ≡ 0 → ⊥) → left ≡ old
+kept : (t : Bool) (n r : ℕ) (new old left : List ℕ) → eqb n 0 ≡ t → r ≡ n → left ≡ cond t new old → (r ≡ 0 → ⊥) → left ≡ old
 kept true n r new old left e a b q = absurd (q (a ∙ eqb-true n 0 e))
 kept false n r new old left e a b q = b
 
 -- a test of the length and its number choose alike
-same-choice : (t : Bool) (new old : List ℕ) → chosen t new old ≡ chosen (eqb (answer t) 0) new old
+same-choice : (t : Bool) (new old : List ℕ) → cond t new old ≡ cond (eqb (answer t) 0) new old
 same-choice true new old = refl
 same-choice false new old = refl
 

@@ -20,7 +20,7 @@
 -- Assumes nothing.
 pub mod Words
 use mathlib.Core.Path.{_≡_}
-use mathlib.Core.Bool.{Bool, true, false}
+use mathlib.Core.Bool.{Bool, true, false, _&&_}
 use mathlib.Core.List.{List, [], _∷_, _++_}
 use mathlib.Core.Logic.{_↔_}
 use Prim.Native.Nat.{ℕ, _+_, _*_, _-_, _<_, _≤_}
@@ -59,8 +59,7 @@ pub record Demand1 : Type 0 where
   pub no-stranger : (g : Geometry) → TypedGeometry g → (isAnswer g ≡ true) ↔ AskedFor g
   -- Planning a group answers 0 or 25: 25 exactly in the log's group, where fewer blocks are free than the free list takes.
   pub refused-plans : (g : Geometry) → Answered g → (k : ℕ) → k < g .agcount
-      → planned g k .number ≡ when (both (eqb k (g .logagno))
-      (ltb (freeBeforeList (siteOf g k)) (freelistOf (g .features)))) freeListShort 0
+      → planned g k .number ≡ when (eqb k (g .logagno) && ltb (freeBeforeList (siteOf g k)) (freelistOf (g .features))) freeListShort 0
   -- In roomy sizing no group is refused.
   pub roomy-plans : (g : Geometry) → Answered g → g .roomy ≡ true → (k : ℕ) → k < g .agcount → planned g k .number ≡ 0
   -- What the step accepts in roomy sizing it accepts in plain sizing, with a log no shorter.

@@ -1,21 +1,21 @@
 -- Laws of the plan's definitions.
 -- Assumes nothing.
 use mathlib.Core.Path.{_≡_, refl, ap, _∙_}
-use mathlib.Core.Bool.{Bool, true, false}
+use mathlib.Core.Bool.{Bool, true, false, cond}
 use mathlib.Core.List.{List, [], _∷_, _++_}
 use Prim.Native.Nat.{ℕ, _+_, _-_, _≤_, _<_}
 use native.Mathlib.Omega.{arith}
 use borrow.Author.Tests.{leb-false}
 use lib.Dec.{leb, ltb}
 use lib.ListN.{length, length-append}
-use Rattle.seqs.specs.Lists.{choose, Store, packed, pushed, appended, upFrom}
+use Rattle.seqs.specs.Lists.{Store, packed, pushed, appended, upFrom}
 use Rattle.seqs.proofs.Laws.{appended-append, appended-packed, upFrom-step}
 use Rattle.btree.specs.declared.records.AllocRec.{AllocRec}
 use Rattle.plan_rmap.specs.Rmap as Rmap
 use Rattle.plan_site.specs.declared.Site.{Site}
 use Rattle.plan.specs.Plan.{smallerOf, gap, headMap, refcMap, logMap, mapRec, ownRefc, ownLog}
 
-length-if : {A : Type 0} (b : Bool) (x : A) → length (choose b (x ∷ []) []) ≤ 1
+length-if : {A : Type 0} (b : Bool) (x : A) → length (cond b (x ∷ []) []) ≤ 1
 length-if true x = omega arith
 length-if false x = omega arith
 
@@ -35,7 +35,7 @@ pub appended-none : (o : Store ℕ) (a n : ℕ) → n ≡ 0 → appended o (upFr
 unfolding appended upFrom
 appended-none o a n e = rw e
 
-least-le-at : (b : Bool) (x y : ℕ) → leb x y ≡ b → choose b x y ≤ x
+least-le-at : (b : Bool) (x y : ℕ) → leb x y ≡ b → cond b x y ≤ x
 least-le-at true x y e = omega arith
 least-le-at false x y e = omega (arith, leb-false x y e)
 

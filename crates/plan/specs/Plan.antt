@@ -1,11 +1,11 @@
 -- The plan of a group: what mkfs.xfs leaves of its blocks, step by step as the source goes.
 -- Assumes nothing.
-use mathlib.Core.Bool.{Bool, true, false}
+use mathlib.Core.Bool.{Bool, true, false, cond}
 use mathlib.Core.List.{List, [], _∷_, _++_}
 use Prim.Native.Nat.{ℕ, _+_, _-_}
 use lib.Dec.{leb, ltb, eqb}
 use Rattle.refusals.specs.Numbers.{freeListShort}
-use Rattle.seqs.specs.Lists.{choose, Store, packed, appended, turns, upFrom}
+use Rattle.seqs.specs.Lists.{Store, packed, appended, turns, upFrom}
 use Rattle.params.specs.declared.OptU64.{OptU64}
 use Rattle.params.specs.declared.OptU64.the-variants.{Absent, Given}
 use Rattle.geometry.specs.declared.Geometry.{Geometry}
@@ -62,12 +62,12 @@ ownRefc = negative 8
 
 -- the free record from block a up to, not including, block b, where there is one
 abbrev pub gap : ℕ → ℕ → List AllocRec
-gap a b = choose (ltb a b) (record { start = a; count = b - a } ∷ []) []
+gap a b = cond (ltb a b) (record { start = a; count = b - a } ∷ []) []
 
 -- everything after the head is free, less the log in its group
 unfoldable pub freeAtFirst : Site → List AllocRec
 freeAtFirst s =
-    choose (s .«has_log») (gap (s .head) (s .«log_at») ++ gap (s .«log_at» + s .«log_blocks») (s .length))
+    cond (s .«has_log») (gap (s .head) (s .«log_at») ++ gap (s .«log_at» + s .«log_blocks») (s .length))
     (record { start = s .head; count = s .length - s .head } ∷ [])
 
 abbrev pub mapRec : ℕ → ℕ → ℕ → RmapRec
@@ -84,13 +84,13 @@ headMap s =
 
 -- the root of the reference counts
 abbrev pub refcMap : Site → List RmapRec
-refcMap s = choose (s .reflink) (mapRec (s .«refc_at») 1 ownRefc ∷ []) []
+refcMap s = cond (s .reflink) (mapRec (s .«refc_at») 1 ownRefc ∷ []) []
 
 abbrev pub logMap : Site → List RmapRec
-logMap s = choose (s .«has_log») (mapRec (s .«log_at») (s .«log_blocks») ownLog ∷ []) []
+logMap s = cond (s .«has_log») (mapRec (s .«log_at») (s .«log_blocks») ownLog ∷ []) []
 
 unfoldable pub rmapAtFirst : Site → List RmapRec
-rmapAtFirst s = choose (s .rmapbt) (headMap s ++ (refcMap s ++ logMap s)) []
+rmapAtFirst s = cond (s .rmapbt) (headMap s ++ (refcMap s ++ logMap s)) []
 
 unfoldable pub atFirst : Site → Work
 atFirst s =
@@ -111,31 +111,31 @@ failed w n = record { number = n; want = w .want; rmapbt = w .rmapbt; free = w .
 
 -- the reverse mapping is kept where its feature is on
 abbrev pub mapped : Bool → RmapList → RmapRec → Inserted
-mapped b l r = choose b (inserted l r) (record { number = 0; list = l })
+mapped b l r = cond b (inserted l r) (record { number = 0; list = l })
 
 -- the work with the records that are left, once the owner is noted
 unfoldable pub noted : Work → ℕ → FreeList → Agfl → Inserted → Work
 noted w wants free agfl m =
-    choose (eqb (m .number) 0) (record { number = 0; want = wants; rmapbt = w .rmapbt; free = free; agfl = agfl; rmap = m .list })
+    cond (eqb (m .number) 0) (record { number = 0; want = wants; rmapbt = w .rmapbt; free = free; agfl = agfl; rmap = m .list })
     (failed w (m .number))
 
 -- n blocks from start go to the free list
 unfoldable pub moved : Work → ℕ → ℕ → Work
 moved w start n =
-    choose (eqb (taken (w .free) start n .number) 0)
+    cond (eqb (taken (w .free) start n .number) 0)
     (noted w (w .want - n) (taken (w .free) start n .list) (toAgfl (appended (ofAgfl (w .agfl)) (upFrom start n)))
     (mapped (w .rmapbt) (w .rmap) (mapRec start n ownAg)))
     (failed w (taken (w .free) start n .number))
 
 abbrev pub smallerOf : ℕ → ℕ → ℕ
-smallerOf a b = choose (leb a b) a b
+smallerOf a b = cond (leb a b) a b
 
 -- one turn: nothing is done once the list is full or a number was given; 25 where no record is left
 unfoldable pub listTurn : Work → Work
 listTurn w =
-    choose (eqb (w .number) 0)
-    (choose (eqb (w .want) 0) w
-    (choose (pickAnswer (w .free) (w .want) .found)
+    cond (eqb (w .number) 0)
+    (cond (eqb (w .want) 0) w
+    (cond (pickAnswer (w .free) (w .want) .found)
     (moved w (pickAnswer (w .free) (w .want) .rec .start) (smallerOf (w .want) (pickAnswer (w .free) (w .want) .rec .count)))
     (failed w freeListShort)))
     w
@@ -148,8 +148,8 @@ listFilled s = turns listTurn (s .need) (atFirst s)
 
 unfoldable pub chunked : Site → Work → Work
 chunked s w =
-    choose (eqb (w .number) 0)
-    (choose (eqb (taken (w .free) (s .«chunk_at») (s .«chunk_blocks») .number) 0)
+    cond (eqb (w .number) 0)
+    (cond (eqb (taken (w .free) (s .«chunk_at») (s .«chunk_blocks») .number) 0)
     (noted w (w .want) (taken (w .free) (s .«chunk_at») (s .«chunk_blocks») .list) (w .agfl)
     (mapped (w .rmapbt) (w .rmap) (mapRec (s .«chunk_at») (s .«chunk_blocks») ownInodes)))
     (failed w (taken (w .free) (s .«chunk_at») (s .«chunk_blocks») .number)))
@@ -165,7 +165,7 @@ refusedPlan n = record { number = n; plan = noPlan }
 
 unfoldable pub planAnswer : Site → OptU64 → Work → Planned
 planAnswer s chunk w =
-    choose (eqb (w .number) 0)
+    cond (eqb (w .number) 0)
     (record {
       number = 0;
       plan = record {
@@ -182,10 +182,10 @@ planAnswer s chunk w =
 -- the plan of a group: group 0 has the root chunk
 unfoldable pub planOf : Site → Planned
 planOf s =
-    choose (eqb (s .agno) 0)
+    cond (eqb (s .agno) 0)
     (planAnswer s (Given (s .«chunk_at»)) (chunked s (listFilled s)))
     (planAnswer s Absent (listFilled s))
 
 -- `plan_ag`: 31 and 29 before the plan
 unfoldable pub planned : Geometry → ℕ → Planned
-planned g agno = choose (eqb (groupRefusal g agno) 0) (planOf (siteOf g agno)) (refusedPlan (groupRefusal g agno))
+planned g agno = cond (eqb (groupRefusal g agno) 0) (planOf (siteOf g agno)) (refusedPlan (groupRefusal g agno))

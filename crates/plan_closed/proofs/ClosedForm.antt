@@ -1,7 +1,7 @@
 -- The planner's plan is the closed one, in group 0, in the log group and in every other.
 -- Assumes nothing.
 use mathlib.Core.Path.{_≡_, refl, ap, _∙_}
-use mathlib.Core.Bool.{Bool, true, false}
+use mathlib.Core.Bool.{Bool, true, false, cond, _&&_}
 use mathlib.Core.Logic.{⊎-elim}
 use mathlib.Core.List.{List, [], _∷_, _++_, append-nil}
 use Prim.Native.Nat.{ℕ, _+_, _-_, _≤_, _<_, _^_}
@@ -9,7 +9,7 @@ use native.Mathlib.Omega.{arith}
 use borrow.Author.Tests.{ltb-true, ltb-false, eqb-true, lt-ltb, le-ltb, eq-eqb}
 use lib.Dec.{ltb}
 use Rattle.refusals.specs.Numbers.{freeListShort}
-use Rattle.seqs.specs.Lists.{both, choose, upFrom}
+use Rattle.seqs.specs.Lists.{upFrom}
 use Rattle.seqs.proofs.Laws.{lt-or-le}
 use Rattle.params.specs.declared.OptU64.{OptU64}
 use Rattle.params.specs.declared.OptU64.the-variants.{Absent}
@@ -29,9 +29,9 @@ use Rattle.plan_closed.proofs.Mappings.{listedMap, withChunk, list-mapp
 module _ (s : Site) (ok : SoundSite s) where
   -- ---- what is free at first: all from the free list's first block on
 
-  free-at : (t : Bool) → choose t (s .«log_at» + s .«log_blocks») (s .head) < s .length
-      → choose t (gap (s .head) (s .«log_at») ++ gap (s .«log_at» + s .«log_blocks») (s .length)) (record { start = s .head; count = s .length - s .head } ∷ [])
-      ≡ record { start = choose t (s .«log_at» + s .«log_blocks») (s .head); count = s .length - choose t (s .«log_at» + s .«log_blocks») (s .head) } ∷ []
+  free-at : (t : Bool) → cond t (s .«log_at» + s .«log_blocks») (s .head) < s .length
+      → cond t (gap (s .head) (s .«log_at») ++ gap (s .«log_at» + s .«log_blocks») (s .length)) (record { start = s .head; count = s .length - s .head } ∷ [])
+      ≡ record { start = cond t (s .«log_at» + s .«log_blocks») (s .head); count = s .length - cond t (s .«log_at» + s .«log_blocks») (s .head) } ∷ []
   free-at true h = let l = ok .log-after in rw (le-ltb (s .head) (s .«log_at») (omega arith), lt-ltb (s .«log_at» + s .«log_blocks») (s .length) h)
   free-at false h = refl
 
@@ -48,7 +48,7 @@ module _ (s : Site) (ok : SoundSite s) where
 
   -- ---- the free list
 
-  list-from : (t : Bool) → choose t (s .«log_at» + s .«log_blocks») (s .head) < 2 ^ 31
+  list-from : (t : Bool) → cond t (s .«log_at» + s .«log_blocks») (s .head) < 2 ^ 31
   list-from true = let l = ok .log-after in let m = ok .log-most in let h = ok .head-most in omega arith
   list-from false = let h = ok .head-most in omega arith
 
@@ -159,7 +159,7 @@ module _ (s : Site) (ok : SoundSite s) where
   accepted true z h = rw (z, listed-full h, chunked-first z)
   accepted false z h = rw (z, listed-full h, other-free z, other-map z)
 
-  plan-at : (t u : Bool) → s .«has_log» ≡ t → ltb (s .length - listAt s) (s .need) ≡ u → planOf s ≡ choose (both t u) (refusedPlan freeListShort) (record { number = 0; plan = closedAgPlan s })
+  plan-at : (t u : Bool) → s .«has_log» ≡ t → ltb (s .length - listAt s) (s .need) ≡ u → planOf s ≡ cond (t && u) (refusedPlan freeListShort) (record { number = 0; plan = closedAgPlan s })
   plan-at true true e f = log-refused (hasRootChunk s) refl e (ltb-true _ _ f)
   plan-at true false e f = accepted (hasRootChunk s) refl (ltb-false _ _ f)
   plan-at false u e f = accepted (hasRootChunk s) refl (elsewhere e)

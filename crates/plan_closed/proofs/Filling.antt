@@ -1,7 +1,7 @@
 -- The free list filled from one free record: in one turn where the record has all that is wanted, else 25 in the second.
 -- Assumes nothing.
 use mathlib.Core.Path.{_≡_, refl, ap, _∙_}
-use mathlib.Core.Bool.{Bool, true, false}
+use mathlib.Core.Bool.{Bool, true, false, cond}
 use mathlib.Core.List.{List, [], _∷_}
 use Prim.Native.Nat.{ℕ, zero, suc, _+_, _-_, _≤_, _<_, _^_}
 use native.Mathlib.Omega.{arith}
@@ -9,7 +9,7 @@ use borrow.Author.Tests.{eq-eqb, ne-eqb, le-leb, lt-leb, le-ltb}
 use lib.Dec.{eqb}
 use lib.ListN.{length}
 use Rattle.refusals.specs.Numbers.{freeListShort}
-use Rattle.seqs.specs.Lists.{choose, appended, turns, upFrom}
+use Rattle.seqs.specs.Lists.{appended, turns, upFrom}
 use Rattle.seqs.proofs.Laws.{appended-packed, turns-step}
 use Rattle.btree.specs.declared.records.AllocRec.{AllocRec}
 use Rattle.btree.specs.declared.records.RmapRec.{RmapRec}
@@ -21,7 +21,7 @@ use Rattle.plan_closed.proofs.Takings.{one-picked, none-picked, one-tak
 
 -- ---- turns that do nothing: none is wanted any more, or a number was given
 
-still-at : (t : Bool) (w : Work) → choose t w w ≡ w
+still-at : (t : Bool) (w : Work) → cond t w w ≡ w
 still-at true w = refl
 still-at false w = refl
 

@@ -1,7 +1,7 @@
 -- A reverse mapping put behind all others: it is the last, or joined with the last.
 -- Assumes nothing.
 use mathlib.Core.Path.{_≡_, refl, ap, _∙_}
-use mathlib.Core.Bool.{Bool, true, false}
+use mathlib.Core.Bool.{Bool, true, false, cond, _&&_}
 use mathlib.Core.List.{List, [], _∷_, _++_}
 use Prim.Native.Nat.{ℕ, suc, _+_, _-_, _≤_, _<_, _^_}
 use native.Mathlib.Omega.{arith}
@@ -9,7 +9,7 @@ use borrow.Author.Tests.{ltb-true, leb-true, lt-ltb, le-leb, lt-leb, le-ltb}
 use lib.Dec.{leb, ltb}
 use lib.ListN.{length, replicate, length-append}
 use lib.Seq.{take-append-seam, take-length, drop-length, getD-append-seam}
-use Rattle.seqs.specs.Lists.{both, choose, firstIndex, spliced}
+use Rattle.seqs.specs.Lists.{firstIndex, spliced}
 use Rattle.seqs.specs.Runs.{follows, valid}
 use Rattle.seqs.proofs.Laws.{both-left, both-right}
 use Rattle.btree.specs.declared.records.RmapRec.{RmapRec}
@@ -38,9 +38,9 @@ pub first-of : (lo : ℕ) (x : RmapRec) (xs : List RmapRec) → validRmap lo (x 
 unfolding valid
 first-of lo x xs v =
     let f = both-left (follows lo (x .start) (x .count)) (validRmap (rmapEnd x) xs) v in
-    let g = both-right (leb lo (x .start)) (both (ltb 0 (x .count)) (ltb (rmapEnd x) (2 ^ 32))) f in
+    let g = both-right (leb lo (x .start)) (ltb 0 (x .count) && ltb (rmapEnd x) (2 ^ 32)) f in
     record {
-      after = leb-true _ _ (both-left (leb lo (x .start)) (both (ltb 0 (x .count)) (ltb (rmapEnd x) (2 ^ 32))) f);
+      after = leb-true _ _ (both-left (leb lo (x .start)) (ltb 0 (x .count) && ltb (rmapEnd x) (2 ^ 32)) f);
       some = ltb-true _ _ (both-left (ltb 0 (x .count)) (ltb (rmapEnd x) (2 ^ 32)) g);
       rest = both-right (follows lo (x .start) (x .count)) _ v;
     }
@@ -100,7 +100,7 @@ module _ (x r : RmapRec) (behind : rmapEnd x ≤ r .start) (some : 0 < r .count)
 
     -- with the last, where they join, or behind it
     abbrev lastPut : Bool → List RmapRec
-    lastPut t = choose t (ys ++ glued x r ∷ []) (xs ++ r ∷ [])
+    lastPut t = cond t (ys ++ glued x r ∷ []) (xs ++ r ∷ [])
 
     at-last : (t : Bool) → insertedList (joinedAt t false xs (length xs) r) ≡ record { number = 0; list = packRmap (lastPut t) }
     at-last true =

@@ -1,14 +1,13 @@
 -- The reverse mappings of a group: those at first, then the free list, then the root chunk, each behind all others.
 -- Assumes nothing.
 use mathlib.Core.Path.{_≡_, refl, ap, _∙_}
-use mathlib.Core.Bool.{Bool, true, false, not}
+use mathlib.Core.Bool.{Bool, true, false, not, cond, _&&_}
 use mathlib.Core.List.{List, [], _∷_, _++_}
 use Prim.Native.Nat.{ℕ, _+_, _-_, _≤_, _<_, _^_}
 use native.Mathlib.Omega.{arith}
 use borrow.Author.Tests.{eq-eqb}
 use lib.Dec.{eqb}
 use Rattle.arith.specs.Choice.{bit}
-use Rattle.seqs.specs.Lists.{both, choose}
 use Rattle.btree.specs.Owners.{negative}
 use Rattle.btree.specs.declared.records.RmapRec.{RmapRec}
 use Rattle.plan_site.specs.declared.Site.{Site}
@@ -18,7 +17,7 @@ use Rattle.plan.specs.Plan.{ownFs, ownLog, ownAg, ownInobt, ownInodes, ownRefc,
 use Rattle.plan_closed.specs.Closed.{listAt, headMappings}
 use Rattle.plan_closed.proofs.Insertions.{validRmap, valid-nil, valid-cons, inserted-joined, inserted-apart}
 
-bit-at : (t : Bool) → bit t ≡ choose t 1 0
+bit-at : (t : Bool) → bit t ≡ cond t 1 0
 unfolding bit
 bit-at true = refl
 bit-at false = refl
@@ -41,34 +40,34 @@ ag-inodes = refl
 
 -- the parts by the tests that decide them
 abbrev pub refcIf : Site → Bool → List RmapRec
-refcIf s t = choose t (mapRec (s .«refc_at») 1 ownRefc ∷ []) []
+refcIf s t = cond t (mapRec (s .«refc_at») 1 ownRefc ∷ []) []
 
 abbrev pub logIf : Site → Bool → List RmapRec
-logIf s u = choose u (mapRec (s .«log_at») (s .«log_blocks») ownLog ∷ []) []
+logIf s u = cond u (mapRec (s .«log_at») (s .«log_blocks») ownLog ∷ []) []
 
 abbrev pub listIf : Site → Bool → ℕ
-listIf s u = choose u (s .«log_at» + s .«log_blocks») (s .head)
+listIf s u = cond u (s .«log_at» + s .«log_blocks») (s .head)
 
 -- the reverse mappings with n blocks of the free list
 abbrev listedIf : Site → ℕ → Bool → Bool → List RmapRec
 listedIf s n t u =
     headMappings s
-    ++ choose (both (not t) (not u)) (mapRec (s .«rmap_at») (1 + n) ownAg ∷ [])
+    ++ cond (not t && not u) (mapRec (s .«rmap_at») (1 + n) ownAg ∷ [])
     (mapRec (s .«rmap_at») 1 ownAg ∷ (refcIf s t ++ (logIf s u ++ mapRec (listIf s u) n ownAg ∷ [])))
 
 abbrev pub listedMap : Site → ℕ → List RmapRec
-listedMap s n = choose (s .rmapbt) (listedIf s n (s .reflink) (s .«has_log»)) []
+listedMap s n = cond (s .rmapbt) (listedIf s n (s .reflink) (s .«has_log»)) []
 
 -- and with the root chunk behind it
 abbrev pub withChunk : Site → ℕ → List RmapRec
-withChunk s n = choose (s .rmapbt) (listedIf s n (s .reflink) (s .«has_log») ++ mapRec (s .«chunk_at») (s .«chunk_blocks») ownInodes ∷ []) []
+withChunk s n = cond (s .rmapbt) (listedIf s n (s .reflink) (s .«has_log») ++ mapRec (s .«chunk_at») (s .«chunk_blocks») ownInodes ∷ []) []
 
 module _ (s : Site) (ok : SoundSite s) (on : s .rmapbt ≡ true) where
   -- what Sound says where rmapbt is on
   pub refc-is : s .«refc_at» ≡ s .«rmap_at» + 1
   refc-is = ok .refc-next on
 
-  pub head-is : (t : Bool) → s .reflink ≡ t → s .head ≡ s .«rmap_at» + 1 + choose t 1 0
+  pub head-is : (t : Bool) → s .reflink ≡ t → s .head ≡ s .«rmap_at» + 1 + cond t 1 0
   head-is t e = ok .head-next on ∙ ap (λ (b : Bool). s .«rmap_at» + 1 + bit b) e ∙ ap (λ (n : ℕ). s .«rmap_at» + 1 + n) (bit-at t)
 
   -- the head's parts are valid before what is valid after the rmap root
@@ -140,7 +139,7 @@ module _ (s : Site) (ok : SoundSite s) (on : s .rmapbt ≡ true) where
 
 module _ (s : Site) (ok : SoundSite s) (n : ℕ) (some : 0 < n) where
   list-at : (b : Bool) → s .rmapbt ≡ b → listAt s + n < 2 ^ 32
-      → mapped b (packRmap (choose b (headMap s ++ (refcIf s (s .reflink) ++ logIf s (s .«has_log»))) [])) (mapRec (listAt s) n ownAg) ≡ record { number = 0; list = packRmap (choose b (listedIf s n (s .reflink) (s .«has_log»)) []) }
+      → mapped b (packRmap (cond b (headMap s ++ (refcIf s (s .reflink) ++ logIf s (s .«has_log»))) [])) (mapRec (listAt s) n ownAg) ≡ record { number = 0; list = packRmap (cond b (listedIf s n (s .reflink) (s .«has_log»)) []) }
   unfolding listAt
   list-at true on w = put-list s ok on n some (s .reflink) (s .«has_log») refl w
   list-at false on w = refl
@@ -153,7 +152,7 @@ module _ (s : Site) (ok : SoundSite s) (n : ℕ) (some : 0 < n) where
   chunkRec = mapRec (s .«chunk_at») (s .«chunk_blocks») ownInodes
 
   chunk-at : (b : Bool) → s .rmapbt ≡ b → s .«has_log» ≡ false → s .head + n ≤ s .«chunk_at»
-      → mapped b (packRmap (choose b (listedIf s n (s .reflink) (s .«has_log»)) [])) chunkRec ≡ record { number = 0; list = packRmap (choose b (listedIf s n (s .reflink) (s .«has_log») ++ chunkRec ∷ []) []) }
+      → mapped b (packRmap (cond b (listedIf s n (s .reflink) (s .«has_log»)) [])) chunkRec ≡ record { number = 0; list = packRmap (cond b (listedIf s n (s .reflink) (s .«has_log») ++ chunkRec ∷ []) []) }
   chunk-at true on e k = rw e (put-chunk s ok on n some (s .reflink) refl k)
   chunk-at false on e k = refl
 

@@ -1,7 +1,7 @@
 -- Every group of an answer: its plan, and which groups are refused.
 -- Assumes nothing.
 use mathlib.Core.Path.{_≡_, refl, ap, _∙_}
-use mathlib.Core.Bool.{Bool, true, false}
+use mathlib.Core.Bool.{Bool, true, false, cond, _&&_}
 use mathlib.Core.Logic.{_⊎_, inl, inr}
 use mathlib.Core.List.{[], _∷_, _++_}
 use Prim.Native.Nat.{ℕ, _+_, _-_, _≤_, _<_}
@@ -10,7 +10,6 @@ use borrow.Author.Tests.{eq-eqb, ne-eqb, eqb-true, le-ltb}
 use lib.Dec.{ltb, eqb}
 use lib.ListN.{length}
 use Rattle.refusals.specs.Numbers.{freeListShort}
-use Rattle.seqs.specs.Lists.{both, choose}
 use Rattle.seqs.specs.Runs.{weigh, runLength}
 use Rattle.seqs.proofs.Weights.{additive-blocks, weigh-append, weigh-one}
 use Rattle.geometry.specs.declared.Geometry.{Geometry}
@@ -29,11 +28,11 @@ use Rattle.plan_closed.specs.Closed.{listAt, freeBeforeList, listShort, 
 use Rattle.plan_closed.proofs.ClosedForm.{closed-form}
 
 -- the number of a choice between 25 and a plan
-number-at : (t : Bool) (p : Planned) → p .number ≡ 0 → choose t (refusedPlan freeListShort) p .number ≡ choose t freeListShort 0
+number-at : (t : Bool) (p : Planned) → p .number ≡ 0 → cond t (refusedPlan freeListShort) p .number ≡ cond t freeListShort 0
 number-at true p e = refl
 number-at false p e = e
 
-either-at : (t : Bool) (n : ℕ) → n ≡ choose t freeListShort 0 → (n ≡ 0) ⊎ (n ≡ freeListShort)
+either-at : (t : Bool) (n : ℕ) → n ≡ cond t freeListShort 0 → (n ≡ 0) ⊎ (n ≡ freeListShort)
 either-at true n e = inr e
 either-at false n e = inl e
 
@@ -41,8 +40,8 @@ either-at false n e = inl e
 
 module _ (s : Site) (ok : SoundSite s) where
   blocks-at : (t : Bool)
-      → weigh allocStart allocCount runLength (choose t (gap (s .head) (s .«log_at») ++ gap (s .«log_at» + s .«log_blocks») (s .length)) (record { start = s .head; count = s .length - s .head } ∷ []))
-      ≡ s .length - choose t (s .«log_at» + s .«log_blocks») (s .head)
+      → weigh allocStart allocCount runLength (cond t (gap (s .head) (s .«log_at») ++ gap (s .«log_at» + s .«log_blocks») (s .length)) (record { start = s .head; count = s .length - s .head } ∷ []))
+      ≡ s .length - cond t (s .«log_at» + s .«log_blocks») (s .head)
   unfolding runLength
   blocks-at true =
       let l = ok .log-after in
@@ -56,12 +55,12 @@ module _ (s : Site) (ok : SoundSite s) where
   unfolding freeAtFirst listAt
   free-blocks = blocks-at (s .«has_log»)
 
-  pub short-means : listShort s ≡ both (s .«has_log») (ltb (freeBeforeList s) (s .need))
+  pub short-means : listShort s ≡ (s .«has_log» && ltb (freeBeforeList s) (s .need))
   unfolding listShort
   short-means = rw free-blocks
 
   -- the number is 25 where the log group is short, else 0
-  pub its-number : closedPlan s .number ≡ choose (listShort s) freeListShort 0
+  pub its-number : closedPlan s .number ≡ cond (listShort s) freeListShort 0
   unfolding closedPlan
   its-number = number-at (listShort s) (record { number = 0; plan = closedAgPlan s }) refl
 
@@ -71,7 +70,7 @@ module _ (g : Geometry) (l : length (g .label) ≡ 12) (h : isAnswer g ≡ true)
   unfolding planned
   closed-plan k i = rw (group-there g k h i) (closed-form (siteOf g k) (site-sound g k l h))
 
-  pub planned-number : (k : ℕ) → k < g .agcount → planned g k .number ≡ choose (listShort (siteOf g k)) freeListShort 0
+  pub planned-number : (k : ℕ) → k < g .agcount → planned g k .number ≡ cond (listShort (siteOf g k)) freeListShort 0
   planned-number k i = ap (λ (p : Planned). p .number) (closed-plan k i) ∙ its-number (siteOf g k) (site-sound g k l h)
 
   -- the plan of a group that isn't short
@@ -96,7 +95,7 @@ module _ (g : Geometry) (l : length (g .label) ≡ 12) (h : isAnswer g ≡ true)
   log-short = short-means (siteOf g (g .logagno)) (site-sound g (g .logagno) l h) ∙ rw (eq-eqb (g .logagno) (g .logagno) refl)
 
   -- THE LOG GROUP IS REFUSED EXACTLY WHERE ITS FREE BLOCKS ARE FEWER THAN ITS FREE LIST
-  pub log-group-refused : planned g (g .logagno) .number ≡ choose (ltb (freeBeforeList (siteOf g (g .logagno))) (freelistOf (g .features))) freeListShort 0
+  pub log-group-refused : planned g (g .logagno) .number ≡ cond (ltb (freeBeforeList (siteOf g (g .logagno))) (freelistOf (g .features))) freeListShort 0
   log-group-refused = planned-number (g .logagno) (answer-bounds g l h .places .log-inside) ∙ rw log-short
 
   roomy-long : g .roomy ≡ true → listShort (siteOf g (g .logagno)) ≡ false
@@ -109,7 +108,7 @@ module _ (g : Geometry) (l : length (g .label) ≡ 12) (h : isAnswer g ≡ true)
 
   -- IN ROOMY SIZING NO GROUP IS REFUSED
   pub roomy-planned : g .roomy ≡ true → (k : ℕ) → k < g .agcount → planned g k .number ≡ 0
-  roomy-planned e k i = planned-number k i ∙ ap (λ (t : Bool). choose t freeListShort 0) (by-group k (eqb k (g .logagno)) refl)
+  roomy-planned e k i = planned-number k i ∙ ap (λ (t : Bool). cond t freeListShort 0) (by-group k (eqb k (g .logagno)) refl)
     where
       by-group : (k : ℕ) (t : Bool) → eqb k (g .logagno) ≡ t → listShort (siteOf g k) ≡ false
       by-group k true q = rw (eqb-true k (g .logagno) q) (roomy-long e)

@@ -1,20 +1,20 @@
 -- One free record: what is picked of it, and what a run taken out of it leaves.
 -- Assumes nothing.
 use mathlib.Core.Path.{_≡_, refl}
-use mathlib.Core.Bool.{Bool, true, false}
+use mathlib.Core.Bool.{Bool, true, false, cond, _&&_}
 use mathlib.Core.List.{[], _∷_, _++_}
 use Prim.Native.Nat.{ℕ, _+_, _-_, _≤_, _<_, _^_}
 use native.Mathlib.Omega.{arith}
 use borrow.Author.Tests.{lt-ltb, le-leb}
 use lib.Dec.{leb, ltb}
-use Rattle.seqs.specs.Lists.{both, choose, firstIndex, fold}
+use Rattle.seqs.specs.Lists.{firstIndex, fold}
 use Rattle.seqs.specs.Runs.{valid}
 use Rattle.btree.specs.declared.records.AllocRec.{AllocRec}
 use Rattle.plan_free.specs.Free.{packFree, allocStart, allocCount, holdsRun, withoutRun, takenList, takenAt, takenFrom, taken, noChoice, choiceOf, fitter, bigger, pickedFrom, pickAnswer}
 use Rattle.plan.specs.Plan.{gap}
 
 -- the one record is picked, whether it holds all that is wanted or not
-one-picked-at : (t : Bool) (r : AllocRec) → choose (choose (both t true) (choiceOf r) noChoice .found) (choose (both t true) (choiceOf r) noChoice) (choiceOf r) ≡ choiceOf r
+one-picked-at : (t : Bool) (r : AllocRec) → cond (cond (t && true) (choiceOf r) noChoice .found) (cond (t && true) (choiceOf r) noChoice) (choiceOf r) ≡ choiceOf r
 one-picked-at true r = refl
 one-picked-at false r = refl
 
@@ -27,7 +27,7 @@ unfolding pickAnswer pickedFrom fold
 none-picked want = refl
 
 -- two records at most are kept
-two-kept : (t u : Bool) (x y : AllocRec) → takenList ((choose t (x ∷ []) [] ++ choose u (y ∷ []) []) ++ []) ≡ record { number = 0; list = packFree (choose t (x ∷ []) [] ++ choose u (y ∷ []) []) }
+two-kept : (t u : Bool) (x y : AllocRec) → takenList ((cond t (x ∷ []) [] ++ cond u (y ∷ []) []) ++ []) ≡ record { number = 0; list = packFree (cond t (x ∷ []) [] ++ cond u (y ∷ []) []) }
 two-kept true true x y = refl
 two-kept true false x y = refl
 two-kept false true x y = refl

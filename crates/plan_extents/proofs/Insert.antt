@@ -1,7 +1,7 @@
 -- What `rmap_insert` leaves, and which number it gives where.
 -- Assumes nothing.
 use mathlib.Core.Path.{_≡_, refl, sym, ap, _∙_}
-use mathlib.Core.Bool.{Bool, true, false}
+use mathlib.Core.Bool.{Bool, true, false, cond}
 use mathlib.Core.List.{List, [], _∷_, _++_, append-nil, List·Memᴰ, List·Memᴰ·head, List·Memᴰ·eq-of-singleton, List·Memᴰ·not-nil, List·Memᴰ·cases-cons, List·Memᴰ·append-cases, Memᴰ·append-left, Memᴰ·append-right}
 use mathlib.Core.Logic.{_↔_, _⊎_, inl, inr, ⊎-elim}
 use Prim.Native.Nat.{ℕ, suc, _+_, _-_, _≤_, _<_}
@@ -10,7 +10,7 @@ use borrow.Author.Tests.{leb-true, leb-false, ltb-true, ltb-false}
 use lib.Dec.{leb, ltb}
 use lib.ListN.{length, take, drop, getD, length-take, length-drop, take-append-drop}
 use Rattle.refusals.specs.Numbers.{tooManyRecords, notValid}
-use Rattle.seqs.specs.Lists.{choose, firstIndex, spliced}
+use Rattle.seqs.specs.Lists.{firstIndex, spliced}
 use Rattle.seqs.specs.Runs.{valid}
 use Rattle.seqs.proofs.Laws.{total-put, never, both-left, both-right, index-le, length-put}
 use Rattle.seqs.proofs.Parts.{Follows, ended, valid-uncons, valid-cons, valid-join, valid-unjoin}
@@ -42,7 +42,7 @@ fails true f = absurd (f refl)
 fails false f = refl
 
 from-at : (s : ℕ) (y : RmapRec) (ys : List RmapRec) → valid rmapStart rmapCount (rmapEnd y) ys ≡ true → (t : Bool) → leb s (y .start) ≡ t → (x : RmapRec) → (List·Memᴰ x (drop (insertPlace s ys) ys) → s ≤ x .start)
-    → List·Memᴰ x (drop (choose t 0 (suc (insertPlace s ys))) (y ∷ ys)) → s ≤ x .start
+    → List·Memᴰ x (drop (cond t 0 (suc (insertPlace s ys))) (y ∷ ys)) → s ≤ x .start
 from-at s y ys v true e x below m =
     let h : s ≤ y .start = leb-true _ _ e in
     ⊎-elim (λ f. rw f h) (λ n. let k = valid-mem rmapStart rmapCount (rmapEnd y) ys v x n .low in omega arith) (List·Memᴰ·cases-cons m)
@@ -215,7 +215,7 @@ module _ (l : RmapList) (r : RmapRec) (few : l .len ≤ 64) where
       let m : length (withRec (rmapOf l) place r) ≡ length (rmapOf l) + 1 = length-alone (rmapOf l) place r h o _ _ refl refl in
       full few a (omega arith) o (rw e)
 
-  takes-answers : (t : Bool) → takes (rmapOf l) place r ≡ t → InsertAnswers l r (choose t (insertedAt (rmapOf l) place r) (insertRefused notValid))
+  takes-answers : (t : Bool) → takes (rmapOf l) place r ≡ t → InsertAnswers l r (cond t (insertedAt (rmapOf l) place r) (insertRefused notValid))
   takes-answers true e = at-answers _ (takes-accepts (rmapOf l) place r e) e refl
   takes-answers false e =
       unfit few (λ a. never (sym e ∙ accepts-takes (rmapOf l) place r a (before-place (r .start) (rmapOf l)) (from-place (r .start) 0 (rmapOf l) (a .sorted)))) refl

@@ -1,7 +1,7 @@
 -- A record put in, and joined with its neighbours: what that keeps.
 -- Assumes nothing.
 use mathlib.Core.Path.{_≡_, refl, sym, ap, _∙_}
-use mathlib.Core.Bool.{Bool, true, false}
+use mathlib.Core.Bool.{Bool, true, false, cond}
 use mathlib.Core.List.{List, [], _∷_, _++_}
 use Prim.Native.Nat.{ℕ, zero, suc, _+_, _-_, _≤_, _<_}
 use native.Mathlib.Omega.{arith}
@@ -10,7 +10,7 @@ use borrow.Author.Tests.{ltb-true, eqb-true, eq-eqb}
 use lib.Dec.{ltb, eqb}
 use lib.ListN.{length, take, drop, getD, replicate}
 use lib.Seq.{take-suc, drop-cons, append-snoc, take-append-seam}
-use Rattle.seqs.specs.Lists.{both, choose, spliced, total}
+use Rattle.seqs.specs.Lists.{spliced, total}
 use Rattle.seqs.specs.Runs.{valid, has}
 use Rattle.seqs.proofs.Laws.{never, both-left, both-right, total-append, total-cons}
 use Rattle.seqs.proofs.Parts.{Follows, ended, valid-uncons, valid-cons, valid-join, valid-unjoin}
@@ -83,7 +83,7 @@ meet-split f add a m b n h =
     let e : a + (m + n) ≡ b + n = omega arith in
     rw (e, h) (add .split a b (b + n) (omega arith) (omega arith))
 
-choose-adds : (t u : Bool) (x y z : ℕ) → t ≡ u → z ≡ x + y → choose t z 0 ≡ choose t x 0 + choose u y 0
+choose-adds : (t u : Bool) (x y z : ℕ) → t ≡ u → z ≡ x + y → cond t z 0 ≡ cond t x 0 + cond u y 0
 choose-adds true true x y z h e = e
 choose-adds true false x y z h e = never (sym h)
 choose-adds false true x y z h e = never h

@@ -2,14 +2,14 @@
 -- exactly where there is no record.
 -- Assumes nothing.
 use mathlib.Core.Path.{_≡_, refl, sym, ap, _∙_}
-use mathlib.Core.Bool.{Bool, true, false}
+use mathlib.Core.Bool.{Bool, true, false, cond, _&&_}
 use mathlib.Core.List.{List, [], _∷_, List·Memᴰ, List·Memᴰ·head, List·Memᴰ·tail, List·Memᴰ·not-nil, List·Memᴰ·cases-cons}
 use mathlib.Core.Logic.{_↔_, _⊎_, inl, inr, ⊎-elim}
 use Prim.Native.Nat.{ℕ, _≤_, _<_}
 use native.Mathlib.Omega.{arith}
 use borrow.Author.Tests.{leb-true, leb-false, ltb-true, ltb-false, eqb-true, eqb-false, le-leb, le-ltb}
 use lib.Dec.{leb, ltb, eqb}
-use Rattle.seqs.specs.Lists.{both, choose, fold}
+use Rattle.seqs.specs.Lists.{fold}
 use Rattle.seqs.proofs.Laws.{never}
 use Rattle.btree.specs.declared.records.AllocRec.{AllocRec}
 use Rattle.plan_free.specs.declared.FreeList.{FreeList}
@@ -56,7 +56,7 @@ module _ (ok : AllocRec → Bool) (better : AllocRec → AllocRec → Bool) (Le 
       }
 
   step : (c : Choice) (r : AllocRec) (xs : List AllocRec) (d : Choice) (p f b : Bool) → ok r ≡ p → c .found ≡ f → better r (c .rec) ≡ b
-      → Kept ok Le (choose (both p (choose f b true)) (choiceOf r) c) xs d → Kept ok Le c (r ∷ xs) d
+      → Kept ok Le (cond (p && cond f b true) (choiceOf r) c) xs d → Kept ok Le c (r ∷ xs) d
   step c r xs d false f b x y z k = skipped c r xs d (λ e. never (sym x ∙ e)) k
   step c r xs d true false b x y z k = replaced c r xs d x (λ e. never (sym y ∙ e)) k
   step c r xs d true true true x y z k = replaced c r xs d x (λ e. o .yes r (c .rec) z) k
@@ -68,7 +68,7 @@ module _ (ok : AllocRec → Bool) (better : AllocRec → AllocRec → Bool) (Le 
   kept (r ∷ xs) c = step c r xs (fold (better-of ok better) (better-of ok better c r) xs) (ok r) (c .found) (better r (c .rec)) refl refl refl (kept xs (better-of ok better c r))
 
 -- ---- the two comparisons
-ahead-by : (p q s t : ℕ) (e : Bool) → eqb p q ≡ e → (choose e (ltb s t) (ltb p q) ≡ true → Ahead p q s t) × (choose e (ltb s t) (ltb p q) ≡ false → Ahead q p t s)
+ahead-by : (p q s t : ℕ) (e : Bool) → eqb p q ≡ e → (cond e (ltb s t) (ltb p q) ≡ true → Ahead p q s t) × (cond e (ltb s t) (ltb p q) ≡ false → Ahead q p t s)
 ahead-by p q s t true e =
     let c : p ≡ q = eqb-true _ _ e in
     (λ h. let l : s < t = ltb-true _ _ h in record { size = omega arith; tie = λ x. omega arith }, λ h. let l : t ≤ s = ltb-false _ _ h in record { size = omega arith; tie = λ x. l })
@@ -142,7 +142,7 @@ largest-of want (r ∷ xs) h =
     largest f h (size-found (r ∷ xs) f)
 
 picks-by : (want : ℕ) (xs : List AllocRec) (t : Bool) → fold (fitter want) noChoice xs .found ≡ t
-    → Picks want xs (choose t (fold (fitter want) noChoice xs) (fold bigger noChoice xs))
+    → Picks want xs (cond t (fold (fitter want) noChoice xs) (fold bigger noChoice xs))
 picks-by want xs true e = fits e (fit-found want xs e)
 picks-by want xs false e = largest-of want xs (λ x m. short want xs e x m (leb want (x .count)) refl)
 

@@ -1,7 +1,7 @@
 -- What `take` leaves, and which number it gives where.
 -- Assumes nothing.
 use mathlib.Core.Path.{_≡_, refl, sym, ap, _∙_}
-use mathlib.Core.Bool.{Bool, true, false}
+use mathlib.Core.Bool.{Bool, true, false, cond}
 use mathlib.Core.List.{List, _∷_, _++_, append-assoc, List·Memᴰ}
 use mathlib.Core.Logic.{_↔_, ⊎-elim}
 use Prim.Native.Nat.{ℕ, _+_, _-_, _≤_, _<_, _^_}
@@ -10,7 +10,7 @@ use borrow.Author.Tests.{leb-true, leb-false, ltb-true, ltb-false, le-leb, lt-lt
 use lib.Dec.{leb, ltb}
 use lib.ListN.{length, take, drop, getD, length-take}
 use Rattle.refusals.specs.Numbers.{tooManyRecords, notFree, notValid}
-use Rattle.seqs.specs.Lists.{choose, spliced}
+use Rattle.seqs.specs.Lists.{spliced}
 use Rattle.seqs.specs.Runs.{valid, has}
 use Rattle.seqs.proofs.Laws.{never, both-left, both-right, index-passes, lt-or-le, length-put}
 use Rattle.seqs.proofs.Parts.{Follows, ended, valid-cons, valid-lower, valid-join, valid-parts}
@@ -141,7 +141,7 @@ module _ (l : FreeList) (s n : ℕ) (few : l .len ≤ 64) (v : valid allocStart 
       never (sym f ∙ rw (le-leb (r .start) s (h .low), le-leb (s + n) (allocEnd r) (h .high))))
       (rw e)
 
-  sum-answers : (t : Bool) → ltb (s + n) (2 ^ 64) ≡ t → TakeAnswers l s n (choose t (takenFrom (freeOf l) s (s + n)) (takeRefused notFree))
+  sum-answers : (t : Bool) → ltb (s + n) (2 ^ 64) ≡ t → TakeAnswers l s n (cond t (takenFrom (freeOf l) s (s + n)) (takeRefused notFree))
   sum-answers true e = from-answers _ refl
   sum-answers false e =
       unheld few v
@@ -152,7 +152,7 @@ module _ (l : FreeList) (s n : ℕ) (few : l .len ≤ 64) (v : valid allocStart 
       refl
 
 valid-answers : (l : FreeList) (s n : ℕ) → l .len ≤ 64 → (t : Bool) → valid allocStart allocCount 0 (freeOf l) ≡ t
-    → TakeAnswers l s n (choose t (choose (ltb (s + n) (2 ^ 64)) (takenFrom (freeOf l) s (s + n)) (takeRefused notFree)) (takeRefused notValid))
+    → TakeAnswers l s n (cond t (cond (ltb (s + n) (2 ^ 64)) (takenFrom (freeOf l) s (s + n)) (takeRefused notFree)) (takeRefused notValid))
 valid-answers l s n few true e = sum-answers l s n few e _ refl
 valid-answers l s n few false e = unsorted few e refl
 

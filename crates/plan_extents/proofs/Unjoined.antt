@@ -1,14 +1,13 @@
 -- A list in which no two neighbours join is left as such a list by `rmap_insert`.
 -- Assumes nothing.
 use mathlib.Core.Path.{_≡_, refl, sym, ap, _∙_}
-use mathlib.Core.Bool.{Bool, true, false}
+use mathlib.Core.Bool.{Bool, true, false, _&&_}
 use mathlib.Core.List.{List, [], _∷_, _++_}
 use Prim.Native.Nat.{ℕ, _+_, _-_, _≤_, _<_}
 use native.Mathlib.Omega.{arith}
 use borrow.Author.Tests.{ltb-true, ltb-false}
 use lib.Dec.{ltb, eqb}
 use lib.ListN.{length, take, drop, getD, length-drop, take-append-drop}
-use Rattle.seqs.specs.Lists.{both}
 use Rattle.btree.specs.declared.records.RmapRec.{RmapRec}
 use Rattle.plan_rmap.specs.Rmap.{zeroRmapRec, rmapEnd, joins, glued, joinsLeft, joinsRight, joinedAt}
 use Rattle.plan_extents.specs.Inserts.{Unjoined}
@@ -43,7 +42,7 @@ glued-joins a b x j =
     let e : a .start + (a .count + b .count) ≡ rmapEnd b = omega arith in
     same-joins (a .owner) (b .owner) (a .start + (a .count + b .count)) (rmapEnd b) x (f .owner) e
   where
-    same-joins : (o p d e : ℕ) (x : RmapRec) → o ≡ p → d ≡ e → both (eqb o (x .owner)) (eqb d (x .start)) ≡ both (eqb p (x .owner)) (eqb e (x .start))
+    same-joins : (o p d e : ℕ) (x : RmapRec) → o ≡ p → d ≡ e → (eqb o (x .owner) && eqb d (x .start)) ≡ (eqb p (x .owner) && eqb e (x .start))
     same-joins o p d e x f g = rw (f, g)
 
 -- ---- the records before the place, and from it on, with g at the place

@@ -1,14 +1,14 @@
 -- What `rmap_insert` answers, said of blocks, owners and records.
 -- Assumes nothing.
 use mathlib.Core.Path.{_≡_}
-use mathlib.Core.Bool.{true, false}
+use mathlib.Core.Bool.{true, false, cond}
 use mathlib.Core.List.{List, [], _∷_, List·Memᴰ}
 use mathlib.Core.Logic.{_⊎_}
 use Prim.Native.Nat.{ℕ, _+_, _≤_, _<_, _^_}
 use lib.Dec.{eqb}
 use lib.ListN.{length}
 use Rattle.refusals.specs.Numbers.{tooManyRecords, notValid}
-use Rattle.seqs.specs.Lists.{choose, total}
+use Rattle.seqs.specs.Lists.{total}
 use Rattle.seqs.specs.Runs.{valid, has}
 use Rattle.btree.specs.declared.records.RmapRec.{RmapRec}
 use Rattle.plan_rmap.specs.declared.RmapList.{RmapList}
@@ -26,7 +26,7 @@ abbrev pub holdsBlock : ℕ → RmapRec → ℕ
 holdsBlock b r = has b (r .start) (rmapEnd r)
 
 abbrev pub ownsBlock : ℕ → ℕ → RmapRec → ℕ
-ownsBlock o b r = choose (eqb (r .owner) o) (holdsBlock b r) 0
+ownsBlock o b r = cond (eqb (r .owner) o) (holdsBlock b r) 0
 
 -- ys is xs with the record put in: valid, at most 64, each block in as many records as before and in the record, for each owner too, and
 -- without neighbours that join if there were none

@@ -1,7 +1,7 @@
 -- Laws of `take`.
 -- Assumes nothing.
 use mathlib.Core.Path.{_≡_, refl}
-use mathlib.Core.Bool.{Bool, true, false}
+use mathlib.Core.Bool.{Bool, true, false, cond}
 use mathlib.Core.List.{List, []}
 use Prim.Native.Nat.{ℕ, _+_, _-_, _≤_, _<_, _^_}
 use native.Mathlib.Omega.{arith}
@@ -10,7 +10,7 @@ use lib.Dec.{leb, ltb}
 use lib.ListN.{length, take, getD}
 use lib.Seq.{slice, length-take-le, getD-take}
 use Rattle.refusals.specs.Numbers.{tooManyRecords, notFree, notValid}
-use Rattle.seqs.specs.Lists.{choose, firstIndex, spliced, packed, appended}
+use Rattle.seqs.specs.Lists.{firstIndex, spliced, packed, appended}
 use Rattle.seqs.specs.Runs.{valid}
 use Rattle.seqs.proofs.Validity.{valid-at}
 use Rattle.seqs.proofs.Laws.{both-left, both-right, index-passes, appended-append, length-spliced, splice-packed}
@@ -56,11 +56,11 @@ abbrev pub leftOf : List AllocRec → ℕ → ℕ → List AllocRec
 leftOf xs s e = spliced xs (holder xs s e) (holder xs s e + 1) (withoutRun s e (held xs s e))
 
 -- ---- where the number is 0, every test was passed
-number-first : (b : Bool) (x y : Taken) → (x .number ≡ 0 → ⊥) → choose b x y .number ≡ 0 → (b ≡ false) × (y .number ≡ 0)
+number-first : (b : Bool) (x y : Taken) → (x .number ≡ 0 → ⊥) → cond b x y .number ≡ 0 → (b ≡ false) × (y .number ≡ 0)
 number-first true x y h e = absurd (h e)
 number-first false x y h e = (refl, e)
 
-number-then : (b : Bool) (x y : Taken) → (y .number ≡ 0 → ⊥) → choose b x y .number ≡ 0 → (b ≡ true) × (x .number ≡ 0)
+number-then : (b : Bool) (x y : Taken) → (y .number ≡ 0 → ⊥) → cond b x y .number ≡ 0 → (b ≡ true) × (x .number ≡ 0)
 number-then true x y h e = (refl, e)
 number-then false x y h e = absurd (h e)
 
@@ -92,8 +92,8 @@ from-ok xs s e v q =
 pub taken-ok : (l : FreeList) (s n : ℕ) → taken l s n .number ≡ 0 → TakenOk (freeOf l) s (s + n) (taken l s n)
 unfolding taken
 taken-ok l s n q =
-    let a = number-first (ltb 64 (l .len)) (takeRefused tooManyRecords) (choose (valid allocStart allocCount 0 (freeOf l)) (choose (ltb (s + n) (2 ^ 64)) (takenFrom (freeOf l) s (s + n)) (takeRefused notFree)) (takeRefused notValid)) (λ n. omega arith) q in
-    let b = number-then (valid allocStart allocCount 0 (freeOf l)) (choose (ltb (s + n) (2 ^ 64)) (takenFrom (freeOf l) s (s + n)) (takeRefused notFree)) (takeRefused notValid) (λ n. omega arith) (a .1) in
+    let a = number-first (ltb 64 (l .len)) (takeRefused tooManyRecords) (cond (valid allocStart allocCount 0 (freeOf l)) (cond (ltb (s + n) (2 ^ 64)) (takenFrom (freeOf l) s (s + n)) (takeRefused notFree)) (takeRefused notValid)) (λ n. omega arith) q in
+    let b = number-then (valid allocStart allocCount 0 (freeOf l)) (cond (ltb (s + n) (2 ^ 64)) (takenFrom (freeOf l) s (s + n)) (takeRefused notFree)) (takeRefused notValid) (λ n. omega arith) (a .1) in
     let c = number-then (ltb (s + n) (2 ^ 64)) (takenFrom (freeOf l) s (s + n)) (takeRefused notFree) (λ n. omega arith) (b .1) in
     rw (a .0, b .0, c .0) (from-ok (freeOf l) s (s + n) (b .0) (c .1))
 

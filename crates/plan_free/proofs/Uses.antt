@@ -1,7 +1,7 @@
 -- `take` takes exactly the run out of the free extents, and what is picked has blocks.
 -- Assumes nothing.
 use mathlib.Core.Path.{_≡_, sym}
-use mathlib.Core.Bool.{true}
+use mathlib.Core.Bool.{true, cond, _&&_}
 use mathlib.Core.Logic.{⊎-elim}
 use mathlib.Core.List.{List, [], _∷_}
 use Prim.Native.Nat.{ℕ, _+_, _-_, _≤_, _<_, _^_}
@@ -11,7 +11,7 @@ use borrow.Author.Tests.{ltb-true, lt-ltb, le-ltb}
 use lib.Dec.{leb, ltb}
 use lib.ListN.{length, replicate}
 use lib.Seq.{take-append-seam}
-use Rattle.seqs.specs.Lists.{both, choose, fold}
+use Rattle.seqs.specs.Lists.{fold}
 use Rattle.seqs.specs.Runs.{follows, valid, weigh}
 use Rattle.seqs.proofs.Laws.{never, both-left, both-right, lt-or-le, choose-elim}
 use Rattle.seqs.proofs.Weights.{Additive, weigh-append, weigh-spliced}
@@ -31,7 +31,7 @@ free-packed xs = take-append-seam xs (replicate (64 - length xs) zeroFreeRec)
 
 -- ---- the records between a and c
 abbrev pub piece : ℕ → ℕ → List AllocRec
-piece a c = choose (ltb a c) (record { start = a; count = c - a } ∷ []) []
+piece a c = cond (ltb a c) (record { start = a; count = c - a } ∷ []) []
 
 module _ (f : ℕ → ℕ → ℕ) (add : Additive f) where
   pub piece-weighs : (a c : ℕ) → weighFree f (piece a c) ≡ f a c
@@ -66,7 +66,7 @@ abbrev Some : Choice → Type 0
 Some c = c .found ≡ true → 0 < c .rec .count
 
 follows-count : (lo s c : ℕ) → follows lo s c ≡ true → 0 < c
-follows-count lo s c e = ltb-true _ _ (both-left (ltb 0 c) (ltb (s + c) (2 ^ 32)) (both-right (leb lo s) (both (ltb 0 c) (ltb (s + c) (2 ^ 32))) e))
+follows-count lo s c e = ltb-true _ _ (both-left (ltb 0 c) (ltb (s + c) (2 ^ 32)) (both-right (leb lo s) (ltb 0 c && ltb (s + c) (2 ^ 32)) e))
 
 fold-some : (f : Choice → AllocRec → Choice) → ((c : Choice) (r : AllocRec) → 0 < r .count → Some c → Some (f c r))
     → (lo : ℕ) (xs : List AllocRec) (c : Choice) → valid allocStart allocCount lo xs ≡ true → Some c → Some (fold f c xs)
@@ -78,11 +78,11 @@ fold-some f step lo (x ∷ xs) c v g =
 
 fitter-some : (want : ℕ) (c : Choice) (r : AllocRec) → 0 < r .count → Some c → Some (fitter want c r)
 unfolding fitter
-fitter-some want c r h g = choose-elim Some (both (leb want (r .count)) (choose (c .found) (smaller r (c .rec)) true)) (choiceOf r) c (λ t e. h) (λ t. g)
+fitter-some want c r h g = choose-elim Some (leb want (r .count) && cond (c .found) (smaller r (c .rec)) true) (choiceOf r) c (λ t e. h) (λ t. g)
 
 bigger-some : (c : Choice) (r : AllocRec) → 0 < r .count → Some c → Some (bigger c r)
 unfolding bigger
-bigger-some c r h g = choose-elim Some (choose (c .found) (largerRecord r (c .rec)) true) (choiceOf r) c (λ t e. h) (λ t. g)
+bigger-some c r h g = choose-elim Some (cond (c .found) (largerRecord r (c .rec)) true) (choiceOf r) c (λ t e. h) (λ t. g)
 
 pub picked-some : (l : FreeList) (want : ℕ) → valid allocStart allocCount 0 (freeOf l) ≡ true → pickAnswer l want .found ≡ true → 0 < pickAnswer l want .rec .count
 unfolding pickAnswer pickedFrom

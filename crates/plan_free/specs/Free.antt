@@ -1,12 +1,12 @@
 -- The free extents of a group: a run taken out of them, and the record that the free list is filled from.
 -- Assumes nothing.
-use mathlib.Core.Bool.{Bool, true, false}
+use mathlib.Core.Bool.{Bool, true, false, cond, _&&_}
 use mathlib.Core.List.{List, [], _∷_, _++_}
 use Prim.Native.Nat.{ℕ, _+_, _-_, _^_}
 use lib.Dec.{leb, ltb, eqb}
 use lib.ListN.{length, getD}
 use Rattle.refusals.specs.Numbers.{tooManyRecords, notFree, notValid}
-use Rattle.seqs.specs.Lists.{both, choose, firstIndex, spliced, Store, live, packed, fold}
+use Rattle.seqs.specs.Lists.{firstIndex, spliced, Store, live, packed, fold}
 use Rattle.seqs.specs.Runs.{valid}
 use Rattle.btree.specs.declared.records.AllocRec.{AllocRec}
 use Rattle.plan_free.specs.declared.FreeList.{FreeList}
@@ -45,14 +45,14 @@ allocEnd r = r .start + r .count
 
 -- the run from s up to, not including, e lies within the record
 abbrev pub holdsRun : ℕ → ℕ → AllocRec → Bool
-holdsRun s e r = both (leb (r .start) s) (leb e (allocEnd r))
+holdsRun s e r = leb (r .start) s && leb e (allocEnd r)
 
 -- what the run leaves of the record before it, and after it
 abbrev pub restBefore : ℕ → AllocRec → List AllocRec
-restBefore s r = choose (ltb (r .start) s) (record { start = r .start; count = s - r .start } ∷ []) []
+restBefore s r = cond (ltb (r .start) s) (record { start = r .start; count = s - r .start } ∷ []) []
 
 abbrev pub restAfter : ℕ → AllocRec → List AllocRec
-restAfter e r = choose (ltb e (allocEnd r)) (record { start = e; count = allocEnd r - e } ∷ []) []
+restAfter e r = cond (ltb e (allocEnd r)) (record { start = e; count = allocEnd r - e } ∷ []) []
 
 -- both
 unfoldable pub withoutRun : ℕ → ℕ → AllocRec → List AllocRec
@@ -64,7 +64,7 @@ takeRefused n = record { number = n; list = packFree [] }
 
 -- the records left, if they are at most 64
 abbrev pub takenList : List AllocRec → Taken
-takenList xs = choose (leb (length xs) 64) (record { number = 0; list = packFree xs }) (takeRefused tooManyRecords)
+takenList xs = cond (leb (length xs) 64) (record { number = 0; list = packFree xs }) (takeRefused tooManyRecords)
 
 -- the run taken out of the record at index i
 unfoldable pub takenAt : List AllocRec → ℕ → ℕ → ℕ → Taken
@@ -72,16 +72,16 @@ takenAt xs i s e = takenList (spliced xs i (i + 1) (withoutRun s e (getD xs i ze
 
 -- out of the first record that holds it; 33 where none does
 unfoldable pub takenFrom : List AllocRec → ℕ → ℕ → Taken
-takenFrom xs s e = choose (ltb (firstIndex (holdsRun s e) xs) (length xs)) (takenAt xs (firstIndex (holdsRun s e) xs) s e)
+takenFrom xs s e = cond (ltb (firstIndex (holdsRun s e) xs) (length xs)) (takenAt xs (firstIndex (holdsRun s e) xs) s e)
     (takeRefused notFree)
 
 -- `take`: the run of len blocks from start taken out of the free extents. 34 above 64 records, 32 unless they are valid, 33 where
 -- start plus len is above 2^64 − 1
 unfoldable pub taken : FreeList → ℕ → ℕ → Taken
 taken l start len =
-    choose (ltb 64 (l .len)) (takeRefused tooManyRecords)
-    (choose (valid allocStart allocCount 0 (freeOf l))
-    (choose (ltb (start + len) (2 ^ 64)) (takenFrom (freeOf l) start (start + len)) (takeRefused notFree))
+    cond (ltb 64 (l .len)) (takeRefused tooManyRecords)
+    (cond (valid allocStart allocCount 0 (freeOf l))
+    (cond (ltb (start + len) (2 ^ 64)) (takenFrom (freeOf l) start (start + len)) (takeRefused notFree))
     (takeRefused notValid))
 
 -- ---- the record that the free list is taken from: a number and none, 0 and none, or 0 and one
@@ -96,7 +96,7 @@ choiceOf r = record { number = 0; found = true; rec = r }
 
 -- size p is less than size q, or they are equal and start s is lower than start t
 abbrev pub ahead : ℕ → ℕ → ℕ → ℕ → Bool
-ahead p q s t = choose (eqb p q) (ltb s t) (ltb p q)
+ahead p q s t = cond (eqb p q) (ltb s t) (ltb p q)
 
 -- a record with fewer blocks, or more, and the lower start where they have as many
 abbrev pub smaller : AllocRec → AllocRec → Bool
@@ -107,7 +107,7 @@ largerRecord a b = ahead (b .count) (a .count) (a .start) (b .start)
 
 -- r in the place of c where it passes a test, and wins over c or nothing is there
 abbrev pub next : Bool → Bool → Choice → AllocRec → Choice
-next passes wins c r = choose (both passes (choose (c .found) wins true)) (choiceOf r) c
+next passes wins c r = cond (passes && cond (c .found) wins true) (choiceOf r) c
 
 -- the better fit: a record that holds all still wanted, and is smaller
 unfoldable pub fitter : ℕ → Choice → AllocRec → Choice
@@ -119,8 +119,8 @@ bigger c r = next true (largerRecord r (c .rec)) c r
 
 -- the smallest record that holds all still wanted, else the largest; the lowest start on a tie
 unfoldable pub pickedFrom : ℕ → List AllocRec → Choice
-pickedFrom want xs = choose (fold (fitter want) noChoice xs .found) (fold (fitter want) noChoice xs) (fold bigger noChoice xs)
+pickedFrom want xs = cond (fold (fitter want) noChoice xs .found) (fold (fitter want) noChoice xs) (fold bigger noChoice xs)
 
 -- `pick`: 34 above 64 records
 unfoldable pub pickAnswer : FreeList → ℕ → Choice
-pickAnswer l want = choose (ltb 64 (l .len)) (unpicked tooManyRecords) (pickedFrom want (freeOf l))
+pickAnswer l want = cond (ltb 64 (l .len)) (unpicked tooManyRecords) (pickedFrom want (freeOf l))

@@ -1,7 +1,7 @@
 -- Laws of the held runs, for the loops over them.
 -- Assumes nothing.
 use mathlib.Core.Path.{_≡_, refl, sym, ap, _∙_}
-use mathlib.Core.Bool.{Bool, true, false}
+use mathlib.Core.Bool.{Bool, true, false, cond}
 use mathlib.Core.List.{List, [], _∷_, _++_, append-nil}
 use Prim.Native.Nat.{ℕ, suc, _+_, _-_, _≤_, _<_}
 use native.Mathlib.Omega.{arith}
@@ -10,7 +10,7 @@ use lib.Dec.{ltb}
 use lib.ListN.{length, getD, set, replicate, length-append, length-take}
 use lib.Seq.{slice, set-append-seam, append-snoc, take-append-seam}
 use Rattle.arith.proofs.Both.{left-true}
-use Rattle.seqs.specs.Lists.{choose, fold}
+use Rattle.seqs.specs.Lists.{fold}
 use Rattle.seqs.proofs.Laws.{rest-cons, rest-nil}
 use Rattle.btree.specs.declared.records.AllocRec.{AllocRec}
 use Rattle.geometry.specs.declared.Geometry.{Geometry}
@@ -43,8 +43,8 @@ added-not l r = refl
 -- ---- the runs on one side
 side-fold-at : (low : Bool) (a : ℕ) (xs : List AllocRec) (r : AllocRec) (rs : List AllocRec) (t : Bool) → startsOn low a r ≡ t
     → ((ys : List AllocRec) → length ys + length (side low a rs) ≤ 8 → fold (addedSide low a) (packHeld ys) rs ≡ packHeld (ys ++ side low a rs))
-    → length xs + length (choose t (r ∷ side low a rs) (side low a rs)) ≤ 8
-    → fold (addedSide low a) (addedIf t (packHeld xs) r) rs ≡ packHeld (xs ++ choose t (r ∷ side low a rs) (side low a rs))
+    → length xs + length (cond t (r ∷ side low a rs) (side low a rs)) ≤ 8
+    → fold (addedSide low a) (addedIf t (packHeld xs) r) rs ≡ packHeld (xs ++ cond t (r ∷ side low a rs) (side low a rs))
 side-fold-at low a xs r rs true e ih h =
     let n : length (xs ++ r ∷ []) ≡ length xs + 1 = simp length-append in
     rw (added-packed xs r (omega arith)) (ih (xs ++ r ∷ []) (omega arith) ∙ ap packHeld (append-snoc xs r (side low a rs)))
@@ -57,7 +57,7 @@ side-fold low a (r ∷ rs) xs h = side-fold-at low a xs r rs (startsOn low a r) 
 
 -- no run is on both sides
 sides-at : (a : ℕ) (r : AllocRec) (xs ys : List AllocRec) (k : ℕ) (x y : Bool) → ltb (r .start) a ≡ x → ltb a (r .start) ≡ y → length xs + length ys ≤ k
-    → length (choose x (r ∷ xs) xs) + length (choose y (r ∷ ys) ys) ≤ suc k
+    → length (cond x (r ∷ xs) xs) + length (cond y (r ∷ ys) ys) ≤ suc k
 sides-at a r xs ys k true true e f h =
     let u : r .start < a = ltb-true _ _ e in
     let v : a < r .start = ltb-true _ _ f in

@@ -1,12 +1,12 @@
 -- Runs held back from a group's free records: the state, its start, `hold` and `release`.
 -- Assumes nothing.
-use mathlib.Core.Bool.{Bool, true, false, _&&_}
+use mathlib.Core.Bool.{Bool, true, false, _&&_, cond}
 use mathlib.Core.List.{List, [], _∷_, _++_}
 use Prim.Native.Nat.{ℕ, _-_}
 use lib.Dec.{leb, ltb, eqb}
 use lib.ListN.{length, take, replicate}
 use Rattle.refusals.specs.Numbers.{noAnswer, tooManyRecords, notHoldable, notHeld}
-use Rattle.seqs.specs.Lists.{choose, fold}
+use Rattle.seqs.specs.Lists.{fold}
 use Rattle.btree.specs.declared.records.AllocRec.{AllocRec}
 use Rattle.geometry.specs.declared.Geometry.{Geometry}
 use Rattle.plan_free.specs.declared.FreeList.{FreeList}
@@ -39,16 +39,16 @@ isRun a n r = eqb (r .start) a && eqb (r .count) n
 -- one of the runs is that of n blocks from block a
 unfoldable pub anyRun : ℕ → ℕ → List AllocRec → Bool
 anyRun a n [] = false
-anyRun a n (r ∷ rs) = choose (isRun a n r) true (anyRun a n rs)
+anyRun a n (r ∷ rs) = cond (isRun a n r) true (anyRun a n rs)
 
 -- a run starts below block a, or above it
 unfoldable pub startsOn : Bool → ℕ → AllocRec → Bool
-startsOn low a r = choose low (ltb (r .start) a) (ltb a (r .start))
+startsOn low a r = cond low (ltb (r .start) a) (ltb a (r .start))
 
 -- the runs that start below block a, or those that start above it
 unfoldable pub side : Bool → ℕ → List AllocRec → List AllocRec
 side low a [] = []
-side low a (r ∷ rs) = choose (startsOn low a r) (r ∷ side low a rs) (side low a rs)
+side low a (r ∷ rs) = cond (startsOn low a r) (r ∷ side low a rs) (side low a rs)
 
 -- a run put between those that start below it and those that start above; the runs that don't start at block a
 abbrev pub putRun : AllocRec → List AllocRec → List AllocRec
@@ -72,15 +72,15 @@ heldAs s = record { number = 0; state = s }
 -- `start`: 31, 29, 25, or the plan's free records and nothing held
 unfoldable pub started : Geometry → ℕ → Held
 started g k =
-    choose (eqb (planned g k .number) 0)
+    cond (eqb (planned g k .number) 0)
     (heldAs (record { agno = k; free = planned g k .plan .free; held = packHeld [] }))
     (holdRefused (planned g k .number))
 
 -- a run taken out of the free records and put to those held: 42 where it is empty or not wholly free, then 34 where eight are held
 unfoldable pub heldWith : Holds → ℕ → ℕ → Held
 heldWith s a n =
-    choose (ltb 0 n && eqb (taken (s .free) a n .number) 0)
-    (choose (ltb (s .held .len) 8)
+    cond (ltb 0 n && eqb (taken (s .free) a n .number) 0)
+    (cond (ltb (s .held .len) 8)
     (heldAs (record { agno = s .agno; free = taken (s .free) a n .list; held = packHeld (putRun (blockRun a n) (heldOf (s .held))) }))
     (holdRefused tooManyRecords))
     (holdRefused notHoldable)
@@ -89,7 +89,7 @@ heldWith s a n =
 
 -- the next run held; a refusal stays
 unfoldable pub heldNext : Held → AllocRec → Held
-heldNext t r = choose (eqb (t .number) 0) (heldWith (t .state) (r .start) (r .count)) t
+heldNext t r = cond (eqb (t .number) 0) (heldWith (t .state) (r .start) (r .count)) t
 
 unfoldable pub replayed : Geometry → ℕ → List AllocRec → Held
 replayed g k rs = fold heldNext (started g k) rs
@@ -109,11 +109,11 @@ isState g s =
 
 -- `hold`: 31, then what holding the run gives
 unfoldable pub holdDef : Geometry → Holds → ℕ → ℕ → Held
-holdDef g s a n = choose (isState g s) (heldWith s a n) (holdRefused noAnswer)
+holdDef g s a n = cond (isState g s) (heldWith s a n) (holdRefused noAnswer)
 
 -- `release`: 31, then 43 where no run of this start and length is held; else the state in which the others are held
 unfoldable pub releaseDef : Geometry → Holds → ℕ → ℕ → Held
 releaseDef g s a n =
-    choose (isState g s)
-    (choose (anyRun a n (heldOf (s .held))) (replayed g (s .agno) (dropRun a (heldOf (s .held)))) (holdRefused notHeld))
+    cond (isState g s)
+    (cond (anyRun a n (heldOf (s .held))) (replayed g (s .agno) (dropRun a (heldOf (s .held)))) (holdRefused notHeld))
     (holdRefused noAnswer)

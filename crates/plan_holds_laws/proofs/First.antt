@@ -1,7 +1,7 @@
 -- The first state of a planned group: a plan's free records are maximal runs, at most two.
 -- Assumes nothing.
 use mathlib.Core.Path.{_≡_, refl, sym, ap, _∙_}
-use mathlib.Core.Bool.{Bool, true, false}
+use mathlib.Core.Bool.{Bool, true, false, cond}
 use mathlib.Core.List.{List, [], _∷_, _++_}
 use Prim.Native.Nat.{ℕ, _+_, _-_, _≤_, _<_, _^_}
 use native.Mathlib.Nat.{add-zero}
@@ -9,7 +9,6 @@ use native.Mathlib.Omega.{arith}
 use borrow.Author.Tests.{ltb-true, eq-eqb}
 use lib.Dec.{ltb}
 use lib.ListN.{length}
-use Rattle.seqs.specs.Lists.{choose}
 use Rattle.seqs.specs.Runs.{valid, weigh}
 use Rattle.seqs.proofs.Laws.{choose-elim}
 use Rattle.btree.specs.declared.records.AllocRec.{AllocRec}
@@ -38,12 +37,12 @@ pub record Few (rs : List AllocRec) : Type 0 where
   pub separate : Separate 0 rs
   pub count : length rs ≤ 2
 
-gap-few-at : (a b : ℕ) → b < 2 ^ 32 → (x : Bool) → ltb a b ≡ x → Few (choose x (record { start = a; count = b - a } ∷ []) [])
+gap-few-at : (a b : ℕ) → b < 2 ^ 32 → (x : Bool) → ltb a b ≡ x → Few (cond x (record { start = a; count = b - a } ∷ []) [])
 gap-few-at a b k true e = let u : a < b = ltb-true _ _ e in record { separate = (omega arith, omega arith, omega arith, tt); count = omega arith }
 gap-few-at a b k false e = record { separate = tt; count = omega arith }
 
 gaps-few-at : (a b c d : ℕ) → b < c → b < 2 ^ 32 → d < 2 ^ 32 → (x y : Bool) → ltb a b ≡ x → ltb c d ≡ y
-    → Few (choose x (record { start = a; count = b - a } ∷ []) [] ++ choose y (record { start = c; count = d - c } ∷ []) [])
+    → Few (cond x (record { start = a; count = b - a } ∷ []) [] ++ cond y (record { start = c; count = d - c } ∷ []) [])
 gaps-few-at a b c d h k m true true e f =
     let u : a < b = ltb-true _ _ e in
     let v : c < d = ltb-true _ _ f in

@@ -1,7 +1,7 @@
 -- The held list with a run put in by its start, and without one.
 -- Assumes nothing.
 use mathlib.Core.Path.{_≡_, refl, ap}
-use mathlib.Core.Bool.{Bool, true, false}
+use mathlib.Core.Bool.{Bool, true, false, cond}
 use mathlib.Core.List.{List, [], _∷_, _++_}
 use mathlib.Core.Logic.{⊎-elim}
 use Prim.Native.Nat.{ℕ, suc, _+_, _≤_, _<_, _^_}
@@ -10,7 +10,7 @@ use borrow.Author.Tests.{ltb-true, ltb-false, lt-ltb, le-ltb, eqb-true}
 use lib.Dec.{ltb, eqb}
 use lib.ListN.{length}
 use Rattle.arith.proofs.Both.{left-true, right-true}
-use Rattle.seqs.specs.Lists.{choose, total}
+use Rattle.seqs.specs.Lists.{total}
 use Rattle.seqs.specs.Runs.{valid, weigh, has}
 use Rattle.seqs.proofs.Laws.{never, lt-or-le}
 use Rattle.seqs.proofs.Parts.{Follows, valid-uncons, valid-cons, valid-lower}
@@ -76,7 +76,7 @@ module _ (r : AllocRec) (some : 0 < r .count) (high : allocEnd r < 2 ^ 32) where
       → ((b : ℕ) → r .start ≤ b → b < allocEnd r → holding b (x ∷ xs) ≡ 0)
       → (allocEnd x ≤ r .start → PutOk (allocEnd x) r xs (putRun r xs))
       → (p q : Bool) → ltb (x .start) (r .start) ≡ p → ltb (r .start) (x .start) ≡ q
-      → PutOk lo r (x ∷ xs) (choose p (x ∷ side true (r .start) xs) (side true (r .start) xs) ++ (r ∷ choose q (x ∷ side false (r .start) xs) (side false (r .start) xs)))
+      → PutOk lo r (x ∷ xs) (cond p (x ∷ side true (r .start) xs) (side true (r .start) xs) ++ (r ∷ cond q (x ∷ side false (r .start) xs) (side false (r .start) xs)))
   put-at lo x xs f v h z ih true true e k =
       let u : x .start < r .start = ltb-true _ _ e in let w : r .start < x .start = ltb-true _ _ k in absurd (omega arith)
   put-at lo x xs f v h z ih true false e k =
@@ -133,7 +133,7 @@ put-last lo (x ∷ xs) y ys v =
 pub is-run-facts : (a n : ℕ) (x : AllocRec) → isRun a n x ≡ true → x ≡ blockRun a n
 is-run-facts a n x e = rw (eqb-true (x .start) a (left-true _ _ e), eqb-true (x .count) n (right-true (eqb (x .start) a) _ e)) refl
 
-any-after-at : (a n lo : ℕ) (x : AllocRec) (xs : List AllocRec) → Follows lo (x .start) (x .count) → (anyRun a n xs ≡ true → allocEnd x ≤ a) → (t : Bool) → isRun a n x ≡ t → choose t true (anyRun a n xs) ≡ true → lo ≤ a
+any-after-at : (a n lo : ℕ) (x : AllocRec) (xs : List AllocRec) → Follows lo (x .start) (x .count) → (anyRun a n xs ≡ true → allocEnd x ≤ a) → (t : Bool) → isRun a n x ≡ t → cond t true (anyRun a n xs) ≡ true → lo ≤ a
 any-after-at a n lo x xs f ih true e v = let l = f .low in let s : x .start ≡ a = ap (λ (r : AllocRec). r .start) (is-run-facts a n x e) in omega arith
 any-after-at a n lo x xs f ih false e v = let l = f .low in let m = ih v in omega arith
 
@@ -145,7 +145,7 @@ any-after a n lo (x ∷ xs) v e =
     any-after-at a n lo x xs (u .0) (any-after a n (allocEnd x) xs (u .1)) (isRun a n x) refl e
 
 drop-at : (a n lo : ℕ) (x : AllocRec) (xs : List AllocRec) → Follows lo (x .start) (x .count) → valid allocStart allocCount (allocEnd x) xs ≡ true
-    → (anyRun a n xs ≡ true → Ins (blockRun a n) (dropRun a xs) xs) → (t : Bool) → isRun a n x ≡ t → choose t true (anyRun a n xs) ≡ true → Ins (blockRun a n) (dropRun a (x ∷ xs)) (x ∷ xs)
+    → (anyRun a n xs ≡ true → Ins (blockRun a n) (dropRun a xs) xs) → (t : Bool) → isRun a n x ≡ t → cond t true (anyRun a n xs) ≡ true → Ins (blockRun a n) (dropRun a (x ∷ xs)) (x ∷ xs)
 unfolding side startsOn
 drop-at a n lo x xs f v ih true e k =
     let p = is-run-facts a n x e in

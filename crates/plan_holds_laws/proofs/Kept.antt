@@ -1,7 +1,7 @@
 -- What every state that calls leave keeps, and that it is all that a state has to have.
 -- Assumes nothing.
 use mathlib.Core.Path.{_≡_, refl, sym, subst, ap, _∙_}
-use mathlib.Core.Bool.{Bool, true, false, _&&_}
+use mathlib.Core.Bool.{Bool, true, false, _&&_, cond}
 use mathlib.Core.List.{List, [], _∷_, _++_, append-nil}
 use Prim.Native.Nat.{ℕ, suc, _+_, _≤_, _<_}
 use native.Mathlib.Omega.{arith}
@@ -11,7 +11,7 @@ use lib.ListN.{length, length-append}
 use lib.Seq.{append-snoc}
 use Rattle.refusals.specs.Numbers.{notHoldable, tooManyRecords}
 use Rattle.arith.proofs.Both.{left-true, right-true}
-use Rattle.seqs.specs.Lists.{choose, fold}
+use Rattle.seqs.specs.Lists.{fold}
 use Rattle.seqs.specs.Runs.{valid, has}
 use Rattle.seqs.proofs.Laws.{never}
 use Rattle.seqs.proofs.Parts.{ended, valid-uncons, valid-unjoin}
@@ -56,7 +56,7 @@ pub held-with : (s : Holds) (a n : ℕ) → Holdable s a n → heldWith s a n �
 unfolding heldWith
 held-with s a n h = rw (lt-ltb 0 n (h .some), eq-eqb _ 0 (h .free), lt-ltb _ 8 (h .few))
 
-holdable-at : (x y : Bool) (t : Held) → t .number ≡ 0 → choose x (choose y t (holdRefused tooManyRecords)) (holdRefused notHoldable) .number ≡ 0 → (x ≡ true) × (y ≡ true)
+holdable-at : (x y : Bool) (t : Held) → t .number ≡ 0 → cond x (cond y t (holdRefused tooManyRecords)) (holdRefused notHoldable) .number ≡ 0 → (x ≡ true) × (y ≡ true)
 holdable-at true true t e f = (refl, refl)
 holdable-at true false t e f = absurd (omega arith)
 holdable-at false y t e f = absurd (omega arith)

@@ -1,7 +1,7 @@
 -- What any calls leave, and which states some calls leave.
 -- Assumes nothing.
 use mathlib.Core.Path.{_≡_, refl, sym, subst, ap, _∙_}
-use mathlib.Core.Bool.{Bool, true, false, _&&_}
+use mathlib.Core.Bool.{Bool, true, false, _&&_, cond}
 use mathlib.Core.List.{List, [], _∷_, _++_, append-nil}
 use mathlib.Core.Logic.{_↔_, ⊎-elim}
 use Prim.Native.Nat.{ℕ, _+_, _≤_, _<_}
@@ -11,7 +11,7 @@ use lib.Dec.{eqb}
 use lib.ListN.{length}
 use lib.Seq.{append-snoc}
 use Rattle.refusals.specs.Numbers.{notHeld}
-use Rattle.seqs.specs.Lists.{choose, fold, total}
+use Rattle.seqs.specs.Lists.{fold, total}
 use Rattle.seqs.specs.Runs.{valid, has, runLength, weigh}
 use Rattle.seqs.proofs.Laws.{lt-or-le}
 use Rattle.seqs.proofs.Weights.{additive-has, additive-blocks}
@@ -45,10 +45,10 @@ and-false : (x : Bool) → (x && false) ≡ false
 and-false true = refl
 and-false false = refl
 
-answer-at : (t : Held) (x : Bool) (s : Holds) → eqb (t .number) 0 ≡ x → choose (eqb (t .number) 0) (t .state) s ≡ choose x (t .state) s
+answer-at : (t : Held) (x : Bool) (s : Holds) → eqb (t .number) 0 ≡ x → cond (eqb (t .number) 0) (t .state) s ≡ cond x (t .state) s
 answer-at t x s e = rw e
 
-held-at : (x : Bool) (t : Held) (n : ℕ) → 0 < n → choose x t (holdRefused n) .number ≡ 0 → x ≡ true
+held-at : (x : Bool) (t : Held) (n : ℕ) → 0 < n → cond x t (holdRefused n) .number ≡ 0 → x ≡ true
 held-at true t n h e = refl
 held-at false t n h e = absurd (omega arith)
 
@@ -57,7 +57,7 @@ held-at false t n h e = absurd (omega arith)
 pub record Moves (g : Geometry) (k : ℕ) (hs : List AllocRec) (s : Holds) (c : Call) : Type 0 where
   pub runs : List AllocRec
   pub kept : Kept g k runs (stateStepped g s c)
-  pub moved : (a n : ℕ) → times a n runs + choose (releasesIt a n c && eqb (answerTo g s c .number) 0) 1 0 ≡ times a n hs + choose (holdsIt a n c && eqb (answerTo g s c .number) 0) 1 0
+  pub moved : (a n : ℕ) → times a n runs + cond (releasesIt a n c && eqb (answerTo g s c .number) 0) 1 0 ≡ times a n hs + cond (holdsIt a n c && eqb (answerTo g s c .number) 0) 1 0
 
 module _ (g : Geometry) (l : length (g .label) ≡ 12) (k : ℕ) (q : planned g k .number ≡ 0) where
   pub kept-passes : (hs : List AllocRec) (s : Holds) → Kept g k hs s → isState g s ≡ true
@@ -67,7 +67,7 @@ module _ (g : Geometry) (l : length (g .label) ≡ 12) (k : ℕ) (q : planned g 
   unfolding holdDef
   hold-is hs s p a n = rw (kept-passes hs s p)
 
-  pub release-is : (hs : List AllocRec) (s : Holds) → Kept g k hs s → (a n : ℕ) → releaseDef g s a n ≡ choose (anyRun a n hs) (replayed g k (dropRun a hs)) (holdRefused notHeld)
+  pub release-is : (hs : List AllocRec) (s : Holds) → Kept g k hs s → (a n : ℕ) → releaseDef g s a n ≡ cond (anyRun a n hs) (replayed g k (dropRun a hs)) (holdRefused notHeld)
   unfolding releaseDef
   release-is hs s p a n = rw (kept-passes hs s p, kept-runs g k hs s p, p .group)
 
@@ -101,7 +101,7 @@ module _ (g : Geometry) (l : length (g .label) ≡ 12) (k : ℕ) (q : planned g 
       record {
         runs = putRun (blockRun a n) hs;
         kept = rw w (step-kept g k d hs s p a n h);
-        moved = λ b c. let t = ins-total (λ r. choose (isRun b c r) 1 0) (blockRun a n) hs (putRun (blockRun a n) hs) y in rw (e, and-true (holdsIt b c (hold a n))) (omega arith);
+        moved = λ b c. let t = ins-total (λ r. cond (isRun b c r) 1 0) (blockRun a n) hs (putRun (blockRun a n) hs) y in rw (e, and-true (holdsIt b c (hold a n))) (omega arith);
       }
 
   given-moves : (hs : List AllocRec) (s : Holds) → Kept g k hs s → (a n : ℕ) → eqb (answerTo g s (release a n) .number) 0 ≡ true → Moves g k hs s (release a n)
@@ -112,11 +112,11 @@ module _ (g : Geometry) (l : length (g .label) ≡ 12) (k : ℕ) (q : planned g 
       let x = held-at (anyRun a n hs) (replayed g k (dropRun a hs)) notHeld (omega arith) m in
       let y = drop-ins a n 0 hs (p .sorted) x in
       let r = gives-back hs s p a n x in
-      let w : releaseDef g s a n ≡ heldAs (r .0) = z ∙ ap (λ (t : Bool). choose t (replayed g k (dropRun a hs)) (holdRefused notHeld)) x ∙ r .1 .0 in
+      let w : releaseDef g s a n ≡ heldAs (r .0) = z ∙ ap (λ (t : Bool). cond t (replayed g k (dropRun a hs)) (holdRefused notHeld)) x ∙ r .1 .0 in
       record {
         runs = dropRun a hs;
         kept = rw w (r .1 .1);
-        moved = λ b c. let t = ins-total (λ r. choose (isRun b c r) 1 0) (blockRun a n) (dropRun a hs) hs y in rw (e, and-true (releasesIt b c (release a n))) (omega arith);
+        moved = λ b c. let t = ins-total (λ r. cond (isRun b c r) 1 0) (blockRun a n) (dropRun a hs) hs y in rw (e, and-true (releasesIt b c (release a n))) (omega arith);
       }
 
   moves-at : (hs : List AllocRec) (s : Holds) → Kept g k hs s → (c : Call) (x : Bool) → eqb (answerTo g s c .number) 0 ≡ x → Moves g k hs s c

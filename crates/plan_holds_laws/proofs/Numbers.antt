@@ -1,7 +1,7 @@
 -- Which number `hold` and `release` give, exactly where.
 -- Assumes nothing.
 use mathlib.Core.Path.{_≡_, refl, sym, ap, _∙_}
-use mathlib.Core.Bool.{Bool, true, false, _&&_}
+use mathlib.Core.Bool.{Bool, true, false, _&&_, cond}
 use mathlib.Core.List.{List, [], _∷_}
 use mathlib.Core.Logic.{_↔_}
 use Prim.Native.Nat.{ℕ, _+_, _≤_, _<_}
@@ -11,7 +11,7 @@ use lib.Dec.{ltb, eqb}
 use lib.ListN.{length}
 use Rattle.refusals.specs.Numbers.{noAnswer, notHeld, notHoldable, tooManyRecords}
 use Rattle.arith.proofs.Both.{left-true, right-true, both-true}
-use Rattle.seqs.specs.Lists.{choose, total}
+use Rattle.seqs.specs.Lists.{total}
 use Rattle.seqs.proofs.Laws.{never}
 use Rattle.btree.specs.declared.records.AllocRec.{AllocRec}
 use Rattle.geometry.specs.declared.Geometry.{Geometry}
@@ -28,7 +28,7 @@ use Rattle.plan_holds_laws.proofs.Exactly.{passed-keeps}
 use Rattle.plan_holds_laws.proofs.Left.{hold-is, release-is, gives-back, passed-reached, reached-passed}
 
 -- ---- the numbers of a choice
-held-number : (x y : Bool) (t : Held) → t .number ≡ 0 → choose x (choose y t (holdRefused tooManyRecords)) (holdRefused notHoldable) .number ≡ choose x (choose y 0 tooManyRecords) notHoldable
+held-number : (x y : Bool) (t : Held) → t .number ≡ 0 → cond x (cond y t (holdRefused tooManyRecords)) (holdRefused notHoldable) .number ≡ cond x (cond y 0 tooManyRecords) notHoldable
 held-number true true t e = e
 held-number true false t e = refl
 held-number false y t e = refl
@@ -40,7 +40,7 @@ pub record Cases (num m : ℕ) (w : Type 0) : Type 0 where
   pub full : (num ≡ tooManyRecords) ↔ (w × (m ≡ 8))
   pub held : (num ≡ 0) ↔ (w × (m < 8))
 
-cases-at : (num m : ℕ) (w : Type 0) (x y : Bool) → num ≡ choose x (choose y 0 tooManyRecords) notHoldable → (x ≡ true → w) → (w → x ≡ true) → ltb m 8 ≡ y → m ≤ 8 → Cases num m w
+cases-at : (num m : ℕ) (w : Type 0) (x y : Bool) → num ≡ cond x (cond y 0 tooManyRecords) notHoldable → (x ≡ true → w) → (w → x ≡ true) → ltb m 8 ≡ y → m ≤ 8 → Cases num m w
 cases-at num m w true true e f h q k =
     let u : m < 8 = ltb-true _ _ q in
     record {
@@ -107,7 +107,7 @@ module _ (g : Geometry) (l : length (g .label) ≡ 12) (s : Holds) (a n : ℕ) w
   unknown-release e = rw e
 
 -- a run is there exactly where it is there some times
-any-times-at : (a n m : ℕ) (t u : Bool) → (u ≡ true → 0 < m) → (u ≡ false → m ≡ 0) → (choose t true u ≡ true → 0 < choose t 1 0 + m) × (choose t true u ≡ false → choose t 1 0 + m ≡ 0)
+any-times-at : (a n m : ℕ) (t u : Bool) → (u ≡ true → 0 < m) → (u ≡ false → m ≡ 0) → (cond t true u ≡ true → 0 < cond t 1 0 + m) × (cond t true u ≡ false → cond t 1 0 + m ≡ 0)
 any-times-at a n m true u f h = (λ e. omega arith, λ e. never (sym e))
 any-times-at a n m false u f h = (λ e. let v = f e in omega arith, λ e. let v = h e in omega arith)
 
@@ -137,8 +137,8 @@ module _ (g : Geometry) (l : length (g .label) ≡ 12) (s : Holds) (a n : ℕ) w
       let i = any-times a n hs in
       let z = release-is g l k q hs s p a n in
       given-at (releaseDef g s a n .number) (times a n hs) (anyRun a n hs)
-      (λ t. ap (λ (h : Held). h .number) (z ∙ ap (λ (x : Bool). choose x (replayed g k (dropRun a hs)) (holdRefused notHeld)) t ∙ gives-back g l k q hs s p a n t .1 .0))
-      (λ t. ap (λ (h : Held). h .number) (z ∙ ap (λ (x : Bool). choose x (replayed g k (dropRun a hs)) (holdRefused notHeld)) t))
+      (λ t. ap (λ (h : Held). h .number) (z ∙ ap (λ (x : Bool). cond x (replayed g k (dropRun a hs)) (holdRefused notHeld)) t ∙ gives-back g l k q hs s p a n t .1 .0))
+      (λ t. ap (λ (h : Held). h .number) (z ∙ ap (λ (x : Bool). cond x (replayed g k (dropRun a hs)) (holdRefused notHeld)) t))
       (i .0)
       (i .1)
 

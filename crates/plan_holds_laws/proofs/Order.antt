@@ -1,14 +1,14 @@
 -- The order of calls doesn't matter for the state that they leave.
 -- Assumes nothing.
 use mathlib.Core.Path.{_≡_, refl, sym, subst, ap}
-use mathlib.Core.Bool.{Bool, true, false}
+use mathlib.Core.Bool.{Bool, true, false, cond}
 use mathlib.Core.List.{List, [], _∷_}
 use mathlib.Core.Logic.{_⊎_, inl, inr, ⊎-elim}
 use Prim.Native.Nat.{ℕ, _+_, _≤_, _<_}
 use native.Mathlib.Omega.{arith}
 use borrow.Author.Tests.{eq-eqb}
 use lib.ListN.{length}
-use Rattle.seqs.specs.Lists.{choose, total}
+use Rattle.seqs.specs.Lists.{total}
 use Rattle.seqs.specs.Runs.{valid}
 use Rattle.seqs.proofs.Parts.{Follows, valid-uncons}
 use Rattle.btree.specs.declared.records.AllocRec.{AllocRec}
@@ -24,11 +24,11 @@ use Rattle.plan_holds_laws.proofs.First.{plan-separate}
 use Rattle.plan_holds_laws.proofs.Left.{from-start}
 
 -- ---- how often a sorted list has each run fixes it
-first-or-later : (a n : ℕ) (x : AllocRec) (m : ℕ) (t : Bool) → isRun a n x ≡ t → 0 < choose t 1 0 + m → (x ≡ blockRun a n) ⊎ (0 < m)
+first-or-later : (a n : ℕ) (x : AllocRec) (m : ℕ) (t : Bool) → isRun a n x ≡ t → 0 < cond t 1 0 + m → (x ≡ blockRun a n) ⊎ (0 < m)
 first-or-later a n x m true e h = inl (is-run-facts a n x e)
 first-or-later a n x m false e h = inr (omega arith)
 
-times-cons : (a n : ℕ) (x : AllocRec) (xs : List AllocRec) → times a n (x ∷ xs) ≡ choose (isRun a n x) 1 0 + times a n xs
+times-cons : (a n : ℕ) (x : AllocRec) (xs : List AllocRec) → times a n (x ∷ xs) ≡ cond (isRun a n x) 1 0 + times a n xs
 unfolding total
 times-cons a n x xs = refl
 
@@ -51,7 +51,7 @@ times-itself : (x : AllocRec) (xs : List AllocRec) → 0 < times (x .start) (x .
 times-itself x xs =
     let c = times-cons (x .start) (x .count) x xs in
     let e : isRun (x .start) (x .count) x ≡ true = rw (eq-eqb (x .start) (x .start) refl, eq-eqb (x .count) (x .count) refl) refl in
-    let d : choose {A = ℕ} (isRun (x .start) (x .count) x) 1 0 ≡ 1 = ap (λ (t : Bool). choose t 1 0) e in
+    let d : cond {A = ℕ} (isRun (x .start) (x .count) x) 1 0 ≡ 1 = ap (λ (t : Bool). cond t 1 0) e in
     omega arith
 
 module _ (x y : AllocRec) (ys : List AllocRec) (lo : ℕ) (v : valid allocStart allocCount lo (y ∷ ys) ≡ true) where
@@ -84,7 +84,7 @@ times-same lo lo′ (x ∷ xs) (y ∷ ys) v w e =
     (λ a n. let k = e a n in
     let f = times-cons a n x xs in
     let h = times-cons a n y ys in
-    let o : choose {A = ℕ} (isRun a n x) 1 0 ≡ choose (isRun a n y) 1 0 = ap (λ (s : AllocRec). choose (isRun a n s) 1 0) p in
+    let o : cond {A = ℕ} (isRun a n x) 1 0 ≡ cond (isRun a n y) 1 0 = ap (λ (s : AllocRec). cond (isRun a n s) 1 0) p in
     omega arith) in
     rw (p, z) refl
 

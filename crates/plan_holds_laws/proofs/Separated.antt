@@ -1,7 +1,7 @@
 -- Lists of runs with a block at least between any two: the blocks that they have fix them, and `take` leaves such a list.
 -- Assumes nothing.
 use mathlib.Core.Path.{_≡_, refl, sym, ap, _∙_}
-use mathlib.Core.Bool.{Bool, true, false}
+use mathlib.Core.Bool.{Bool, true, false, cond}
 use mathlib.Core.List.{List, [], _∷_, _++_, List·Memᴰ·head, List·Memᴰ·tail}
 use mathlib.Core.Logic.{⊎-elim}
 use Prim.Native.Nat.{ℕ, _+_, _-_, _≤_, _<_, _^_}
@@ -11,7 +11,6 @@ use borrow.Author.Tests.{ltb-true}
 use lib.Dec.{ltb}
 use lib.ListN.{length, take, drop, getD}
 use lib.Seq.{split-at}
-use Rattle.seqs.specs.Lists.{choose}
 use Rattle.seqs.specs.Runs.{valid, weigh, has}
 use Rattle.seqs.proofs.Laws.{lt-or-le, length-put}
 use Rattle.seqs.proofs.Parts.{valid-cons, valid-lower}
@@ -129,7 +128,7 @@ one-holds lo (x ∷ xs) s a n h f none =
 -- ---- `take` leaves such a list
 module _ (lo s e : ℕ) (r : AllocRec) (zs : List AllocRec) (low : lo ≤ r .start) (h : r .start ≤ s) (k : s < e) (m : e ≤ allocEnd r) (high : allocEnd r < 2 ^ 32) (t : Separate (allocEnd r + 1) zs) where
   cut-at : (x y : Bool) → ltb (r .start) s ≡ x → ltb e (allocEnd r) ≡ y
-      → Separate lo ((choose x (record { start = r .start; count = s - r .start } ∷ []) [] ++ choose y (record { start = e; count = allocEnd r - e } ∷ []) []) ++ zs)
+      → Separate lo ((cond x (record { start = r .start; count = s - r .start } ∷ []) [] ++ cond y (record { start = e; count = allocEnd r - e } ∷ []) []) ++ zs)
   cut-at true true p q =
       let u : r .start < s = ltb-true _ _ p in
       let v : e < allocEnd r = ltb-true _ _ q in
@@ -150,7 +149,7 @@ splice-separate : (lo s e : ℕ) (ys : List AllocRec) (r : AllocRec) (zs : List 
 splice-separate lo s e [] r zs p h k m = cut-separate lo s e r zs (p .0) h k m (p .2) (p .3)
 splice-separate lo s e (y ∷ ys) r zs p h k m = (p .0, p .1, p .2, splice-separate (allocEnd y + 1) s e ys r zs (p .3) h k m)
 
-cut-few-at : (r p q : AllocRec) (x y : Bool) → length (choose x (p ∷ []) [] ++ choose y (q ∷ []) []) ≤ 2
+cut-few-at : (r p q : AllocRec) (x y : Bool) → length (cond x (p ∷ []) [] ++ cond y (q ∷ []) []) ≤ 2
 cut-few-at r p q true true = omega arith
 cut-few-at r p q true false = omega arith
 cut-few-at r p q false true = omega arith

@@ -1,13 +1,13 @@
 -- Any calls, one after the other, and what holds of the state that they leave.
 -- Assumes nothing.
 use mathlib.Core.Path.{_≡_}
-use mathlib.Core.Bool.{Bool, true, false, _&&_}
+use mathlib.Core.Bool.{Bool, true, false, _&&_, cond}
 use mathlib.Core.List.{List, [], _∷_}
 use mathlib.Core.Logic.{_↔_}
 use Prim.Native.Nat.{ℕ, _+_, _-_, _≤_, _<_, _^_}
 use lib.Dec.{eqb}
 use Rattle.refusals.specs.Numbers.{noAnswer, tooManyRecords, notHoldable, notHeld}
-use Rattle.seqs.specs.Lists.{choose, fold, total}
+use Rattle.seqs.specs.Lists.{fold, total}
 use Rattle.seqs.specs.Runs.{valid}
 use Rattle.btree.specs.declared.records.AllocRec.{AllocRec}
 use Rattle.geometry.specs.declared.Geometry.{Geometry}
@@ -32,7 +32,7 @@ answerTo g s (release a n) = releaseDef g s a n
 
 -- the state after a call: a refused one leaves it as it is
 unfoldable pub stateStepped : Geometry → Holds → Call → Holds
-stateStepped g s c = choose (eqb (answerTo g s c .number) 0) (answerTo g s c .state) s
+stateStepped g s c = cond (eqb (answerTo g s c .number) 0) (answerTo g s c .state) s
 
 -- the state after calls, one after the other
 unfoldable pub afterCalls : Geometry → Holds → List Call → Holds
@@ -53,7 +53,7 @@ releasesIt a n (release b m) = eqb b a && eqb m n
 
 unfoldable pub timesCalled : (Call → Bool) → Geometry → Holds → List Call → ℕ
 timesCalled p g s [] = 0
-timesCalled p g s (c ∷ cs) = choose (p c && eqb (answerTo g s c .number) 0) 1 0 + timesCalled p g (stateStepped g s c) cs
+timesCalled p g s (c ∷ cs) = cond (p c && eqb (answerTo g s c .number) 0) 1 0 + timesCalled p g (stateStepped g s c) cs
 
 abbrev pub timesHeld : Geometry → ℕ → List Call → ℕ → ℕ → ℕ
 timesHeld g k cs a n = timesCalled (holdsIt a n) g (firstOf g k) cs
@@ -63,7 +63,7 @@ timesGiven g k cs a n = timesCalled (releasesIt a n) g (firstOf g k) cs
 
 -- how often a list has the run of n blocks from a
 abbrev pub times : ℕ → ℕ → List AllocRec → ℕ
-times a n rs = total (λ r. choose (isRun a n r) 1 0) rs
+times a n rs = total (λ r. cond (isRun a n r) 1 0) rs
 
 -- ---- runs of blocks
 

@@ -1,12 +1,12 @@
 -- Rising, falling, and first even then odd are orders in which each group is taken once.
 -- Assumes nothing.
 use mathlib.Core.Path.{_≡_, refl, sym, ap, _∙_}
-use mathlib.Core.Bool.{Bool, true, false, not}
+use mathlib.Core.Bool.{Bool, true, false, not, cond}
 use mathlib.Core.List.{List, [], _∷_, _++_, Perm, Perm·refl, Perm·cons, Perm·trans, Perm·symm, perm-middle, perm-append-singleton}
 use Prim.Native.Nat.{ℕ, zero, suc, _+_}
 use native.Mathlib.Omega.{arith}
 use lib.ListN.{length, take}
-use Rattle.seqs.specs.Lists.{choose, upFrom}
+use Rattle.seqs.specs.Lists.{upFrom}
 use Rattle.plan_orders.specs.Orders.{risingGroups, fallingGroups, groupsPassing, isEven, evenThenOdd, Order}
 
 pub rising-once : (n : ℕ) → Order n (risingGroups n)
@@ -50,7 +50,7 @@ falling-whole n = ap (λ (m : ℕ). take m (fallingGroups n)) (sym (falling-leng
 -- ---- even and odd
 
 -- those that pass a test, and then those that don't
-parted-at : (t : Bool) (k : ℕ) (xs ys ks : List ℕ) → Perm (xs ++ ys) ks → Perm (choose t (k ∷ xs) xs ++ choose (not t) (k ∷ ys) ys) (k ∷ ks)
+parted-at : (t : Bool) (k : ℕ) (xs ys ks : List ℕ) → Perm (xs ++ ys) ks → Perm (cond t (k ∷ xs) xs ++ cond (not t) (k ∷ ys) ys) (k ∷ ks)
 parted-at true k xs ys ks p = Perm·cons k p
 parted-at false k xs ys ks p = Perm·trans (perm-middle {a = k} xs ys) (Perm·cons k p)
 

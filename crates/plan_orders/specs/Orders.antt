@@ -1,12 +1,12 @@
 -- Sums over the groups of a disk, added one after the other in an order in which each group is taken once.
 -- Assumes nothing.
 use mathlib.Core.Path.{_≡_}
-use mathlib.Core.Bool.{Bool, not}
+use mathlib.Core.Bool.{Bool, not, cond}
 use mathlib.Core.List.{List, [], _∷_, _++_, Perm}
 use Prim.Native.Nat.{ℕ, zero, suc, _+_, _%_, _^_, _<_}
 use lib.Dec.{eqb}
 use lib.ListN.{take}
-use Rattle.seqs.specs.Lists.{choose, fold, upFrom}
+use Rattle.seqs.specs.Lists.{fold, upFrom}
 use Rattle.geometry.specs.declared.Geometry.{Geometry}
 use Rattle.plan.specs.Plan.{planned}
 use Rattle.plan_totals.specs.declared.Total.{Total}
@@ -26,7 +26,7 @@ fallingGroups (suc n) = n ∷ fallingGroups n
 -- the groups that pass a test, in the order that they had
 unfoldable pub groupsPassing : (ℕ → Bool) → List ℕ → List ℕ
 groupsPassing p [] = []
-groupsPassing p (k ∷ ks) = choose (p k) (k ∷ groupsPassing p ks) (groupsPassing p ks)
+groupsPassing p (k ∷ ks) = cond (p k) (k ∷ groupsPassing p ks) (groupsPassing p ks)
 
 abbrev pub isEven : ℕ → Bool
 isEven k = eqb (k % 2) 0

@@ -1,7 +1,7 @@
 -- Laws of `rmap_insert`.
 -- Assumes nothing.
 use mathlib.Core.Path.{_≡_, sym, _∙_}
-use mathlib.Core.Bool.{true, false}
+use mathlib.Core.Bool.{true, false, _&&_}
 use mathlib.Core.List.{List, [], _∷_}
 use Prim.Native.Nat.{ℕ, _+_, _-_, _≤_, _<_, _^_}
 use native.Mathlib.Omega.{arith}
@@ -10,7 +10,7 @@ use lib.Dec.{ltb, eqb}
 use lib.ListN.{length, take, drop, getD}
 use lib.Seq.{slice, length-take-le, getD-take}
 use Rattle.refusals.specs.Numbers.{tooManyRecords}
-use Rattle.seqs.specs.Lists.{both, spliced, packed, pushed, appended}
+use Rattle.seqs.specs.Lists.{spliced, packed, pushed, appended}
 use Rattle.seqs.specs.Runs.{follows, valid, endAt, nextOk}
 use Rattle.seqs.proofs.Laws.{both-left, both-right, length-spliced, splice-packed}
 use Rattle.seqs.proofs.Validity.{follows-end, valid-insert}
@@ -22,7 +22,7 @@ unfolding takes
 takes-no xs p r v = rw v
 
 pub takes-if : (xs : List RmapRec) (p : ℕ) (r : RmapRec) → p ≤ length xs → valid rmapStart rmapCount 0 xs ≡ true
-    → takes xs p r ≡ both (follows (endAt rmapStart rmapCount zeroRmapRec 0 xs p) (r .start) (r .count)) (nextOk rmapStart rmapCount (rmapEnd r) (drop p xs))
+    → takes xs p r ≡ (follows (endAt rmapStart rmapCount zeroRmapRec 0 xs p) (r .start) (r .count) && nextOk rmapStart rmapCount (rmapEnd r) (drop p xs))
 unfolding takes
 takes-if xs p r h v = rw v (valid-insert rmapStart rmapCount zeroRmapRec 0 xs p r h v)
 

@@ -1,12 +1,12 @@
 -- The reverse mappings of a group, and a record put into them.
 -- Assumes nothing.
-use mathlib.Core.Bool.{Bool, true, false}
+use mathlib.Core.Bool.{Bool, true, false, cond, _&&_}
 use mathlib.Core.List.{List, [], _∷_}
 use Prim.Native.Nat.{ℕ, zero, _+_, _-_}
 use lib.Dec.{leb, ltb, eqb}
 use lib.ListN.{length, getD}
 use Rattle.refusals.specs.Numbers.{tooManyRecords, notValid}
-use Rattle.seqs.specs.Lists.{both, choose, firstIndex, spliced, Store, live, packed}
+use Rattle.seqs.specs.Lists.{firstIndex, spliced, Store, live, packed}
 use Rattle.seqs.specs.Runs.{valid}
 use Rattle.btree.specs.declared.records.RmapRec.{RmapRec}
 use Rattle.plan_rmap.specs.declared.RmapList.{RmapList}
@@ -52,7 +52,7 @@ insertPlace s xs = firstIndex (notBefore s) xs
 
 -- b starts where a ends, and has the same owner
 abbrev pub joins : RmapRec → RmapRec → Bool
-joins a b = both (eqb (a .owner) (b .owner)) (eqb (rmapEnd a) (b .start))
+joins a b = eqb (a .owner) (b .owner) && eqb (rmapEnd a) (b .start)
 
 -- two records that join as one
 abbrev pub glued : RmapRec → RmapRec → RmapRec
@@ -60,17 +60,17 @@ glued a b = record { start = a .start; count = a .count + b .count; owner = a .o
 
 -- the record joins the one before index p; the one at index p
 unfoldable pub joinsLeft : List RmapRec → ℕ → RmapRec → Bool
-joinsLeft xs p r = both (ltb 0 p) (joins (getD xs (p - 1) zeroRmapRec) r)
+joinsLeft xs p r = ltb 0 p && joins (getD xs (p - 1) zeroRmapRec) r
 
 unfoldable pub joinsRight : List RmapRec → ℕ → RmapRec → Bool
-joinsRight xs p r = both (ltb p (length xs)) (joins r (getD xs p zeroRmapRec))
+joinsRight xs p r = ltb p (length xs) && joins r (getD xs p zeroRmapRec)
 
 -- an answer of `rmap_insert`: a number and no record, or 0 and the records left, if they are at most 64
 abbrev pub insertRefused : ℕ → Inserted
 insertRefused n = record { number = n; list = packRmap [] }
 
 abbrev pub insertedList : List RmapRec → Inserted
-insertedList xs = choose (leb (length xs) 64) (record { number = 0; list = packRmap xs }) (insertRefused tooManyRecords)
+insertedList xs = cond (leb (length xs) 64) (record { number = 0; list = packRmap xs }) (insertRefused tooManyRecords)
 
 -- the record put at index p, joined with the neighbours that it joins: left and right say with which
 abbrev pub joinedAt : Bool → Bool → List RmapRec → ℕ → RmapRec → List RmapRec
@@ -85,13 +85,13 @@ insertedAt xs p r = insertedList (joinedAt (joinsLeft xs p r) (joinsRight xs p r
 
 -- the list is valid, and with the record put at index p it still is
 unfoldable pub takes : List RmapRec → ℕ → RmapRec → Bool
-takes xs p r = both (valid rmapStart rmapCount 0 xs) (valid rmapStart rmapCount 0 (spliced xs p p (r ∷ [])))
+takes xs p r = valid rmapStart rmapCount 0 xs && valid rmapStart rmapCount 0 (spliced xs p p (r ∷ []))
 
 -- `rmap_insert`: the record put before the first that starts where it does or later. 34 above 64 records, 32 unless they are valid and
 -- stay so
 unfoldable pub inserted : RmapList → RmapRec → Inserted
 inserted l r =
-    choose (ltb 64 (l .len)) (insertRefused tooManyRecords)
-    (choose (takes (rmapOf l) (insertPlace (r .start) (rmapOf l)) r)
+    cond (ltb 64 (l .len)) (insertRefused tooManyRecords)
+    (cond (takes (rmapOf l) (insertPlace (r .start) (rmapOf l)) r)
     (insertedAt (rmapOf l) (insertPlace (r .start) (rmapOf l)) r)
     (insertRefused notValid))

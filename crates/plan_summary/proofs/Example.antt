@@ -1,7 +1,7 @@
 -- The bound of 2^30 is near: a group with 2^30 − 10 free blocks, computed.
 -- Assumes nothing.
 use mathlib.Core.Path.{_≡_, refl, _∙_}
-use mathlib.Core.Bool.{true, false}
+use mathlib.Core.Bool.{true, false, cond}
 use Prim.Native.Nat.{_+_, _-_, _^_}
 use native.Mathlib.Omega.{arith}
 use lib.ListN.{length}
@@ -15,7 +15,6 @@ use Rattle.geometry.specs.Compute.{withGroups, withSizes, chosenOf, refusals, r
 use Rattle.geometry_answers.specs.Same.{sameFeatures, numbersOf, sameFrom, sameGeometry}
 use Rattle.geometry_answers.specs.Named.{namedOptions, namedOn, namedFits, namedAnswer, namesOf, isAnswer}
 use Rattle.geometry_layout.specs.Places.{freelistOf, chunkOf, clusterOf, alignOf, roundUp, aligned, rootChunkOf, groupBlocks}
-use Rattle.seqs.specs.Lists.{choose}
 use Rattle.plan_site.specs.declared.Site.{Site}
 use Rattle.plan_site.specs.Sites.{siteOf}
 use Rattle.plan_closed.specs.Closed.{hasRootChunk, listAt, listShort}
@@ -36,8 +35,8 @@ record Computed : Type 0 where
   answer : isAnswer largestGroups ≡ true
   number : constNumber largestGroups ≡ 0
   full : listShort last ≡ false
-  free : choose (hasRootChunk last) (beforeChunk last + afterChunk last) (afterList last) ≡ 2 ^ 30 - 10
-  longest : choose (hasRootChunk last) (largerCount (beforeChunk last) (afterChunk last)) (afterList last) ≡ 2 ^ 30 - 10
+  free : cond (hasRootChunk last) (beforeChunk last + afterChunk last) (afterList last) ≡ 2 ^ 30 - 10
+  longest : cond (hasRootChunk last) (largerCount (beforeChunk last) (afterChunk last)) (afterList last) ≡ 2 ^ 30 - 10
   row-free : freeBlocksIn (summaryOf largestGroups) 2 ≡ 2 ^ 30 - 10
   row-longest : longestIn (summaryOf largestGroups) 2 ≡ 2 ^ 30 - 10
 

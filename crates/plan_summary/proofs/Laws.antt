@@ -1,7 +1,7 @@
 -- Laws of the summary's definitions.
 -- Assumes nothing.
 use mathlib.Core.Path.{_≡_, refl, sym, _∙_}
-use mathlib.Core.Bool.{Bool, true, false, not}
+use mathlib.Core.Bool.{Bool, true, false, not, cond}
 use Prim.Native.Nat.{ℕ, _+_, _*_, _-_, _^_, _≤_, _<_}
 use native.Mathlib.Omega.{arith}
 use native.Mathlib.Nat.{mul-le-mul-left}
@@ -10,7 +10,6 @@ use lib.Dec.{ltb, eqb}
 use lib.ListN.{length}
 use lib.Pow.{pow-pos}
 use Rattle.refusals.specs.Numbers.{freeListShort, noAnswer}
-use Rattle.seqs.specs.Lists.{both, choose}
 use Rattle.geometry.specs.declared.Geometry.{Geometry}
 use Rattle.geometry_answers.specs.Named.{isAnswer}
 use Rattle.arith.specs.Choice.{when}
@@ -93,7 +92,7 @@ module _ (g : Geometry) (l : length (g .label) ≡ 12) (h : isAnswer g ≡ true)
 -- ---- what an answer of `summary_of` says
 
 number-at : (g : Geometry) (n : ℕ) (t : Bool) → eqb n 0 ≡ t
-    → choose {A = Summarised} t (record { number = 0; summary = summaryOf g }) (record { number = n; summary = noSummary }) .number ≡ n
+    → cond {A = Summarised} t (record { number = 0; summary = summaryOf g }) (record { number = n; summary = noSummary }) .number ≡ n
 number-at g n true e = sym (eqb-true n 0 e)
 number-at g n false e = refl
 

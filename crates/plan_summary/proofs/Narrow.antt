@@ -1,7 +1,7 @@
 -- Every running number of a group with an accepted plan is below 2^30.
 -- Assumes nothing.
 use mathlib.Core.Path.{_≡_, refl, sym, ap, _∙_}
-use mathlib.Core.Bool.{Bool, true, false}
+use mathlib.Core.Bool.{Bool, true, false, cond}
 use mathlib.Core.List.{List, [], _∷_, _++_}
 use Prim.Native.Nat.{ℕ, _+_, _-_, _^_, _≤_, _<_, max}
 use native.Mathlib.Omega.{arith}
@@ -9,7 +9,6 @@ use lib.Dec.{ltb, eqb}
 use lib.ListN.{length, length-append}
 use Rattle.refusals.specs.Numbers.{freeListShort}
 use Rattle.arith.specs.Choice.{when}
-use Rattle.seqs.specs.Lists.{choose}
 use Rattle.seqs.proofs.Laws.{choose-elim}
 use Rattle.geometry.specs.declared.Geometry.{Geometry}
 use Rattle.geometry_answers.specs.Named.{isAnswer}
@@ -77,8 +76,8 @@ site-records s ok = records-narrow (packFree (closedFree s)) (free-least s ok) (
 
 -- ---- a plan of the planner in closed form
 
-plan-at : (t : Bool) (p : AgPlan) → choose {A = Planned} t (refusedPlan freeListShort) (record { number = 0; plan = p }) .number ≡ 0
-    → choose {A = Planned} t (refusedPlan freeListShort) (record { number = 0; plan = p }) .plan ≡ p
+plan-at : (t : Bool) (p : AgPlan) → cond {A = Planned} t (refusedPlan freeListShort) (record { number = 0; plan = p }) .number ≡ 0
+    → cond {A = Planned} t (refusedPlan freeListShort) (record { number = 0; plan = p }) .plan ≡ p
 plan-at true p e = absurd (omega arith)
 plan-at false p e = refl
 

@@ -1,7 +1,7 @@
 -- The rows of a summary are the rows of the plans.
 -- Assumes nothing.
 use mathlib.Core.Path.{_≡_, refl, sym, ap, _∙_}
-use mathlib.Core.Bool.{Bool, true, false}
+use mathlib.Core.Bool.{Bool, true, false, cond}
 use Prim.Native.Nat.{ℕ, _+_, _*_, _-_, _≤_, _<_, max}
 use native.Mathlib.Omega.{arith}
 use borrow.Author.Tests.{eqb-true, eqb-false, eq-eqb, ne-eqb, lt-ltb, le-ltb, ltb-true, ltb-false}
@@ -9,7 +9,6 @@ use lib.Dec.{ltb, eqb}
 use lib.ListN.{length}
 use Rattle.refusals.specs.Numbers.{noPlace}
 use Rattle.arith.specs.Choice.{when}
-use Rattle.seqs.specs.Lists.{both, choose}
 use Rattle.geometry.specs.declared.Geometry.{Geometry}
 use Rattle.geometry.specs.Log.{preallocOf}
 use Rattle.geometry_answers.specs.Named.{isAnswer}
@@ -28,12 +27,12 @@ use Rattle.plan_totals.proofs.Whole.{all-planned, total-closed}
 use Rattle.plan_summary.specs.declared.Summary.{Summary}
 use Rattle.plan_summary.specs.Summaries.{summaryOf, lengthIn, logBlocksIn, chunkBlocksIn, freeBlocksIn, longestIn, rowBySummary}
 
-when-choose : (t : Bool) (a b : ℕ) → when t a b ≡ choose t a b
+when-choose : (t : Bool) (a b : ℕ) → when t a b ≡ cond t a b
 unfolding when
 when-choose true a b = refl
 when-choose false a b = refl
 
-larger-max-at : (a b : ℕ) (t : Bool) → ltb a b ≡ t → max a b ≡ choose t b a
+larger-max-at : (a b : ℕ) (t : Bool) → ltb a b ≡ t → max a b ≡ cond t b a
 larger-max-at a b true e = let h = ltb-true a b e in omega arith
 larger-max-at a b false e = let h = ltb-false a b e in omega arith
 
@@ -61,19 +60,19 @@ module _ (g : Geometry) (k : ℕ) where
   unfolding summaryOf siteOf lengthIn groupBlocks
   length-is = length-at (g .dblocks) (g .agsize) (g .agcount) k (eqb k (g .agcount - 1)) refl
 
-  log-is : logBlocksIn m k ≡ choose (s .«has_log») (s .«log_blocks») 0
+  log-is : logBlocksIn m k ≡ cond (s .«has_log») (s .«log_blocks») 0
   unfolding summaryOf siteOf logBlocksIn
   log-is = when-choose (eqb k (g .logagno)) (g .logblocks) 0
 
-  chunk-is : chunkBlocksIn m k ≡ choose (hasRootChunk s) (s .«chunk_blocks») 0
+  chunk-is : chunkBlocksIn m k ≡ cond (hasRootChunk s) (s .«chunk_blocks») 0
   unfolding summaryOf siteOf chunkBlocksIn
   chunk-is = when-choose (eqb k 0) (chunkOf (g .inodesize) (g .blocksize)) 0
 
   abbrev freed : Bool → Bool → ℕ
-  freed first log = s .length - s .head - choose log (s .«log_blocks») 0 - s .need - choose first (s .«chunk_blocks») 0
+  freed first log = s .length - s .head - cond log (s .«log_blocks») 0 - s .need - cond first (s .«chunk_blocks») 0
 
   free-at : (t u : Bool) → hasRootChunk s ≡ t → s .«has_log» ≡ u → SoundSite s
-      → freed t u ≡ choose t (beforeChunk s + afterChunk s) (s .length - (choose u (s .«log_at» + s .«log_blocks») (s .head) + s .need))
+      → freed t u ≡ cond t (beforeChunk s + afterChunk s) (s .length - (cond u (s .«log_at» + s .«log_blocks») (s .head) + s .need))
   free-at true true e i ok = clash (sym (ok .log-not-first (eqb-true (s .agno) 0 e)) ∙ i)
   free-at true false e i ok =
       let a = ok .chunk-after in
@@ -112,13 +111,13 @@ module _ (g : Geometry) (k : ℕ) where
   unfolding siteOf
   group-is = refl
 
-  free-is : SoundSite s → freeBlocksIn m k ≡ choose (hasRootChunk s) (beforeChunk s + afterChunk s) (afterList s)
+  free-is : SoundSite s → freeBlocksIn m k ≡ cond (hasRootChunk s) (beforeChunk s + afterChunk s) (afterList s)
   unfolding freeBlocksIn listAt
   free-is ok = rw (length-is, log-is, chunk-is, head-is, list-is) (free-at (hasRootChunk s) (s .«has_log») refl refl ok)
 
   longest-at : (t : Bool) → hasRootChunk s ≡ t → SoundSite s
-      → when t (max (s .«chunk_at» - s .head - s .need) (s .length - s .«chunk_at» - s .«chunk_blocks»)) (choose t (beforeChunk s + afterChunk s) (afterList s))
-      ≡ choose t (largerCount (beforeChunk s) (afterChunk s)) (afterList s)
+      → when t (max (s .«chunk_at» - s .head - s .need) (s .length - s .«chunk_at» - s .«chunk_blocks»)) (cond t (beforeChunk s + afterChunk s) (afterList s))
+      ≡ cond t (largerCount (beforeChunk s) (afterChunk s)) (afterList s)
   unfolding when
   longest-at true e ok =
       let a : s .«chunk_at» - s .head - s .need ≡ beforeChunk s = omega arith in
@@ -126,7 +125,7 @@ module _ (g : Geometry) (k : ℕ) where
       ap (λ (x : ℕ). max x (s .length - s .«chunk_at» - s .«chunk_blocks»)) a ∙ ap (max (beforeChunk s)) b ∙ larger-max (beforeChunk s) (afterChunk s)
   longest-at false e ok = refl
 
-  longest-is : SoundSite s → longestIn m k ≡ choose (hasRootChunk s) (largerCount (beforeChunk s) (afterChunk s)) (afterList s)
+  longest-is : SoundSite s → longestIn m k ≡ cond (hasRootChunk s) (largerCount (beforeChunk s) (afterChunk s)) (afterList s)
   unfolding longestIn
   longest-is ok = rw (free-is ok, length-is, head-is, list-is, chunk-at-is, chunk-blocks-is, ← first-is) (longest-at (hasRootChunk s) refl ok)
 

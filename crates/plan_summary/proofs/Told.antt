@@ -1,12 +1,11 @@
 -- What an answer of `free_totals` says, and what `freeblks` and `longest` make of it.
 -- Assumes nothing.
 use mathlib.Core.Path.{_≡_, refl, sym, _∙_}
-use mathlib.Core.Bool.{Bool, true, false}
+use mathlib.Core.Bool.{Bool, true, false, cond}
 use Prim.Native.Nat.{ℕ}
 use native.Mathlib.Omega.{arith}
 use lib.Dec.{eqb}
 use Rattle.refusals.specs.Numbers.{noAnswer}
-use Rattle.seqs.specs.Lists.{choose}
 use Rattle.geometry.specs.declared.Geometry.{Geometry}
 use Rattle.geometry_counts.specs.declared.Value32.{Value32}
 use Rattle.geometry_counts.specs.declared.Value32.the-variants.{Refused, Of}
@@ -19,18 +18,18 @@ use Rattle.plan_summary.specs.Summaries.{freeTotals}
 
 -- the totals of a plan of the planner, or those of a refusal
 abbrev pub totalsAt : Bool → ℕ → ℕ → FreeTotals
-totalsAt t a b = choose t (record { number = 0; blocks = a; longest = b }) (record { number = noAnswer; blocks = 0; longest = 0 })
+totalsAt t a b = cond t (record { number = 0; blocks = a; longest = b }) (record { number = noAnswer; blocks = 0; longest = 0 })
 
-number-at : (t : Bool) (a b : ℕ) → totalsAt t a b .number ≡ choose t 0 noAnswer
+number-at : (t : Bool) (a b : ℕ) → totalsAt t a b .number ≡ cond t 0 noAnswer
 number-at true a b = refl
 number-at false a b = refl
 
-totals-number : (g : Geometry) (p : AgPlan) → freeTotals g p .number ≡ choose (isPlan g p) 0 noAnswer
+totals-number : (g : Geometry) (p : AgPlan) → freeTotals g p .number ≡ cond (isPlan g p) 0 noAnswer
 unfolding freeTotals
 totals-number g p = number-at (isPlan g p) (freeblksOf (p .free)) (longestOf (p .free))
 
 -- a number of 0 is a plan of the planner
-plan-at : (t : Bool) → choose {A = ℕ} t 0 noAnswer ≡ 0 → t ≡ true
+plan-at : (t : Bool) → cond {A = ℕ} t 0 noAnswer ≡ 0 → t ≡ true
 plan-at true e = refl
 plan-at false e = absurd (omega arith)
 
@@ -38,7 +37,7 @@ pub totals-plan : (g : Geometry) (p : AgPlan) → freeTotals g p .number ≡ 0 �
 totals-plan g p e = plan-at (isPlan g p) (sym (totals-number g p) ∙ e)
 
 -- and any other number is none
-none-at : (t : Bool) → (choose {A = ℕ} t 0 noAnswer ≡ 0 → ⊥) → t ≡ false
+none-at : (t : Bool) → (cond {A = ℕ} t 0 noAnswer ≡ 0 → ⊥) → t ≡ false
 none-at true n = absurd (n refl)
 none-at false n = refl
 
@@ -52,13 +51,13 @@ totals-are g p h = rw h (refl, refl)
 -- ---- one of the two by itself
 
 value-at : (f : FreeTotals → ℕ) (t : Bool) (a b : ℕ)
-    → choose {A = Value32} (eqb (totalsAt t a b .number) 0) (Of (f (totalsAt t a b))) (Refused (totalsAt t a b .number)) ≡ known32 t (f (totalsAt true a b))
+    → cond {A = Value32} (eqb (totalsAt t a b .number) 0) (Of (f (totalsAt t a b))) (Refused (totalsAt t a b .number)) ≡ known32 t (f (totalsAt true a b))
 unfolding known32
 value-at f true a b = refl
 value-at f false a b = refl
 
 pub value-told : (f : FreeTotals → ℕ) (g : Geometry) (p : AgPlan)
-    → choose {A = Value32} (eqb (freeTotals g p .number) 0) (Of (f (freeTotals g p))) (Refused (freeTotals g p .number))
+    → cond {A = Value32} (eqb (freeTotals g p .number) 0) (Of (f (freeTotals g p))) (Refused (freeTotals g p .number))
     ≡ known32 (isPlan g p) (f (totalsAt true (freeblksOf (p .free)) (longestOf (p .free))))
 unfolding freeTotals
 value-told f g p = value-at f (isPlan g p) (freeblksOf (p .free)) (longestOf (p .free))

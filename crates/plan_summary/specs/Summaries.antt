@@ -1,10 +1,10 @@
 -- The plans of all groups in a few numbers: from them each group's row of the table, in constant time.
 -- Assumes nothing.
+use mathlib.Core.Bool.{cond}
 use Prim.Native.Nat.{ℕ, _*_, _-_, max}
 use lib.Dec.{ltb, eqb}
 use Rattle.refusals.specs.Numbers.{noPlace, noAnswer}
 use Rattle.arith.specs.Choice.{when}
-use Rattle.seqs.specs.Lists.{choose}
 use Rattle.geometry.specs.declared.Geometry.{Geometry}
 use Rattle.geometry.specs.Log.{preallocOf}
 use Rattle.geometry_layout.specs.Places.{freelistOf, chunkOf, rootChunkOf}
@@ -53,7 +53,7 @@ noSummary =
 -- `summary_of`: 31, 25, or the summary
 unfoldable pub summarised : Geometry → Summarised
 summarised g =
-    choose (eqb (plansNumber g) 0) (record { number = 0; summary = summaryOf g })
+    cond (eqb (plansNumber g) 0) (record { number = 0; summary = summaryOf g })
     (record { number = plansNumber g; summary = noSummary })
 
 -- ---- the free records of one plan
@@ -61,7 +61,7 @@ summarised g =
 -- `free_totals`: 31 unless the plan is the planner's for its group
 unfoldable pub freeTotals : Geometry → AgPlan → FreeTotals
 freeTotals g p =
-    choose (isPlan g p) (record { number = 0; blocks = freeblksOf (p .free); longest = longestOf (p .free) })
+    cond (isPlan g p) (record { number = 0; blocks = freeblksOf (p .free); longest = longestOf (p .free) })
     (record { number = noAnswer; blocks = 0; longest = 0 })
 
 -- ---- a row of a summary
@@ -86,7 +86,7 @@ longestIn s k = when (eqb k 0) (max (s .«chunk_at» - s .head - s .list) (lengt
 -- the row of group k, or 29
 unfoldable pub rowBySummary : Summary → ℕ → Row
 rowBySummary s k =
-    choose (ltb k (s .agcount))
+    cond (ltb k (s .agcount))
     (record {
       number = 0;
       group = k;

@@ -1,8 +1,8 @@
 // The free records of a plan of the planner: their blocks, and the longest. Every number is below 2^30, and held in 32 bits.
+ghost use mathlib.Core.Bool.{cond};
 ghost use mathlib.Core.Path.{_≡_};
 ghost use Prim.Native.Nat.{_≤_};
 ghost use lib.Dec.{eqb};
-ghost use Rattle.seqs.specs.Lists.{choose};
 ghost use Rattle.geometry_counts.specs.declared.Value32.the-variants.{Refused, Of};
 ghost use Rattle.geometry_counts.specs.Known.{known32};
 ghost use Rattle.plan_same.specs.Same.{isPlan};
@@ -78,7 +78,7 @@ pub fn free_totals(g: Geometry, p: AgPlan) -> FreeTotals
 
 // The value beside a number of 0, or the refusal.
 fn value_of(number: u32, n: u32) -> Value32
-    ensures { λ r. ⌜ r ≡ choose (eqb number 0) (Of n) (Refused number) ⌝ }
+    ensures { λ r. ⌜ r ≡ cond (eqb number 0) (Of n) (Refused number) ⌝ }
 {
     if number != 0 {
         return Value32::Refused(number);

@@ -1,14 +1,14 @@
 -- No line of an accepted geometry's table is longer than 147 bytes, so that as many buffers of so many bytes as lines hold the table.
 -- Assumes nothing.
 use mathlib.Core.Path.{_≡_, refl, _∙_}
-use mathlib.Core.Bool.{Bool, true, false}
+use mathlib.Core.Bool.{Bool, true, false, cond}
 use mathlib.Core.List.{List, [], _∷_}
 use Prim.Native.Nat.{ℕ, zero, suc, _+_, _-_, _^_, _≤_, _<_}
 use native.Mathlib.Omega.{arith}
 use borrow.Author.Tests.{leb-true, leb-false, ne-eqb}
 use lib.Dec.{ltb, leb, eqb, lit<}
 use lib.ListN.{length, length-append}
-use Rattle.seqs.specs.Lists.{choose, turns}
+use Rattle.seqs.specs.Lists.{turns}
 use Rattle.seqs.proofs.Laws.{choose-elim}
 use Rattle.endian.specs.Bytes.{below}
 use Rattle.table_lines.specs.Lines.{line, headerBytes, totalBytes, refusedBytes}
@@ -36,7 +36,7 @@ use Rattle.plan_table.specs.Filling.{noSums, tableRefused, wholeTable, w
 use Rattle.plan_table.proofs.Begun.{refusal-rest, table-rest}
 use Rattle.plan_table.proofs.Short.{parts-whole}
 
-choose-lt : (t : Bool) (a b m : ℕ) → a < m → b < m → choose t a b < m
+choose-lt : (t : Bool) (a b m : ℕ) → a < m → b < m → cond t a b < m
 choose-lt true a b m h k = h
 choose-lt false a b m h k = k
 

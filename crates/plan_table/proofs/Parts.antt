@@ -1,7 +1,7 @@
 -- The parts of a table, one after the other, are the whole.
 -- Assumes nothing.
 use mathlib.Core.Path.{_≡_, refl, sym, ap, _∙_}
-use mathlib.Core.Bool.{Bool, true, false}
+use mathlib.Core.Bool.{Bool, true, false, cond, _&&_}
 use mathlib.Core.List.{List, [], _∷_, _++_, append-nil, append-assoc}
 use Prim.Native.Nat.{ℕ, zero, suc, _+_, _-_, _<_}
 use native.Mathlib.Omega.{arith}
@@ -9,7 +9,7 @@ use borrow.Author.Tests.{lt-ltb, eqb-false}
 use lib.Dec.{ltb, leb, eqb}
 use lib.ListN.{length, drop, replicate}
 use Rattle.refusals.specs.Numbers.{wrongLength}
-use Rattle.seqs.specs.Lists.{both, choose, turns}
+use Rattle.seqs.specs.Lists.{turns}
 use Rattle.plan_table.specs.declared.Table.{Table}
 use Rattle.plan_table.specs.Filling.{afterLine, afterLines, linesOf, linesJoined, restOf, linesFitting, partLines, tablePart, tableBehind, tableFilled, partsOf, afterParts, ReachedByParts, Printing}
 
@@ -19,7 +19,7 @@ use Rattle.plan_table.specs.Filling.{afterLine, afterLines, linesOf, lin
 abbrev First : List (List ℕ) → List (List ℕ) → Type 0
 First ls fs = linesJoined fs ++ linesJoined (drop (length fs) ls) ≡ linesJoined ls
 
-first-at : (l : List ℕ) (ls fs : List (List ℕ)) (t : Bool) → First ls fs → First (l ∷ ls) (choose t (l ∷ fs) [])
+first-at : (l : List ℕ) (ls fs : List (List ℕ)) (t : Bool) → First ls fs → First (l ∷ ls) (cond t (l ∷ fs) [])
 unfolding linesJoined
 first-at l ls fs true e = append-assoc l (linesJoined fs) (linesJoined (drop (length fs) ls)) ∙ ap (λ (x : List ℕ). l ++ x) e
 first-at l ls fs false e = refl
@@ -96,16 +96,16 @@ printing-whole n t s p =
 
 -- ---- that it ends
 
-some-put : (left k : ℕ) → 0 < left → choose {A = ℕ} (both (ltb 0 left) (eqb k 0)) wrongLength 0 ≡ 0 → 0 < k
+some-put : (left k : ℕ) → 0 < left → cond {A = ℕ} (ltb 0 left && eqb k 0) wrongLength 0 ≡ 0 → 0 < k
 some-put left k h = rw (lt-ltb 0 left h) (by (eqb k 0) refl)
   where
-    by : (t : Bool) → eqb k 0 ≡ t → choose {A = ℕ} t wrongLength 0 ≡ 0 → 0 < k
+    by : (t : Bool) → eqb k 0 ≡ t → cond {A = ℕ} t wrongLength 0 ≡ 0 → 0 < k
     by true e z = absurd (omega arith)
     by false e z = let w = eqb-false k 0 e in omega arith
 
 -- a turn that is refused or whose write fails is the last, and every other puts a line
 pub part-falls : (t : Table) (n : ℕ) (written : Bool) → 0 < t .left → (written ≡ true → tableFilled t n .number ≡ 0)
-    → tableBehind t n .left + choose written 1 0 < t .left + 1
+    → tableBehind t n .left + cond written 1 0 < t .left + 1
 unfolding tableFilled
 part-falls t n true h e =
     let k = some-put (t .left) (length (partLines t n)) h (e refl) in

@@ -1,7 +1,7 @@
 -- What the loop that fills a buffer leaves: the lines that still fit, over those that are put already, are the part.
 -- Assumes nothing.
 use mathlib.Core.Path.{_≡_, refl, sym, ap, _∙_}
-use mathlib.Core.Bool.{Bool, true, false, not}
+use mathlib.Core.Bool.{Bool, true, false, not, cond, _&&_}
 use mathlib.Core.List.{List, [], _∷_, _++_}
 use Prim.Native.Nat.{ℕ, zero, suc, _+_, _-_, _<_}
 use native.Mathlib.Omega.{arith}
@@ -9,7 +9,7 @@ use borrow.Author.Tests.{eqb-true, eqb-false, eq-eqb, ne-eqb, ltb-true}
 use lib.Dec.{ltb, leb, eqb}
 use lib.ListN.{length, length-append}
 use Rattle.refusals.specs.Numbers.{wrongLength}
-use Rattle.seqs.specs.Lists.{both, choose, turns}
+use Rattle.seqs.specs.Lists.{turns}
 use Rattle.endian.specs.Answer.{answer}
 use Rattle.endian.specs.Bytes.{patch}
 use Rattle.endian.proofs.Laws.{patch-append, length-patch}
@@ -50,7 +50,7 @@ module _ (t : Table) (at : ℕ) (old : List ℕ) {number end : ℕ} {new : List 
 
 -- the lines that are still to be put in state s, where the next begins at `at`
 abbrev pub todo : ℕ → Table → ℕ → Bool → List (List ℕ)
-todo n s at full = choose full [] (linesFitting n at (linesOf (s .left) s))
+todo n s at full = cond full [] (linesFitting n at (linesOf (s .left) s))
 
 -- a turn of the loop from state t on, over what was in the buffer
 pub record Going (t : Table) (old : List ℕ) (s : Table) (at : ℕ) (full : Bool) (new : List ℕ) : Type 0 where
@@ -96,7 +96,7 @@ module _ (t : Table) (old : List ℕ) (s : Table) (at : ℕ) (full : Bool) (new 
   l = lineOf s
 
   goes-at : (b : Bool) → leb (at + length l) n ≡ b
-      → Going t old (choose b (afterLine s) s) (choose b (at + length l) at) (not b) (choose b (patch at l new) new)
+      → Going t old (cond b (afterLine s) s) (cond b (at + length l) at) (not b) (cond b (patch at l new) new)
   goes-at true e =
       let k = ap (linesFitting n at) (first-line s (s .left) some) ∙ fits n at l (linesOf (s .left - 1) (afterLine s)) e in
       let f = linesFitting n (at + length l) (linesOf (s .left - 1) (afterLine s)) in
@@ -123,10 +123,10 @@ module _ (t : Table) (old : List ℕ) (s : Table) (at : ℕ) (full : Bool) (new 
       rw (w .table-is, w .at-is, w .full-is, w .bytes-are, g .same-length) (goes-at (leb (at + length l) n) refl)
 
   -- a turn puts a line, or is the last
-  pub falls : {s' : Table} {at' : ℕ} {full' : Bool} {new' : List ℕ} → Stepped s at new s' at' full' new' → s' .left + choose full' 0 1 < s .left + choose full 0 1
+  pub falls : {s' : Table} {at' : ℕ} {full' : Bool} {new' : List ℕ} → Stepped s at new s' at' full' new' → s' .left + cond full' 0 1 < s .left + cond full 0 1
   falls w = rw (w .table-is, w .full-is, more) (by (leb (at + length l) (length new)))
     where
-      by : (b : Bool) → choose {A = Table} b (afterLine s) s .left + choose (not b) 0 1 < s .left + 1
+      by : (b : Bool) → cond {A = Table} b (afterLine s) s .left + cond (not b) 0 1 < s .left + 1
       by true = omega arith
       by false = omega arith
 
@@ -141,10 +141,10 @@ nothing-todo n s at true h = refl
 nothing-todo n s at false h = ap (λ (m : ℕ). linesFitting n at (linesOf m s)) (h refl) ∙ none-left s n at
 
 -- as many are left as before where none is put
-same-left : (a k : ℕ) → both (ltb 0 a) (eqb (a - k) a) ≡ both (ltb 0 a) (eqb k 0)
+same-left : (a k : ℕ) → (ltb 0 a && eqb (a - k) a) ≡ (ltb 0 a && eqb k 0)
 same-left a k = by (ltb 0 a) (eqb k 0) refl refl
   where
-    by : (t u : Bool) → ltb 0 a ≡ t → eqb k 0 ≡ u → both t (eqb (a - k) a) ≡ both t u
+    by : (t u : Bool) → ltb 0 a ≡ t → eqb k 0 ≡ u → (t && eqb (a - k) a) ≡ (t && u)
     by false u h e = refl
     by true true h e = let z = eqb-true k 0 e in eq-eqb (a - k) a (omega arith)
     by true false h e = let z = eqb-false k 0 e in let m = ltb-true 0 a h in ne-eqb (a - k) a (λ d. z (omega arith))
@@ -168,13 +168,13 @@ module _ (t : Table) (old : List ℕ) (s : Table) (at : ℕ) (full : Bool) (new 
   left-at : s .left ≡ t .left - length (partLines t (length old))
   left-at = ap (λ (x : Table). x .left) state-at ∙ left-after (length (partLines t (length old))) t
 
-  number-at : {r : ℕ} → r ≡ choose (both (ltb 0 (t .left)) (eqb (s .left) (t .left))) wrongLength 0
-      → r ≡ choose (both (ltb 0 (t .left)) (eqb (length (partLines t (length old))) 0)) wrongLength 0
+  number-at : {r : ℕ} → r ≡ cond (ltb 0 (t .left) && eqb (s .left) (t .left)) wrongLength 0
+      → r ≡ cond (ltb 0 (t .left) && eqb (length (partLines t (length old))) 0) wrongLength 0
   number-at e =
-      e ∙ ap (λ (x : ℕ). choose {A = ℕ} (both (ltb 0 (t .left)) (eqb x (t .left))) wrongLength 0) left-at
-      ∙ ap (λ (x : Bool). choose {A = ℕ} x wrongLength 0) (same-left (t .left) (length (partLines t (length old))))
+      e ∙ ap (λ (x : ℕ). cond {A = ℕ} (ltb 0 (t .left) && eqb x (t .left)) wrongLength 0) left-at
+      ∙ ap (λ (x : Bool). cond {A = ℕ} x wrongLength 0) (same-left (t .left) (length (partLines t (length old))))
 
-  pub ends-filled : {r : ℕ} → r ≡ choose (both (ltb 0 (t .left)) (eqb (s .left) (t .left))) wrongLength 0
+  pub ends-filled : {r : ℕ} → r ≡ cond (ltb 0 (t .left) && eqb (s .left) (t .left)) wrongLength 0
       → record { number = r; end = at; table = s } ≡ tableFilled t (length old)
   unfolding tableFilled
   ends-filled e = rw (number-at e, end-at, state-at) refl

@@ -2,13 +2,13 @@
 -- buffer.
 -- Assumes nothing.
 use mathlib.Core.Path.{_≡_}
-use mathlib.Core.Bool.{Bool, true, not}
+use mathlib.Core.Bool.{Bool, true, not, cond, _&&_}
 use mathlib.Core.List.{List, [], _∷_, _++_}
 use Prim.Native.Nat.{ℕ, zero, suc, _+_, _-_, _%_, _^_, _≤_}
 use lib.Dec.{ltb, leb, eqb}
 use lib.ListN.{length, replicate}
 use Rattle.refusals.specs.Numbers.{wrongLength}
-use Rattle.seqs.specs.Lists.{both, choose, turns}
+use Rattle.seqs.specs.Lists.{turns}
 use Rattle.endian.specs.Bytes.{patch}
 use Rattle.table_lines.specs.Lines.{headerBytes, refusedBytes}
 use Rattle.geometry.specs.declared.Geometry.{Geometry}
@@ -37,7 +37,7 @@ wholeTable g = record { number = 0; left = g .agcount + 2; summary = summaryOf g
 
 -- `begin_table`: all lines of a geometry's table, or the line of 31 or 25
 unfoldable pub begunTable : Geometry → Table
-begunTable g = choose (eqb (plansNumber g) 0) (wholeTable g) (tableRefused (plansNumber g))
+begunTable g = cond (eqb (plansNumber g) 0) (wholeTable g) (tableRefused (plansNumber g))
 
 -- no disk: the header and the sums
 abbrev pub noDisk : Table
@@ -47,14 +47,14 @@ noDisk = record { number = 0; left = 2; summary = noSummary; sums = noSums }
 unfoldable pub tableBegun : List ℕ → Table
 tableBegun [] = noDisk
 tableBegun (x ∷ xs) =
-    choose (eqb (accepted (x ∷ xs) .number) 0) (begunTable (accepted (x ∷ xs) .geometry)) (tableRefused (accepted (x ∷ xs) .number))
+    cond (eqb (accepted (x ∷ xs) .number) 0) (begunTable (accepted (x ∷ xs) .geometry)) (tableRefused (accepted (x ∷ xs) .number))
 
 -- ---- the lines of a state
 
 -- by what the next line is: a refusal's; the sums, which are the last; before them a row; before the rows the header
 abbrev pub byLine : {A : Type 0} → Table → A → A → A → A → A
 byLine t refused sums row header =
-    choose (eqb (t .number) 0) (choose (leb (t .left) 1) sums (choose (leb (t .left - 1) (t .summary .agcount)) row header)) refused
+    cond (eqb (t .number) 0) (cond (leb (t .left) 1) sums (cond (leb (t .left - 1) (t .summary .agcount)) row header)) refused
 
 -- the group whose row is put: rising
 abbrev pub groupPut : Table → ℕ
@@ -109,7 +109,7 @@ restOf t = linesJoined (linesOf (t .left) t)
 -- of these lines those, from the first, that fit whole into n bytes, of which the first `at` are taken
 unfoldable pub linesFitting : ℕ → ℕ → List (List ℕ) → List (List ℕ)
 linesFitting n at [] = []
-linesFitting n at (l ∷ ls) = choose (leb (at + length l) n) (l ∷ linesFitting n (at + length l) ls) []
+linesFitting n at (l ∷ ls) = cond (leb (at + length l) n) (l ∷ linesFitting n (at + length l) ls) []
 
 -- the lines of the next part in a buffer of n bytes
 unfoldable pub partLines : Table → ℕ → List (List ℕ)
@@ -127,7 +127,7 @@ tableBehind t n = afterLines (length (partLines t n)) t
 unfoldable pub tableFilled : Table → ℕ → Filled
 tableFilled t n =
     record {
-      number = choose (both (ltb 0 (t .left)) (eqb (length (partLines t n)) 0)) wrongLength 0;
+      number = cond (ltb 0 (t .left) && eqb (length (partLines t n)) 0) wrongLength 0;
       end = length (tablePart t n);
       table = tableBehind t n;
     }
@@ -136,10 +136,10 @@ tableFilled t n =
 
 -- One line over `old`, where it fits at `at`: the state behind it, where the next begins, whether it had no room, and what it leaves.
 pub record Stepped (t : Table) (at : ℕ) (old : List ℕ) (t' : Table) (at' : ℕ) (full : Bool) (new : List ℕ) : Type 0 where
-  pub table-is : t' ≡ choose (leb (at + length (lineOf t)) (length old)) (afterLine t) t
-  pub at-is : at' ≡ choose (leb (at + length (lineOf t)) (length old)) (at + length (lineOf t)) at
+  pub table-is : t' ≡ cond (leb (at + length (lineOf t)) (length old)) (afterLine t) t
+  pub at-is : at' ≡ cond (leb (at + length (lineOf t)) (length old)) (at + length (lineOf t)) at
   pub full-is : full ≡ not (leb (at + length (lineOf t)) (length old))
-  pub bytes-are : new ≡ choose (leb (at + length (lineOf t)) (length old)) (patch at (lineOf t) old) old
+  pub bytes-are : new ≡ cond (leb (at + length (lineOf t)) (length old)) (patch at (lineOf t) old) old
 
 -- ---- all parts
 

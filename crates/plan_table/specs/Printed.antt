@@ -1,9 +1,9 @@
 -- What planlist prints: the table of a geometry, or the line of a refusal.
 -- Assumes nothing.
+use mathlib.Core.Bool.{cond}
 use mathlib.Core.List.{List, [], _∷_, _++_}
 use Prim.Native.Nat.{ℕ, zero, suc}
 use lib.Dec.{eqb}
-use Rattle.seqs.specs.Lists.{choose}
 use Rattle.table_lines.specs.Lines.{rowBytes, headerBytes, totalBytes, refusedBytes}
 use Rattle.geometry.specs.declared.Geometry.{Geometry}
 use Rattle.plan_totals.specs.declared.Row.{Row}
@@ -40,7 +40,7 @@ tableBytes g = headerBytes ++ (rowLines g (g .agcount) ++ totalLine (totalOf g))
 
 -- the table where the number is 0, else the line of the refusal
 abbrev pub tableOr : ℕ → Geometry → List ℕ
-tableOr n g = choose (eqb n 0) (tableBytes g) (refusedBytes n)
+tableOr n g = cond (eqb n 0) (tableBytes g) (refusedBytes n)
 
 -- what is printed of a geometry: its table, or 31, or 25 where a plan is refused
 unfoldable pub tableAnswer : Geometry → List ℕ
@@ -57,4 +57,4 @@ planBytes (x ∷ xs) = tableOr (accepted (x ∷ xs) .number) (accepted (x ∷ xs
 
 -- `row_at`: 31, 25 where a plan is refused, 29, or the row of group k's plan
 unfoldable pub rowAnswer : Geometry → ℕ → Row
-rowAnswer g k = choose (eqb (plansNumber g) 0) (rowOf g k) (noRow (plansNumber g))
+rowAnswer g k = cond (eqb (plansNumber g) 0) (rowOf g k) (noRow (plansNumber g))

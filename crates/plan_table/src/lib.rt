@@ -1,11 +1,11 @@
 // What planlist prints, part by part: a table begins with the input or with a geometry, and `fill` puts its next whole lines into a
 // lent buffer until none is left.
+ghost use mathlib.Core.Bool.{cond, _&&_};
 ghost use mathlib.Core.Path.{_≡_};
 ghost use Prim.Native.Nat.{_<_};
 ghost use lib.Dec.{ltb, eqb};
 ghost use lib.ListN.{length};
 ghost use Rattle.refusals.specs.Numbers.{wrongLength};
-ghost use Rattle.seqs.specs.Lists.{both, choose};
 ghost use Rattle.endian.specs.Bytes.{patch};
 ghost use Rattle.plan_table.specs.Printed.{rowAnswer, tableAnswer, noDiskBytes, planBytes};
 ghost use Rattle.plan_table.specs.Filling.{tableRefused, begunTable, noDisk, tableBegun, afterLine, restOf, tablePart, tableFilled, Stepped};
@@ -149,7 +149,7 @@ fn step(at: Place, buf: &mut [u8]) -> Place
 
 // 27 where `n` lines were left and none was put.
 fn number_of(n: u64, left: u64) -> u32
-    ensures { λ r. ⌜ r ≡ choose (both (ltb 0 n) (eqb left n)) wrongLength 0 ⌝ }
+    ensures { λ r. ⌜ r ≡ cond (ltb 0 n && eqb left n) wrongLength 0 ⌝ }
 {
     if n == 0 {
         return 0;

@@ -1,7 +1,7 @@
 -- The row of every group of an answer by plain arithmetic.
 -- Assumes nothing.
 use mathlib.Core.Path.{_≡_, refl, sym, ap, _∙_}
-use mathlib.Core.Bool.{Bool, true, false}
+use mathlib.Core.Bool.{Bool, true, false, cond}
 use mathlib.Core.Logic.{⊎-elim}
 use mathlib.Core.List.{List, [], _∷_, _++_}
 use Prim.Native.Nat.{ℕ, _+_, _-_, _<_}
@@ -10,7 +10,7 @@ use borrow.Author.Tests.{ltb-false, lt-ltb, le-ltb}
 use lib.Dec.{ltb, eqb}
 use lib.ListN.{length}
 use Rattle.refusals.specs.Numbers.{freeListShort}
-use Rattle.seqs.specs.Lists.{choose, fold}
+use Rattle.seqs.specs.Lists.{fold}
 use Rattle.seqs.proofs.Laws.{lt-or-le}
 use Rattle.params.specs.declared.OptU64.the-variants.{Absent, Given}
 use Rattle.geometry.specs.declared.Geometry.{Geometry}
@@ -31,7 +31,7 @@ use Rattle.plan_totals.specs.Totals.{addCount, largerCount, maxCount, fr
 larger-none : (n : ℕ) → largerCount n 0 ≡ n
 larger-none n = rw (le-ltb n 0 (omega arith))
 
-larger-some-at : (n : ℕ) (t : Bool) → ltb 0 n ≡ t → choose t n 0 ≡ n
+larger-some-at : (n : ℕ) (t : Bool) → ltb 0 n ≡ t → cond t n 0 ≡ n
 larger-some-at n true e = refl
 larger-some-at n false e = let h = ltb-false 0 n e in omega arith
 
@@ -63,22 +63,22 @@ module _ (a b c d : ℕ) where
 
 module _ (s : Site) where
   free-at : (t : Bool)
-      → fold addCount 0 (choose t (gap (s .head + s .need) (s .«chunk_at») ++ gap (s .«chunk_at» + s .«chunk_blocks») (s .length)) (gap (listAt s + s .need) (s .length)))
-      ≡ choose t (beforeChunk s + afterChunk s) (afterList s)
+      → fold addCount 0 (cond t (gap (s .head + s .need) (s .«chunk_at») ++ gap (s .«chunk_at» + s .«chunk_blocks») (s .length)) (gap (listAt s + s .need) (s .length)))
+      ≡ cond t (beforeChunk s + afterChunk s) (afterList s)
   free-at true = sum-gaps (s .head + s .need) (s .«chunk_at») (s .«chunk_at» + s .«chunk_blocks») (s .length)
   free-at false = sum-gap 0 (listAt s + s .need) (s .length) ∙ omega arith
 
-  pub free-is : freeblksOf (packFree (closedFree s)) ≡ choose (hasRootChunk s) (beforeChunk s + afterChunk s) (afterList s)
+  pub free-is : freeblksOf (packFree (closedFree s)) ≡ cond (hasRootChunk s) (beforeChunk s + afterChunk s) (afterList s)
   unfolding freeblksOf closedFree
   free-is = rw (free-packed (closedFree s)) (free-at (hasRootChunk s))
 
   longest-at : (t : Bool)
-      → fold maxCount 0 (choose t (gap (s .head + s .need) (s .«chunk_at») ++ gap (s .«chunk_at» + s .«chunk_blocks») (s .length)) (gap (listAt s + s .need) (s .length)))
-      ≡ choose t (largerCount (beforeChunk s) (afterChunk s)) (afterList s)
+      → fold maxCount 0 (cond t (gap (s .head + s .need) (s .«chunk_at») ++ gap (s .«chunk_at» + s .«chunk_blocks») (s .length)) (gap (listAt s + s .need) (s .length)))
+      ≡ cond t (largerCount (beforeChunk s) (afterChunk s)) (afterList s)
   longest-at true = longest-gaps (s .head + s .need) (s .«chunk_at») (s .«chunk_at» + s .«chunk_blocks») (s .length)
   longest-at false = longest-gap 0 (listAt s + s .need) (s .length) ∙ larger-some (afterList s)
 
-  pub longest-is : longestOf (packFree (closedFree s)) ≡ choose (hasRootChunk s) (largerCount (beforeChunk s) (afterChunk s)) (afterList s)
+  pub longest-is : longestOf (packFree (closedFree s)) ≡ cond (hasRootChunk s) (largerCount (beforeChunk s) (afterChunk s)) (afterList s)
   unfolding longestOf closedFree
   longest-is = rw (free-packed (closedFree s)) (longest-at (hasRootChunk s))
 
@@ -86,16 +86,16 @@ module _ (s : Site) where
   unfolding closedList
   list-is = length-up (listAt s) (s .need)
 
-chunk-at : (t : Bool) (a n : ℕ) → chunkBlocksOf (choose t (Given a) Absent) n ≡ choose t n 0
+chunk-at : (t : Bool) (a n : ℕ) → chunkBlocksOf (cond t (Given a) Absent) n ≡ cond t n 0
 chunk-at true a n = refl
 chunk-at false a n = refl
 
 -- the row of a plan in closed form
 module _ (g : Geometry) (k : ℕ) where
   row-at : (t : Bool) → listShort (siteOf g k) ≡ t
-      → choose (eqb (choose t (refusedPlan freeListShort) (record { number = 0; plan = closedAgPlan (siteOf g k) }) .number) 0)
-      (rowFrom g k (choose t (refusedPlan freeListShort) (record { number = 0; plan = closedAgPlan (siteOf g k) }) .plan))
-      (noRow (choose t (refusedPlan freeListShort) (record { number = 0; plan = closedAgPlan (siteOf g k) }) .number))
+      → cond (eqb (cond t (refusedPlan freeListShort) (record { number = 0; plan = closedAgPlan (siteOf g k) }) .number) 0)
+      (rowFrom g k (cond t (refusedPlan freeListShort) (record { number = 0; plan = closedAgPlan (siteOf g k) }) .plan))
+      (noRow (cond t (refusedPlan freeListShort) (record { number = 0; plan = closedAgPlan (siteOf g k) }) .number))
       ≡ closedRow (siteOf g k)
   unfolding closedRow siteOf
   row-at true e = rw e

@@ -1,7 +1,7 @@
 -- The running numbers over a plan's free records: each from the one before, and none above the last.
 -- Assumes nothing.
 use mathlib.Core.Path.{_≡_, refl, sym, _∙_}
-use mathlib.Core.Bool.{Bool, true, false}
+use mathlib.Core.Bool.{Bool, true, false, cond}
 use mathlib.Core.List.{List, [], _∷_}
 use Prim.Native.Nat.{ℕ, zero, suc, _+_, _^_, _≤_, _<_}
 use native.Mathlib.Nat.{not-suc-le-zero}
@@ -10,7 +10,7 @@ use native.Mathlib.Omega.{arith}
 use lib.Dec.{ltb}
 use lib.ListN.{length, getD, take}
 use borrow.Author.Tests.{ltb-true}
-use Rattle.seqs.specs.Lists.{choose, fold}
+use Rattle.seqs.specs.Lists.{fold}
 use Rattle.btree.specs.declared.records.AllocRec.{AllocRec}
 use Rattle.plan_free.specs.declared.FreeList.{FreeList}
 use Rattle.plan_free.specs.Free.{freeOf}
@@ -30,7 +30,7 @@ module _ (f : ℕ → AllocRec → ℕ) (up : (s : ℕ) (r : AllocRec) → s ≤
   prefix-least (suc n) s [] = omega arith
   prefix-least (suc n) s (x ∷ xs) = prefix-least n (f s x) xs
 
-larger-up-at : (a b : ℕ) (t : Bool) → ltb a b ≡ t → a ≤ choose t b a
+larger-up-at : (a b : ℕ) (t : Bool) → ltb a b ≡ t → a ≤ cond t b a
 larger-up-at a b true e = let h = ltb-true a b e in omega arith
 larger-up-at a b false e = omega arith
 

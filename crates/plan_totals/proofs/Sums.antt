@@ -1,7 +1,7 @@
 -- Laws of sums over groups.
 -- Assumes nothing.
 use mathlib.Core.Path.{_≡_, refl, sym, _∙_}
-use mathlib.Core.Bool.{Bool, true, false}
+use mathlib.Core.Bool.{Bool, true, false, cond}
 use mathlib.Core.Logic.{⊎-elim}
 use Prim.Native.Nat.{ℕ, zero, suc, _+_, _*_, _-_, _≤_, _<_}
 use native.Mathlib.Omega.{arith}
@@ -9,7 +9,6 @@ use native.Mathlib.Nat.{suc-mul, zero-mul, not-suc-le-zero}
 use borrow.Author.Tests.{eqb-true, eq-eqb, ne-eqb}
 use lib.Dec.{eqb}
 use Rattle.arith.specs.Choice.{when}
-use Rattle.seqs.specs.Lists.{choose}
 use Rattle.seqs.proofs.Laws.{lt-or-le}
 use Rattle.geometry_layout.specs.Places.{groupBlocks}
 use Rattle.plan_totals.specs.Totals.{sumTo, firstTo}
@@ -33,7 +32,7 @@ sum-alike (suc n) c = let i = sum-alike n c in let m = suc-mul n c in omega arit
 -- a number at one index, 0 elsewhere
 module _ (m c : ℕ) where
   abbrev pub only : ℕ → ℕ
-  only k = choose (eqb k m) c 0
+  only k = cond (eqb k m) c 0
 
   only-else : (k : ℕ) → (k ≡ m → ⊥) → only k ≡ 0
   only-else k h = rw (ne-eqb k m h)
@@ -56,7 +55,7 @@ module _ (m c : ℕ) where
       (lt-or-le m n)
 
   -- the first that isn't 0
-  kept-at : (t : Bool) → eqb c 0 ≡ t → choose t 0 c ≡ c
+  kept-at : (t : Bool) → eqb c 0 ≡ t → cond t 0 c ≡ c
   kept-at true e = sym (eqb-true c 0 e)
   kept-at false e = refl
 

@@ -1,14 +1,13 @@
 -- The whole disk: every group of an answer adds up, and so do all.
 -- Assumes nothing.
 use mathlib.Core.Path.{_≡_, refl, sym, ap, _∙_}
-use mathlib.Core.Bool.{Bool, true, false, cond}
+use mathlib.Core.Bool.{Bool, true, false, cond, _&&_}
 use Prim.Native.Nat.{ℕ, _+_, _*_, _-_, _<_}
 use native.Mathlib.Omega.{arith}
 use borrow.Author.Tests.{ltb-false, eqb-true, eqb-false}
 use lib.Dec.{ltb, eqb}
 use lib.ListN.{length}
 use Rattle.refusals.specs.Numbers.{freeListShort, noAnswer}
-use Rattle.seqs.specs.Lists.{both, choose}
 use Rattle.geometry.specs.declared.Geometry.{Geometry}
 use Rattle.geometry.specs.Log.{preallocOf}
 use Rattle.geometry_answers.specs.Named.{isAnswer}
@@ -30,17 +29,17 @@ use Rattle.plan_totals.proofs.Rows.{free-is, list-is, row-closed}
 
 -- blocks of the log, and of the root chunk, where they are here
 abbrev logIn : Site → ℕ
-logIn s = choose (s .«has_log») (s .«log_blocks») 0
+logIn s = cond (s .«has_log») (s .«log_blocks») 0
 
 abbrev chunkHere : Site → ℕ
-chunkHere s = choose (hasRootChunk s) (s .«chunk_blocks») 0
+chunkHere s = cond (hasRootChunk s) (s .«chunk_blocks») 0
 
 abbrev freeIn : Site → ℕ
-freeIn s = choose (hasRootChunk s) (beforeChunk s + afterChunk s) (afterList s)
+freeIn s = cond (hasRootChunk s) (beforeChunk s + afterChunk s) (afterList s)
 
 module _ (s : Site) (ok : SoundSite s) where
-  adds-at : (t u : Bool) → hasRootChunk s ≡ t → s .«has_log» ≡ u → both u (ltb (s .length - choose u (s .«log_at» + s .«log_blocks») (s .head)) (s .need)) ≡ false
-      → choose t (beforeChunk s + afterChunk s) (s .length - (choose u (s .«log_at» + s .«log_blocks») (s .head) + s .need)) + s .need + choose t (s .«chunk_blocks») 0 + choose u (s .«log_blocks») 0 + s .head ≡ s .length
+  adds-at : (t u : Bool) → hasRootChunk s ≡ t → s .«has_log» ≡ u → (u && ltb (s .length - cond u (s .«log_at» + s .«log_blocks») (s .head)) (s .need)) ≡ false
+      → cond t (beforeChunk s + afterChunk s) (s .length - (cond u (s .«log_at» + s .«log_blocks») (s .head) + s .need)) + s .need + cond t (s .«chunk_blocks») 0 + cond u (s .«log_blocks») 0 + s .head ≡ s .length
   adds-at true true z e q = let f = ok .log-not-first (eqb-true (s .agno) 0 z) in let o : _≡_ {A = ℕ} 0 1 = cc in absurd (omega arith)
   adds-at true false z e q = let a = ok .chunk-after in let c = ok .chunk-ends in let l = ok .length-least in omega arith
   adds-at false true z e q =
@@ -61,14 +60,14 @@ module _ (g : Geometry) (l : length (g .label) ≡ 12) (h : isAnswer g ≡ true)
   abbrev logSite : Site
   logSite = siteOf g (g .logagno)
 
-  one-number-at : (k : ℕ) → k < g .agcount → (t : Bool) → eqb k (g .logagno) ≡ t → planned g k .number ≡ choose t (choose (listShort logSite) freeListShort 0) 0
-  one-number-at k i true e = planned-number g l h k i ∙ ap (λ (n : ℕ). choose (listShort (siteOf g n)) freeListShort 0) (eqb-true k (g .logagno) e)
+  one-number-at : (k : ℕ) → k < g .agcount → (t : Bool) → eqb k (g .logagno) ≡ t → planned g k .number ≡ cond t (cond (listShort logSite) freeListShort 0) 0
+  one-number-at k i true e = planned-number g l h k i ∙ ap (λ (n : ℕ). cond (listShort (siteOf g n)) freeListShort 0) (eqb-true k (g .logagno) e)
   one-number-at k i false e = others-planned g l h k i (eqb-false k (g .logagno) e)
 
   -- some group is refused exactly where the log group is
-  pub all-numbers : firstTo (g .agcount) (λ k. planned g k .number) ≡ choose (listShort logSite) freeListShort 0
+  pub all-numbers : firstTo (g .agcount) (λ k. planned g k .number) ≡ cond (listShort logSite) freeListShort 0
   all-numbers =
-      first-only (g .logagno) (choose (listShort logSite) freeListShort 0) (λ k. planned g k .number) (g .agcount) (answer-bounds g l h .places .log-inside)
+      first-only (g .logagno) (cond (listShort logSite) freeListShort 0) (λ k. planned g k .number) (g .agcount) (answer-bounds g l h .places .log-inside)
       (λ k i. one-number-at k i (eqb k (g .logagno)) refl)
 
   some-groups : 1 < g .agcount
@@ -180,7 +179,7 @@ module _ (g : Geometry) (l : length (g .label) ≡ 12) (h : isAnswer g ≡ true)
 -- ---- every geometry, an answer or not
 
 module _ (g : Geometry) (l : length (g .label) ≡ 12) where
-  number-at : (t : Bool) → isAnswer g ≡ t → choose t (firstTo (g .agcount) (λ k. planned g k .number)) noAnswer ≡ choose t (choose (listShort (siteOf g (g .logagno))) freeListShort 0) noAnswer
+  number-at : (t : Bool) → isAnswer g ≡ t → cond t (firstTo (g .agcount) (λ k. planned g k .number)) noAnswer ≡ cond t (cond (listShort (siteOf g (g .logagno))) freeListShort 0) noAnswer
   number-at true h = all-numbers g l h
   number-at false h = refl
 
@@ -189,7 +188,7 @@ module _ (g : Geometry) (l : length (g .label) ≡ 12) where
   unfolding plansNumber constNumber
   plans-number = number-at (isAnswer g) refl
 
-  planned-at : (t u : Bool) → choose {A = ℕ} t (choose u freeListShort 0) noAnswer ≡ 0 → (t ≡ true) × (u ≡ false)
+  planned-at : (t u : Bool) → cond {A = ℕ} t (cond u freeListShort 0) noAnswer ≡ 0 → (t ≡ true) × (u ≡ false)
   planned-at true true e = absurd (omega arith)
   planned-at true false e = (refl, refl)
   planned-at false u e = absurd (omega arith)

@@ -1,10 +1,11 @@
 -- What the plans of all groups come to: free blocks, rows of planlist's table, sums over the groups.
 -- Assumes nothing.
+use mathlib.Core.Bool.{cond}
 use Prim.Native.Nat.{ℕ, zero, suc, _+_, _*_, _-_, _^_, _<_}
 use lib.Dec.{ltb, eqb}
 use lib.ListN.{take}
 use Rattle.refusals.specs.Numbers.{noAnswer, freeListShort}
-use Rattle.seqs.specs.Lists.{choose, fold}
+use Rattle.seqs.specs.Lists.{fold}
 use Rattle.params.specs.declared.OptU64.{OptU64}
 use Rattle.params.specs.declared.OptU64.the-variants.{Absent, Given}
 use Rattle.geometry.specs.declared.Geometry.{Geometry}
@@ -30,7 +31,7 @@ abbrev pub addCount : ℕ → AllocRec → ℕ
 addCount n r = n + r .count
 
 abbrev pub largerCount : ℕ → ℕ → ℕ
-largerCount a b = choose (ltb a b) b a
+largerCount a b = cond (ltb a b) b a
 
 abbrev pub maxCount : ℕ → AllocRec → ℕ
 maxCount n r = largerCount n (r .count)
@@ -64,11 +65,11 @@ sumTo (suc n) f = sumTo n f + f n
 -- the first of f 0, f 1, .., n numbers, that isn't 0; else 0
 unfoldable pub firstTo : ℕ → (ℕ → ℕ) → ℕ
 firstTo zero f = 0
-firstTo (suc n) f = choose (eqb (firstTo n f) 0) (f n) (firstTo n f)
+firstTo (suc n) f = cond (eqb (firstTo n f) 0) (f n) (firstTo n f)
 
 -- the number of the whole geometry: 31, or the first that planning a group gives
 unfoldable pub plansNumber : Geometry → ℕ
-plansNumber g = choose (isAnswer g) (firstTo (g .agcount) (λ k. planned g k .number)) noAnswer
+plansNumber g = cond (isAnswer g) (firstTo (g .agcount) (λ k. planned g k .number)) noAnswer
 
 -- blocks that a plan leaves free or puts on the free list
 abbrev pub freeOfPlan : AgPlan → ℕ
@@ -86,7 +87,7 @@ freeCountAnswer g = unless64 (plansNumber g) (freeCount g)
 
 -- 25 where the log group is short of blocks
 unfoldable pub constNumber : Geometry → ℕ
-constNumber g = choose (isAnswer g) (choose (listShort (siteOf g (g .logagno))) freeListShort 0) noAnswer
+constNumber g = cond (isAnswer g) (cond (listShort (siteOf g (g .logagno))) freeListShort 0) noAnswer
 
 -- all blocks but heads, log and root chunk
 unfoldable pub constCount : Geometry → ℕ
@@ -110,7 +111,7 @@ rowFrom g k p =
       number = 0;
       group = p .agno;
       length = p .length;
-      log = choose (eqb k (g .logagno)) (g .logblocks) 0;
+      log = cond (eqb k (g .logagno)) (g .logblocks) 0;
       list = p .agfl .len;
       chunk = chunkBlocksOf (p .chunk) (chunkOf (g .inodesize) (g .blocksize));
       free = freeblksOf (p .free);
@@ -119,7 +120,7 @@ rowFrom g k p =
 
 -- `row`: 31, 29, 25, or the row of the group's plan
 unfoldable pub rowOf : Geometry → ℕ → Row
-rowOf g k = choose (eqb (planned g k .number) 0) (rowFrom g k (planned g k .plan)) (noRow (planned g k .number))
+rowOf g k = cond (eqb (planned g k .number) 0) (rowFrom g k (planned g k .plan)) (noRow (planned g k .number))
 
 -- the last line: sums of the rows
 unfoldable pub totalOf : Geometry → Total
@@ -146,16 +147,16 @@ afterList s = s .length - (listAt s + s .need)
 
 unfoldable pub closedRow : Site → Row
 closedRow s =
-    choose (listShort s) (noRow freeListShort)
+    cond (listShort s) (noRow freeListShort)
     (record {
       number = 0;
       group = s .agno;
       length = s .length;
-      log = choose (s .«has_log») (s .«log_blocks») 0;
+      log = cond (s .«has_log») (s .«log_blocks») 0;
       list = s .need;
-      chunk = choose (hasRootChunk s) (s .«chunk_blocks») 0;
-      free = choose (hasRootChunk s) (beforeChunk s + afterChunk s) (afterList s);
-      longest = choose (hasRootChunk s) (largerCount (beforeChunk s) (afterChunk s)) (afterList s);
+      chunk = cond (hasRootChunk s) (s .«chunk_blocks») 0;
+      free = cond (hasRootChunk s) (beforeChunk s + afterChunk s) (afterList s);
+      longest = cond (hasRootChunk s) (largerCount (beforeChunk s) (afterChunk s)) (afterList s);
     })
 
 unfoldable pub closedTotal : Geometry → Total

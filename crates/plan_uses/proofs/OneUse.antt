@@ -1,14 +1,13 @@
 -- Every planned group of an answer: each block has one use, and the reverse mappings agree with the uses.
 -- Assumes nothing.
 use mathlib.Core.Path.{_≡_, refl, sym, ap, _∙_}
-use mathlib.Core.Bool.{Bool, true, false}
+use mathlib.Core.Bool.{Bool, true, false, cond}
 use mathlib.Core.List.{List}
 use Prim.Native.Nat.{ℕ, _+_, _-_, _≤_, _<_}
 use native.Mathlib.Omega.{arith}
 use lib.ListN.{length, replicate}
 use lib.Seq.{take-append-seam}
 use Rattle.refusals.specs.Numbers.{freeListShort}
-use Rattle.seqs.specs.Lists.{choose}
 use Rattle.seqs.specs.Runs.{valid, runLength, has}
 use Rattle.seqs.proofs.Weights.{additive-has, additive-blocks, inside-in, inside-above}
 use Rattle.geometry.specs.declared.Geometry.{Geometry}
@@ -30,7 +29,7 @@ use Rattle.plan_uses.proofs.Sorted.{none-joins, map-valid, list-starts}
 rmap-packed : (rs : List RmapRec) → rmapOf (packRmap rs) ≡ rs
 rmap-packed rs = take-append-seam rs (replicate (64 - length rs) zeroRmapRec)
 
-not-short : (t : Bool) → choose {A = ℕ} t freeListShort 0 ≡ 0 → t ≡ false
+not-short : (t : Bool) → cond {A = ℕ} t freeListShort 0 ≡ 0 → t ≡ false
 not-short true e = absurd (omega arith)
 not-short false e = refl
 
@@ -100,5 +99,5 @@ module _ (g : Geometry) (l : length (g .label) ≡ 12) (h : isAnswer g ≡ true)
     rmap-joined = rw its-map (none-joins (siteOf g k) site-on)
 
     -- THE FREE LIST IS JOINED WITH THE RMAP ROOT EXACTLY WHERE REFLINK IS OFF AND THE LOG IS ELSEWHERE
-    pub list-joined : startsAt (listAt (siteOf g k)) (rmapOf (planned g k .plan .rmap)) ≡ choose (isJoined (siteOf g k)) 0 1
+    pub list-joined : startsAt (listAt (siteOf g k)) (rmapOf (planned g k .plan .rmap)) ≡ cond (isJoined (siteOf g k)) 0 1
     list-joined = rw its-map (list-starts (siteOf g k) ok site-on)

@@ -1,13 +1,12 @@
 -- The reverse mappings in closed form, weighed by their owners.
 -- Assumes nothing.
 use mathlib.Core.Path.{_≡_, refl, ap, _∙_}
-use mathlib.Core.Bool.{Bool, true, false, not}
+use mathlib.Core.Bool.{Bool, true, false, not, cond, _&&_}
 use mathlib.Core.List.{List, [], _∷_, _++_}
 use Prim.Native.Nat.{ℕ, _+_, _-_}
 use native.Mathlib.Omega.{arith}
 use native.Mathlib.Nat.{add-zero, zero-add}
 use lib.Dec.{eqb}
-use Rattle.seqs.specs.Lists.{both, choose}
 use Rattle.seqs.proofs.Weights.{Additive}
 use Rattle.btree.specs.Owners.{negative}
 use Rattle.btree.specs.declared.records.RmapRec.{RmapRec}
@@ -21,11 +20,11 @@ use Rattle.plan_uses.proofs.Parts.{list-weighs, chunk-weighs}
 
 -- the parts by the tests that decide them: z group 0, t reflink, u the log is here
 abbrev pub chunkIf : Site → Bool → List RmapRec
-chunkIf s z = choose z (mapRec (s .«chunk_at») (s .«chunk_blocks») ownInodes ∷ []) []
+chunkIf s z = cond z (mapRec (s .«chunk_at») (s .«chunk_blocks») ownInodes ∷ []) []
 
 abbrev pub restIf : Site → Bool → Bool → Bool → List RmapRec
 restIf s z t u =
-    choose (both (not t) (not u)) (mapRec (s .«rmap_at») (1 + s .need) ownAg ∷ [])
+    cond (not t && not u) (mapRec (s .«rmap_at») (1 + s .need) ownAg ∷ [])
     (mapRec (s .«rmap_at») 1 ownAg ∷ (refcIf s t ++ (logIf s u ++ mapRec (listIf s u) (s .need) ownAg ∷ [])))
     ++ chunkIf s z
 
@@ -48,16 +47,16 @@ module _ (h : ℕ → ℕ → ℕ → ℕ) (add : (o : ℕ) → Additive (h o)) 
   root = h ownAg (s .«rmap_at») (s .«rmap_at» + 1)
 
   abbrev counts : Bool → ℕ
-  counts t = choose t (h ownRefc (s .«refc_at») (s .«refc_at» + 1)) 0
+  counts t = cond t (h ownRefc (s .«refc_at») (s .«refc_at» + 1)) 0
 
   abbrev log : Bool → ℕ
-  log u = choose u (h ownLog (s .«log_at») (s .«log_at» + s .«log_blocks»)) 0
+  log u = cond u (h ownLog (s .«log_at») (s .«log_at» + s .«log_blocks»)) 0
 
   abbrev list : Bool → ℕ
   list u = h ownAg (listIf s u) (listIf s u + s .need)
 
   abbrev inodes : Bool → ℕ
-  inodes z = choose z (h ownInodes (s .«chunk_at») (s .«chunk_at» + s .«chunk_blocks»)) 0
+  inodes z = cond z (h ownInodes (s .«chunk_at») (s .«chunk_at» + s .«chunk_blocks»)) 0
 
   head-weighs : (rest : List RmapRec) → weighOwned h (headMappings s ++ rest) ≡ before + weighOwned h rest
   unfolding weighOwned
@@ -92,12 +91,12 @@ module _ (h : ℕ → ℕ → ℕ → ℕ) (add : (o : ℕ) → Additive (h o)) 
       by-cases (λ (rs : List RmapRec). weighOwned h rs ≡ before + root + counts (s .reflink) + log (s .«has_log») + list (s .«has_log») + inodes (hasRootChunk s)) s on
       (let a = head-weighs (restIf s (hasRootChunk s) (s .reflink) (s .«has_log»)) in let b = rest-weighs (hasRootChunk s) (s .reflink) (s .«has_log») refl in omega arith)
 
-none : (t : Bool) → choose {A = ℕ} t 0 0 ≡ 0
+none : (t : Bool) → cond {A = ℕ} t 0 0 ≡ 0
 none true = refl
 none false = refl
 
 module _ (f : ℕ → ℕ → ℕ) (add : Additive f) where
-  only-at : (t : Bool) → Additive (λ a c. choose t (f a c) 0)
+  only-at : (t : Bool) → Additive (λ a c. cond t (f a c) 0)
   only-at true = record { split = λ a m c i j. add .split a m c i j; none = λ a c i. add .none a c i }
   only-at false = record { split = λ a m c i j. refl; none = λ a c i. refl }
 
@@ -107,7 +106,7 @@ module _ (f : ℕ → ℕ → ℕ) (add : Additive f) where
   module _ (s : Site) (ok : SoundSite s) (on : s .rmapbt ≡ true) where
     -- the head is its parts
     head-at : (t : Bool) → s .reflink ≡ t
-        → f 0 (s .bno) + f (s .bno) (s .bno + 2) + f (s .ibt) (s .«rmap_at») + f (s .«rmap_at») (s .«rmap_at» + 1) + choose t (f (s .«refc_at») (s .«refc_at» + 1)) 0 ≡ f 0 (s .head)
+        → f 0 (s .bno) + f (s .bno) (s .bno + 2) + f (s .ibt) (s .«rmap_at») + f (s .«rmap_at») (s .«rmap_at» + 1) + cond t (f (s .«refc_at») (s .«refc_at» + 1)) 0 ≡ f 0 (s .head)
     head-at t r =
         let i = ok .ibt-next in
         let a = ok .rmap-after in
@@ -118,7 +117,7 @@ module _ (f : ℕ → ℕ → ℕ) (add : Additive f) where
         let w = last-root t r in
         omega arith
       where
-        last-root : (t : Bool) → s .reflink ≡ t → f 0 (s .«rmap_at» + 1) + choose t (f (s .«refc_at») (s .«refc_at» + 1)) 0 ≡ f 0 (s .head)
+        last-root : (t : Bool) → s .reflink ≡ t → f 0 (s .«rmap_at» + 1) + cond t (f (s .«refc_at») (s .«refc_at» + 1)) 0 ≡ f 0 (s .head)
         last-root true r =
             let n = head-is s ok on true r in
             let m = add .split 0 (s .«rmap_at» + 1) (s .«rmap_at» + 1 + 1) (omega arith) (omega arith) in

@@ -1,7 +1,7 @@
 -- A planned group's uses in closed form weigh what the whole group weighs.
 -- Assumes nothing.
 use mathlib.Core.Path.{_≡_, refl, sym}
-use mathlib.Core.Bool.{Bool, true, false}
+use mathlib.Core.Bool.{Bool, true, false, cond, _&&_}
 use mathlib.Core.List.{List, _++_}
 use Prim.Native.Nat.{ℕ, zero, suc, _+_, _-_}
 use native.Mathlib.Omega.{arith}
@@ -9,7 +9,7 @@ use borrow.Author.Tests.{ltb-false, eqb-true}
 use lib.Dec.{ltb}
 use lib.ListN.{length, replicate}
 use lib.Seq.{take-append-seam}
-use Rattle.seqs.specs.Lists.{both, choose, upFrom}
+use Rattle.seqs.specs.Lists.{upFrom}
 use Rattle.seqs.specs.Runs.{weigh}
 use Rattle.seqs.proofs.Weights.{Additive, weigh-append}
 use Rattle.params.specs.declared.OptU64.the-variants.{Absent, Given}
@@ -39,16 +39,16 @@ module _ (f : ℕ → ℕ → ℕ) (add : Additive f) where
     unfolding closedList
     list-weighs = rw (list-packed (upFrom (listAt s) (s .need))) (run-weighs (listAt s) (s .need))
 
-    chunk-at : (t : Bool) → chunkFrom f (choose t (Given (s .«chunk_at»)) Absent) (s .«chunk_blocks») ≡ choose t (f (s .«chunk_at») (s .«chunk_at» + s .«chunk_blocks»)) 0
+    chunk-at : (t : Bool) → chunkFrom f (cond t (Given (s .«chunk_at»)) Absent) (s .«chunk_blocks») ≡ cond t (f (s .«chunk_at») (s .«chunk_at» + s .«chunk_blocks»)) 0
     chunk-at true = refl
     chunk-at false = refl
 
-    pub chunk-weighs : chunkFrom f (choose (hasRootChunk s) (Given (s .«chunk_at»)) Absent) (s .«chunk_blocks») ≡ choose (hasRootChunk s) (f (s .«chunk_at») (s .«chunk_at» + s .«chunk_blocks»)) 0
+    pub chunk-weighs : chunkFrom f (cond (hasRootChunk s) (Given (s .«chunk_at»)) Absent) (s .«chunk_blocks») ≡ cond (hasRootChunk s) (f (s .«chunk_at») (s .«chunk_at» + s .«chunk_blocks»)) 0
     chunk-weighs = chunk-at (hasRootChunk s)
 
     free-at : (t : Bool)
-        → weigh allocStart allocCount f (choose t (gap (s .head + s .need) (s .«chunk_at») ++ gap (s .«chunk_at» + s .«chunk_blocks») (s .length)) (gap (listAt s + s .need) (s .length)))
-        ≡ choose t (f (s .head + s .need) (s .«chunk_at») + f (s .«chunk_at» + s .«chunk_blocks») (s .length)) (f (listAt s + s .need) (s .length))
+        → weigh allocStart allocCount f (cond t (gap (s .head + s .need) (s .«chunk_at») ++ gap (s .«chunk_at» + s .«chunk_blocks») (s .length)) (gap (listAt s + s .need) (s .length)))
+        ≡ cond t (f (s .head + s .need) (s .«chunk_at») + f (s .«chunk_at» + s .«chunk_blocks») (s .length)) (f (listAt s + s .need) (s .length))
     free-at true =
         let u = weigh-append allocStart allocCount f (gap (s .head + s .need) (s .«chunk_at»)) (gap (s .«chunk_at» + s .«chunk_blocks») (s .length)) in
         let p = piece-weighs f add (s .head + s .need) (s .«chunk_at») in
@@ -56,17 +56,17 @@ module _ (f : ℕ → ℕ → ℕ) (add : Additive f) where
         omega arith
     free-at false = piece-weighs f add (listAt s + s .need) (s .length)
 
-    free-weighs : weigh allocStart allocCount f (closedFree s) ≡ choose (hasRootChunk s) (f (s .head + s .need) (s .«chunk_at») + f (s .«chunk_at» + s .«chunk_blocks») (s .length)) (f (listAt s + s .need) (s .length))
+    free-weighs : weigh allocStart allocCount f (closedFree s) ≡ cond (hasRootChunk s) (f (s .head + s .need) (s .«chunk_at») + f (s .«chunk_at» + s .«chunk_blocks») (s .length)) (f (listAt s + s .need) (s .length))
     unfolding closedFree
     free-weighs = free-at (hasRootChunk s)
 
     -- the free list's first block, by the test that decides it
     abbrev from : Bool → ℕ
-    from u = choose u (s .«log_at» + s .«log_blocks») (s .head)
+    from u = cond u (s .«log_at» + s .«log_blocks») (s .head)
 
-    sum-at : (t u : Bool) → hasRootChunk s ≡ t → s .«has_log» ≡ u → both u (ltb (s .length - from u) (s .need)) ≡ false
-        → f 0 (s .head) + choose u (f (s .«log_at») (s .«log_at» + s .«log_blocks»)) 0 + f (from u) (from u + s .need) + choose t (f (s .«chunk_at») (s .«chunk_at» + s .«chunk_blocks»)) 0
-        + choose t (f (s .head + s .need) (s .«chunk_at») + f (s .«chunk_at» + s .«chunk_blocks») (s .length)) (f (from u + s .need) (s .length))
+    sum-at : (t u : Bool) → hasRootChunk s ≡ t → s .«has_log» ≡ u → (u && ltb (s .length - from u) (s .need)) ≡ false
+        → f 0 (s .head) + cond u (f (s .«log_at») (s .«log_at» + s .«log_blocks»)) 0 + f (from u) (from u + s .need) + cond t (f (s .«chunk_at») (s .«chunk_at» + s .«chunk_blocks»)) 0
+        + cond t (f (s .head + s .need) (s .«chunk_at») + f (s .«chunk_at» + s .«chunk_blocks») (s .length)) (f (from u + s .need) (s .length))
         ≡ f 0 (s .length)
     sum-at true true z e q = let n = ok .log-not-first (eqb-true (s .agno) 0 z) in let o : _≡_ {A = ℕ} 0 1 = cc in absurd (omega arith)
     sum-at true false z e q =

@@ -2,12 +2,11 @@
 -- follows the rmap root.
 -- Assumes nothing.
 use mathlib.Core.Path.{_≡_, refl, ap, _∙_}
-use mathlib.Core.Bool.{Bool, true, false, not}
+use mathlib.Core.Bool.{Bool, true, false, not, cond, _&&_}
 use mathlib.Core.List.{List, [], _∷_, _++_}
 use Prim.Native.Nat.{ℕ, _+_, _-_, _≤_, _<_}
 use native.Mathlib.Omega.{arith}
 use borrow.Author.Tests.{eqb-true, ne-eqb, eq-eqb}
-use Rattle.seqs.specs.Lists.{both, choose}
 use Rattle.btree.specs.Owners.{negative}
 use Rattle.btree.specs.declared.records.RmapRec.{RmapRec}
 use Rattle.plan_site.specs.declared.Site.{Site}
@@ -122,7 +121,7 @@ module _ (s : Site) (ok : SoundSite s) (on : s .rmapbt ≡ true) where
       ∙ other b (s .bno) 2 ownAg _ (λ e. omega arith)
       ∙ other b (s .ibt) (s .«rmap_at» - s .ibt) ownInobt rs (λ e. omega arith)
 
-  starts-at : (z t u : Bool) → hasRootChunk s ≡ z → s .reflink ≡ t → s .«has_log» ≡ u → startsAt (listIf s u) (restIf s z t u) ≡ choose (both (not t) (not u)) 0 1
+  starts-at : (z t u : Bool) → hasRootChunk s ≡ z → s .reflink ≡ t → s .«has_log» ≡ u → startsAt (listIf s u) (restIf s z t u) ≡ cond (not t && not u) 0 1
   starts-at z false false i r e =
       let h = head-is s ok on false r in
       let n = ok .need-least in
@@ -161,9 +160,9 @@ module _ (s : Site) (ok : SoundSite s) (on : s .rmapbt ≡ true) where
   after-root false = let n = ok .head-next on in omega arith
 
   -- the free list's record starts at its first block, unless it is joined with the rmap root
-  pub list-starts : startsAt (listAt s) (closedRmap s) ≡ choose (isJoined s) 0 1
+  pub list-starts : startsAt (listAt s) (closedRmap s) ≡ cond (isJoined s) 0 1
   unfolding listAt
   list-starts =
-      by-cases (λ (rs : List RmapRec). startsAt (listIf s (s .«has_log»)) rs ≡ choose (isJoined s) 0 1) s on
+      by-cases (λ (rs : List RmapRec). startsAt (listIf s (s .«has_log»)) rs ≡ cond (isJoined s) 0 1) s on
       (parts-elsewhere (listIf s (s .«has_log»)) (restIf s (hasRootChunk s) (s .reflink) (s .«has_log»)) (after-root (s .«has_log»))
       ∙ starts-at (hasRootChunk s) (s .reflink) (s .«has_log») refl refl refl)

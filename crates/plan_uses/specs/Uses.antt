@@ -1,11 +1,11 @@
 -- The five uses of a group's blocks: head, log, free list, root chunk, free; and what the reverse mappings say of them.
 -- Assumes nothing.
 use mathlib.Core.Path.{_≡_}
-use mathlib.Core.Bool.{Bool, true, not}
+use mathlib.Core.Bool.{Bool, true, not, cond, _&&_}
 use mathlib.Core.List.{List, [], _∷_}
 use Prim.Native.Nat.{ℕ, _+_}
 use lib.Dec.{eqb}
-use Rattle.seqs.specs.Lists.{both, choose, live}
+use Rattle.seqs.specs.Lists.{live}
 use Rattle.seqs.specs.Runs.{weigh, runLength, has}
 use Rattle.params.specs.declared.OptU64.{OptU64}
 use Rattle.params.specs.declared.OptU64.the-variants.{Absent, Given}
@@ -35,7 +35,7 @@ abbrev pub headUse : (ℕ → ℕ → ℕ) → Site → ℕ
 headUse f s = f 0 (s .head)
 
 abbrev pub logUse : (ℕ → ℕ → ℕ) → Site → ℕ
-logUse f s = choose (s .«has_log») (f (s .«log_at») (s .«log_at» + s .«log_blocks»)) 0
+logUse f s = cond (s .«has_log») (f (s .«log_at») (s .«log_at» + s .«log_blocks»)) 0
 
 abbrev pub listUse : (ℕ → ℕ → ℕ) → AgPlan → ℕ
 listUse f p = weigh self one f (freeListEntries (p .agfl))
@@ -83,7 +83,7 @@ abbrev pub anyOwner : (ℕ → ℕ → ℕ) → ℕ → ℕ → ℕ → ℕ
 anyOwner f p a c = f a c
 
 abbrev pub onlyOwner : ℕ → (ℕ → ℕ → ℕ) → ℕ → ℕ → ℕ → ℕ
-onlyOwner o f p a c = choose (eqb p o) (f a c) 0
+onlyOwner o f p a c = cond (eqb p o) (f a c) 0
 
 -- how many records of group k hold block b, and how many of owner o do
 unfoldable pub mappedOf : Geometry → ℕ → ℕ → ℕ
@@ -98,7 +98,7 @@ pub record Owners (f : ℕ → ℕ → ℕ) (s : Site) (p : AgPlan) (of : ℕ �
   pub fs : of ownFs ≡ f 0 (s .bno)
   pub ag : of ownAg ≡ f (s .bno) (s .bno + 2) + f (s .«rmap_at») (s .«rmap_at» + 1) + listUse f p
   pub inobt : of ownInobt ≡ f (s .ibt) (s .«rmap_at»)
-  pub refc : of ownRefc ≡ choose (s .reflink) (f (s .«refc_at») (s .«refc_at» + 1)) 0
+  pub refc : of ownRefc ≡ cond (s .reflink) (f (s .«refc_at») (s .«refc_at» + 1)) 0
   pub log : of ownLog ≡ logUse f s
   pub inodes : of ownInodes ≡ chunkUse f s p
 
@@ -106,9 +106,9 @@ pub record Owners (f : ℕ → ℕ → ℕ) (s : Site) (p : AgPlan) (of : ℕ �
 unfoldable pub noneJoins : List RmapRec → Bool
 noneJoins [] = true
 noneJoins (a ∷ []) = true
-noneJoins (a ∷ b ∷ rs) = both (not (joins a b)) (noneJoins (b ∷ rs))
+noneJoins (a ∷ b ∷ rs) = not (joins a b) && noneJoins (b ∷ rs)
 
 -- how many records start at block b
 unfoldable pub startsAt : ℕ → List RmapRec → ℕ
 startsAt b [] = 0
-startsAt b (r ∷ rs) = choose (eqb (r .start) b) 1 0 + startsAt b rs
+startsAt b (r ∷ rs) = cond (eqb (r .start) b) 1 0 + startsAt b rs

@@ -1,7 +1,7 @@
 -- A label filled up with zeros, and found again without them; where no rule is asked, and what the rules don't read.
 -- Assumes nothing.
 use mathlib.Core.Path.{_≡_, refl, sym, ap, subst, _∙_}
-use mathlib.Core.Bool.{Bool, true, false, not, _&&_}
+use mathlib.Core.Bool.{Bool, true, false, not, _&&_, cond}
 use mathlib.Core.List.{List, [], _∷_, _++_}
 use Prim.Native.Nat.{ℕ, zero, suc, _-_, _≤_, _<_, min}
 use native.Mathlib.Omega.{arith}
@@ -12,7 +12,6 @@ use lib.Seq.{length-take-le, take-append-seam}
 use Rattle.refusals.specs.Numbers.{notInProfile}
 use Rattle.arith.specs.Choice.{when}
 use Rattle.arith.proofs.Both.{right-true, left-true, both-true}
-use Rattle.seqs.specs.Lists.{choose}
 use Rattle.seqs.proofs.Laws.{never}
 use Rattle.params.specs.declared.Label.{Label}
 use Rattle.geometry.specs.declared.Geometry.{Geometry}
@@ -51,7 +50,7 @@ unfolding trimmed
 shorter [] = omega arith
 shorter (x ∷ xs) = go (eqb x 0 && eqb (length (trimmed xs)) 0) (shorter xs)
   where
-    go : (t : Bool) → length (trimmed xs) ≤ length xs → length (choose t [] (x ∷ trimmed xs)) ≤ suc (length xs)
+    go : (t : Bool) → length (trimmed xs) ≤ length xs → length (cond t [] (x ∷ trimmed xs)) ≤ suc (length xs)
     go true h = omega arith
     go false h = omega arith
 
@@ -68,7 +67,7 @@ filled (x ∷ xs) = go (eqb x 0) (eqb (length (trimmed xs)) 0) refl refl (filled
 
     go : (t s : Bool) → eqb x 0 ≡ t → eqb (length (trimmed xs)) 0 ≡ s
         → take (length (trimmed xs)) xs ++ replicate (length xs - length (trimmed xs)) 0 ≡ xs
-        → take (length (choose (t && s) [] (x ∷ trimmed xs))) (x ∷ xs) ++ replicate (suc (length xs) - length (choose (t && s) [] (x ∷ trimmed xs))) 0 ≡ x ∷ xs
+        → take (length (cond (t && s) [] (x ∷ trimmed xs))) (x ∷ xs) ++ replicate (suc (length xs) - length (cond (t && s) [] (x ∷ trimmed xs))) 0 ≡ x ∷ xs
     go true true e d f =
         let m = eqb-true (length (trimmed xs)) 0 d in
         let z : suc (length xs) - 0 ≡ suc (length xs - length (trimmed xs)) = omega (arith, m) in

@@ -1,7 +1,7 @@
 -- Turns of the two loops over a label's bytes: so far all are allowed; and behind here only zeros stand.
 -- Assumes nothing.
 use mathlib.Core.Path.{_≡_, refl, sym, ap, _∙_}
-use mathlib.Core.Bool.{Bool, true, false, _&&_}
+use mathlib.Core.Bool.{Bool, true, false, _&&_, cond}
 use mathlib.Core.List.{List, [], _∷_}
 use Prim.Native.Nat.{ℕ, zero, suc, _+_, _-_, _≤_, _<_}
 use native.Mathlib.Omega.{arith}
@@ -11,7 +11,6 @@ use lib.Dec.{leb, eqb}
 use lib.ListN.{length, getD, take, drop}
 use lib.Seq.{drop-cons, drop-length}
 use Rattle.arith.proofs.Both.{right-true, left-true, both-true}
-use Rattle.seqs.specs.Lists.{choose}
 use Rattle.params.specs.declared.Label.{Label}
 use Rattle.profile.specs.Rules.{labelByte, labelBytes, allowedLabel, trimmed}
 
@@ -84,7 +83,7 @@ end-at [] j h d t = absurd (omega arith)
 end-at (x ∷ xs) zero h d t = rw (ne-eqb x 0 d, t) refl
 end-at (x ∷ xs) (suc j) h d t = go (eqb x 0) (end-at xs j (omega arith) d t)
   where
-    go : (b : Bool) → length (trimmed xs) ≡ suc j → length (choose (b && eqb (length (trimmed xs)) 0) [] (x ∷ trimmed xs)) ≡ suc (suc j)
+    go : (b : Bool) → length (trimmed xs) ≡ suc j → length (cond (b && eqb (length (trimmed xs)) 0) [] (x ∷ trimmed xs)) ≡ suc (suc j)
     go true e = rw (ne-eqb (length (trimmed xs)) 0 (λ z. omega arith)) (ap suc e)
     go false e = ap suc e
 

@@ -1,13 +1,12 @@
 -- The scan station profile: its rules, in the order of document 02, and the label of a disk as they judge it.
 -- Assumes nothing.
-use mathlib.Core.Bool.{Bool, true, false, not, _&&_, _||_}
+use mathlib.Core.Bool.{Bool, true, false, not, _&&_, _||_, cond}
 use mathlib.Core.List.{List, [], _∷_}
 use Prim.Native.Nat.{ℕ}
 use lib.Dec.{leb, eqb}
 use lib.ListN.{length, take}
 use Rattle.arith.specs.Choice.{when}
 use Rattle.refusals.specs.Numbers.{notInProfile}
-use Rattle.seqs.specs.Lists.{choose}
 use Rattle.params.specs.declared.Features.{Features}
 use Rattle.params.specs.declared.Label.{Label}
 use Rattle.geometry.specs.declared.Geometry.{Geometry}
@@ -58,7 +57,7 @@ profileNumber under g l = when (under && not (inProfile g l)) notInProfile 0
 -- a label's bytes without the zeros at their end
 unfoldable pub trimmed : List ℕ → List ℕ
 trimmed [] = []
-trimmed (b ∷ bs) = choose (eqb b 0 && eqb (length (trimmed bs)) 0) [] (b ∷ trimmed bs)
+trimmed (b ∷ bs) = cond (eqb b 0 && eqb (length (trimmed bs)) 0) [] (b ∷ trimmed bs)
 
 -- the label that a disk has: the zeros behind it only fill its field up
 unfoldable pub labelOn : Geometry → Label

@@ -1,14 +1,13 @@
 -- Group 0's answer from what is read for its name.
 -- Assumes nothing.
 use mathlib.Core.Path.{_≡_, sym, ap, ap₂, _∙_}
-use mathlib.Core.Bool.{Bool, true, false}
+use mathlib.Core.Bool.{Bool, true, false, cond}
 use mathlib.Core.List.{List}
 use Prim.Native.Nat.{ℕ, _<_, _≤_}
 use native.Mathlib.Omega.{arith}
 use borrow.Author.Tests.{lt-ltb, le-ltb}
 use lib.ListN.{length}
 use Rattle.refusals.specs.Numbers.{notLeft}
-use Rattle.seqs.specs.Lists.{choose}
 use Rattle.geometry.specs.declared.Computed.{Computed}
 use Rattle.geometry_answers.specs.Named.{isAnswer}
 use Rattle.geometry_answers.proofs.Exact.{complete}
@@ -66,7 +65,7 @@ module _ (roomy : Bool) (xs : List ℕ) (l : 512 ≤ length xs) (r : Computed) (
 module _ (xs : List ℕ) (old : Found) (e : old ≡ readSized false xs) where
   pub old-given : old .number ≡ 0 → old ≡ readGroup0 xs
   unfolding readGroup0
-  old-given z = e ∙ sym (ap (λ (t : Bool). choose t (readSized true xs) (readSized false xs)) (le-ltb (readSized true xs .number) (readSized false xs .number) (let n = ap (λ (f : Found). f .number) e in omega arith)))
+  old-given z = e ∙ sym (ap (λ (t : Bool). cond t (readSized true xs) (readSized false xs)) (le-ltb (readSized true xs .number) (readSized false xs .number) (let n = ap (λ (f : Found). f .number) e in omega arith)))
 
   module _ (roomy : Found) (d : roomy ≡ readSized true xs) where
     both-given : lesser roomy old ≡ readGroup0 xs
@@ -74,7 +73,7 @@ module _ (xs : List ℕ) (old : Found) (e : old ≡ readSized false xs) where
     both-given = ap₂ lesser d e
 
     pub roomy-given : roomy .number < old .number → roomy ≡ readGroup0 xs
-    roomy-given h = sym (ap (λ (t : Bool). choose t roomy old) (lt-ltb (roomy .number) (old .number) h)) ∙ both-given
+    roomy-given h = sym (ap (λ (t : Bool). cond t roomy old) (lt-ltb (roomy .number) (old .number) h)) ∙ both-given
 
     pub old-kept : old .number ≤ roomy .number → old ≡ readGroup0 xs
-    old-kept h = sym (ap (λ (t : Bool). choose t roomy old) (le-ltb (roomy .number) (old .number) h)) ∙ both-given
+    old-kept h = sym (ap (λ (t : Bool). cond t roomy old) (le-ltb (roomy .number) (old .number) h)) ∙ both-given

@@ -2,7 +2,7 @@
 -- an accepted run leaves them and none under the profile does.
 -- Assumes nothing.
 use mathlib.Core.Path.{_≡_, refl, sym, ap, subst, _∙_}
-use mathlib.Core.Bool.{Bool, true, false, not, _&&_}
+use mathlib.Core.Bool.{Bool, true, false, not, _&&_, cond}
 use mathlib.Core.List.{List}
 use mathlib.Core.Logic.{_↔_}
 use Prim.Native.Nat.{ℕ, _<_}
@@ -10,7 +10,6 @@ use borrow.Author.Tests.{eqb-true, ne-eqb}
 use lib.Dec.{eqb}
 use Rattle.refusals.specs.Numbers.{notInProfile}
 use Rattle.arith.specs.Choice.{when}
-use Rattle.seqs.specs.Lists.{choose}
 use Rattle.geometry.specs.declared.Geometry.{Geometry}
 use Rattle.plan.specs.declared.Planned.{Planned}
 use Rattle.profile.specs.Rules.{inProfile, profileNumber, labelOn}
@@ -38,7 +37,7 @@ pub untold : (g : Geometry) (n : ℕ) → admitted false g n ≡ n
 unfolding admitted
 untold g n = ap (orNext n) (not-under g (labelOn g)) ∙ go (eqb n 0) refl
   where
-    go : (t : Bool) → eqb n 0 ≡ t → choose t 0 n ≡ n
+    go : (t : Bool) → eqb n 0 ≡ t → cond t 0 n ≡ n
     go true e = sym (eqb-true n 0 e)
     go false e = refl
 

@@ -2,7 +2,7 @@
 -- taken for it, or it for one of theirs.
 -- Assumes nothing.
 use mathlib.Core.Path.{_≡_, refl, subst}
-use mathlib.Core.Bool.{Bool, true, false}
+use mathlib.Core.Bool.{Bool, true, false, cond}
 use mathlib.Core.List.{List}
 use mathlib.Core.Logic.{_↔_}
 use Prim.Native.Nat.{ℕ}
@@ -10,7 +10,6 @@ use native.Mathlib.Omega.{arith}
 use borrow.Author.Tests.{eqb-true}
 use lib.Dec.{T, eqb}
 use Rattle.refusals.specs.Numbers.{notInProfile}
-use Rattle.seqs.specs.Lists.{choose}
 use Rattle.geometry.specs.declared.Geometry.{Geometry}
 use Rattle.profile.specs.Rules.{profileNumber, labelOn}
 use Rattle.reader_exact.specs.Read.{readGroup0, readGroup, readLog}
@@ -26,7 +25,7 @@ only-zero : (g : Geometry) (n : ℕ) → (n ≡ notInProfile → ⊥) → admitt
 unfolding admitted
 only-zero g n h e = go (eqb n 0) refl e
   where
-    go : (t : Bool) → eqb n 0 ≡ t → choose t (profileNumber true g (labelOn g)) n ≡ notInProfile → n ≡ 0
+    go : (t : Bool) → eqb n 0 ≡ t → cond t (profileNumber true g (labelOn g)) n ≡ notInProfile → n ≡ 0
     go true d f = eqb-true n 0 d
     go false d f = absurd (h f)
 

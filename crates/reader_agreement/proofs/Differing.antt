@@ -2,7 +2,7 @@
 -- 30 though there is something to compare it with has a byte that differs, at that very index.
 -- Assumes nothing.
 use mathlib.Core.Path.{_≡_, refl, sym, ap, ap₂, _∙_}
-use mathlib.Core.Bool.{Bool, true, false, not, _&&_}
+use mathlib.Core.Bool.{Bool, true, false, not, _&&_, cond}
 use mathlib.Core.List.{List, [], _∷_}
 use mathlib.Core.Logic.{_⊎_, inl, inr}
 use Prim.Native.Nat.{ℕ, zero, suc, _+_, _≤_, _<_}
@@ -11,7 +11,6 @@ use native.Mathlib.Omega.{arith}
 use lib.Dec.{eqb, leb}
 use lib.ListN.{length, getD, take}
 use borrow.Author.Tests.{eqb-true, eqb-false, le-leb, eq-eqb}
-use Rattle.seqs.specs.Lists.{choose}
 use Rattle.seqs.proofs.Laws.{lt-or-le}
 use Rattle.geometry.specs.declared.Geometry.{Geometry}
 use Rattle.plan.specs.declared.Planned.{Planned}
@@ -38,7 +37,7 @@ common-same [] ys = refl
 common-same (x ∷ xs) [] = refl
 common-same (x ∷ xs) (y ∷ ys) = by (common-same xs ys) (eqb x y) refl
   where
-    by : take (common xs ys) xs ≡ take (common xs ys) ys → (t : Bool) → eqb x y ≡ t → take (choose t (suc (common xs ys)) 0) (x ∷ xs) ≡ take (choose t (suc (common xs ys)) 0) (y ∷ ys)
+    by : take (common xs ys) xs ≡ take (common xs ys) ys → (t : Bool) → eqb x y ≡ t → take (cond t (suc (common xs ys)) 0) (x ∷ xs) ≡ take (cond t (suc (common xs ys)) 0) (y ∷ ys)
     by rest true e = ap₂ (λ (h : ℕ) (l : List ℕ). h ∷ l) (eqb-true x y e) rest
     by rest false e = refl
 
@@ -50,8 +49,8 @@ common-differs (x ∷ xs) [] h k e = absurd (not-suc-le-zero k)
 common-differs (x ∷ xs) (y ∷ ys) h k e = by (common-differs xs ys) (eqb x y) refl h k e
   where
     by : (common xs ys < length xs → common xs ys < length ys → getD xs (common xs ys) 0 ≡ getD ys (common xs ys) 0 → ⊥)
-        → (t : Bool) → eqb x y ≡ t → choose t (suc (common xs ys)) 0 < suc (length xs) → choose t (suc (common xs ys)) 0 < suc (length ys)
-        → getD (x ∷ xs) (choose t (suc (common xs ys)) 0) 0 ≡ getD (y ∷ ys) (choose t (suc (common xs ys)) 0) 0 → ⊥
+        → (t : Bool) → eqb x y ≡ t → cond t (suc (common xs ys)) 0 < suc (length xs) → cond t (suc (common xs ys)) 0 < suc (length ys)
+        → getD (x ∷ xs) (cond t (suc (common xs ys)) 0) 0 ≡ getD (y ∷ ys) (cond t (suc (common xs ys)) 0) 0 → ⊥
     by rest true d h k e = rest (le-of-suc-le-suc h) (le-of-suc-le-suc k) e
     by rest false d h k e = eqb-false x y d e
 
@@ -63,7 +62,7 @@ common-all [] (y ∷ ys) l h = absurd (omega arith)
 common-all (x ∷ xs) [] l h = absurd (omega arith)
 common-all (x ∷ xs) (y ∷ ys) l h = by (λ k. common-all xs ys (let m : suc (length xs) ≡ suc (length ys) = l in omega arith) k) (eqb x y) refl h
   where
-    by : (length ys ≤ common xs ys → xs ≡ ys) → (t : Bool) → eqb x y ≡ t → suc (length ys) ≤ choose t (suc (common xs ys)) 0 → x ∷ xs ≡ y ∷ ys
+    by : (length ys ≤ common xs ys → xs ≡ ys) → (t : Bool) → eqb x y ≡ t → suc (length ys) ≤ cond t (suc (common xs ys)) 0 → x ∷ xs ≡ y ∷ ys
     by rest true e k = ap₂ (λ (a : ℕ) (b : List ℕ). a ∷ b) (eqb-true x y e) (rest (le-of-suc-le-suc k))
     by rest false e k = absurd (not-suc-le-zero k)
 

@@ -12,7 +12,6 @@ use lib.Dec.{eqb, leb, ltb}
 use lib.ListN.{length, getD, drop, take, drop-of-length-le}
 use lib.Seq.{drop-cons, length-take-le}
 use borrow.Author.Tests.{eq-eqb, ne-eqb, le-leb, lt-leb, lt-ltb, le-ltb}
-use Rattle.seqs.specs.Lists.{choose}
 use Rattle.seqs.proofs.Laws.{lt-or-le}
 use Rattle.structs.specs.Written.{Written}
 use Rattle.structs.proofs.Written.{written-in}

@@ -1,10 +1,10 @@
 -- The answer for a head that is compared with bytes that were made for it, and what is left in a lent buffer in which they are made.
 -- Assumes nothing.
+use mathlib.Core.Bool.{cond}
 use mathlib.Core.List.{List}
 use Prim.Native.Nat.{ℕ}
 use lib.Dec.{eqb, leb}
 use lib.ListN.{length}
-use Rattle.endian.specs.Answer.{chosen}
 use Rattle.refusals.specs.Table.{first}
 use Rattle.geometry.specs.declared.Geometry.{Geometry}
 use Rattle.head_bytes.specs.Head.{headLength}
@@ -18,4 +18,4 @@ comparedNumber g k left xs = first (placeTests g (leb (g .agcount) k) (headLengt
 
 -- the head of group k as it is left, where it can be made in as many bytes; else what stood there
 unfoldable pub madeIn : Geometry → List ℕ → ℕ → List ℕ → List ℕ
-madeIn g u k ws = chosen (eqb (headRefusal g k (length ws)) 0) (headLeft g u k) ws
+madeIn g u k ws = cond (eqb (headRefusal g k (length ws)) 0) (headLeft g u k) ws

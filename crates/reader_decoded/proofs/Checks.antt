@@ -1,7 +1,7 @@
 -- EVERY CHECKSUM OF A HEAD VERIFIES: those of its sectors by themselves, those of its roots by one law over a list of blocks.
 -- Assumes nothing.
 use mathlib.Core.Path.{_≡_, refl, ap, sym, _∙_}
-use mathlib.Core.Bool.{Bool, true, false}
+use mathlib.Core.Bool.{Bool, true, false, cond}
 use mathlib.Core.List.{List, [], _∷_, _++_, append-assoc, append-nil}
 use Prim.Native.Nat.{ℕ, zero, suc, _+_, _*_, _-_, _≤_, _<_}
 use native.Mathlib.Nat.{add-mul, suc-mul, zero-mul}
@@ -14,7 +14,6 @@ use Rattle.endian.proofs.Fields.{write-length}
 use Rattle.crc.specs.Crc.{verified}
 use Rattle.crc.proofs.Laws.{stamped-verifies}
 use Rattle.structs.proofs.Lengths.{sector-least, block-least}
-use Rattle.seqs.specs.Lists.{choose}
 use Rattle.geometry.specs.declared.Geometry.{Geometry}
 use Rattle.geometry.specs.Log.{headerOf, preallocOf}
 use Rattle.geometry_layout.specs.Places.{ibtBlock, fibtBlock, daddrOf}
@@ -53,19 +52,19 @@ block-at bs (x ∷ ps) a (suc i) h =
     ∙ block-at bs ps (a .2) i (omega arith)
 
 -- one more block where it is on
-opt-joined : (on : Bool) (x : List ℕ) (ps : List (List ℕ)) (rest : List ℕ) → rest ≡ joined ps [] → choose on x [] ++ rest ≡ joined (choose on (x ∷ ps) ps) []
+opt-joined : (on : Bool) (x : List ℕ) (ps : List (List ℕ)) (rest : List ℕ) → rest ≡ joined ps [] → cond on x [] ++ rest ≡ joined (cond on (x ∷ ps) ps) []
 opt-joined true x ps rest e = ap (λ (ys : List ℕ). x ++ ys) e
 opt-joined false x ps rest e = e
 
-opt-last : (on : Bool) (x : List ℕ) → choose on x [] ≡ joined (choose on (x ∷ []) []) []
+opt-last : (on : Bool) (x : List ℕ) → cond on x [] ≡ joined (cond on (x ∷ []) []) []
 opt-last true x = sym (append-nil x)
 opt-last false x = refl
 
-opt-blocks : (bs : ℕ) (on : Bool) (x : List ℕ) (ps : List (List ℕ)) → length x ≡ bs → verified 52 x ≡ true → Blocks bs ps → Blocks bs (choose on (x ∷ ps) ps)
+opt-blocks : (bs : ℕ) (on : Bool) (x : List ℕ) (ps : List (List ℕ)) → length x ≡ bs → verified 52 x ≡ true → Blocks bs ps → Blocks bs (cond on (x ∷ ps) ps)
 opt-blocks bs true x ps l v a = (l, v, a)
 opt-blocks bs false x ps l v a = a
 
-opt-length : (on : Bool) (x : List ℕ) (ps : List (List ℕ)) → length (choose on (x ∷ ps) ps) ≡ bit on + length ps
+opt-length : (on : Bool) (x : List ℕ) (ps : List (List ℕ)) → length (cond on (x ∷ ps) ps) ≡ bit on + length ps
 unfolding bit
 opt-length true x ps = (let e : suc (length ps) ≡ 1 + length ps = omega arith in e)
 opt-length false x ps = (let e : length ps ≡ 0 + length ps = omega arith in e)
@@ -132,13 +131,13 @@ module _ (w : Frame) (p : AgPlan) (g : Geometry) (s : SbState) (uuid : List ℕ)
 
   -- the roots that are on, from the last to the first
   abbrev pub counted : List (List ℕ)
-  counted = choose (w .features .reflink) (refcRoot w uuid ∷ []) []
+  counted = cond (w .features .reflink) (refcRoot w uuid ∷ []) []
 
   abbrev pub mapped : List (List ℕ)
-  mapped = choose (w .features .rmapbt) (rmapRoot w uuid (p .rmap) ∷ counted) counted
+  mapped = cond (w .features .rmapbt) (rmapRoot w uuid (p .rmap) ∷ counted) counted
 
   abbrev pub freed : List (List ℕ)
-  freed = choose (w .features .finobt) (inodeRoot w uuid finoMagic (fibtBlock (w .header)) ∷ mapped) mapped
+  freed = cond (w .features .finobt) (inodeRoot w uuid finoMagic (fibtBlock (w .header)) ∷ mapped) mapped
 
   abbrev pub roots : List (List ℕ)
   roots = bnoRoot w uuid (p .free) ∷ cntRoot w uuid (p .free) ∷ inodeRoot w uuid inoMagic (ibtBlock (w .header)) ∷ freed

@@ -1,7 +1,7 @@
 -- The parts of a head stand where the geometry says, and its headers are read back: AGF, AGI and the free list's entries.
 -- Assumes nothing.
 use mathlib.Core.Path.{_≡_, refl, ap, sym, _∙_}
-use mathlib.Core.Bool.{true}
+use mathlib.Core.Bool.{true, cond}
 use mathlib.Core.List.{List, [], _∷_, _++_, append-assoc}
 use Prim.Native.Nat.{ℕ, _+_, _*_, _-_, _/_, _%_, _≤_}
 use native.Mathlib.Nat.{add-mul, le-div-iff-mul-le}
@@ -12,7 +12,6 @@ use Rattle.endian.specs.Bytes.{numbersAt}
 use Rattle.endian.specs.Fields.{part}
 use Rattle.structs.specs.Written.{null32}
 use Rattle.structs.proofs.Lengths.{sector-least}
-use Rattle.seqs.specs.Lists.{choose}
 use Rattle.geometry.specs.declared.Geometry.{Geometry}
 use Rattle.geometry_layout.specs.Places.{ibtBlock, fibtBlock, agflSize}
 use Rattle.ag.specs.declared.agf.Agf.{Agf}
@@ -64,9 +63,9 @@ module _ (w : Frame) (p : AgPlan) (g : Geometry) (s : SbState) (uuid : List ℕ)
 
   abbrev others : List ℕ
   others =
-      choose (w .features .finobt) (inodeRoot w uuid finoMagic (fibtBlock (w .header))) []
-      ++ (choose (w .features .rmapbt) (rmapRoot w uuid (p .rmap)) []
-      ++ choose (w .features .reflink) (refcRoot w uuid) [])
+      cond (w .features .finobt) (inodeRoot w uuid finoMagic (fibtBlock (w .header))) []
+      ++ (cond (w .features .rmapbt) (rmapRoot w uuid (p .rmap)) []
+      ++ cond (w .features .reflink) (refcRoot w uuid) [])
 
   abbrev pub whole : List ℕ
   whole = SB ++ behindBytes w p uuid

@@ -1,7 +1,7 @@
 -- The trees of a head are read back: the free records are the plan's, and the chunk is where the plan has it.
 -- Assumes nothing.
 use mathlib.Core.Path.{_≡_, refl, ap, sym, _∙_}
-use mathlib.Core.Bool.{Bool, true, false}
+use mathlib.Core.Bool.{Bool, true, false, cond}
 use mathlib.Core.List.{List, [], _∷_, _++_, append-nil}
 use Prim.Native.Nat.{ℕ, _+_, _*_, _/_, _^_, _≤_, _<_}
 use native.Mathlib.Nat.{mul-div-cancel}
@@ -14,7 +14,6 @@ use Rattle.endian.specs.Bytes.{beAt}
 use Rattle.endian.specs.Fields.{part}
 use Rattle.structs.proofs.Reading.{read-number}
 use Rattle.structs.proofs.Lengths.{block-least}
-use Rattle.seqs.specs.Lists.{choose}
 use Rattle.params.specs.declared.OptU64.{OptU64}
 use Rattle.params.specs.declared.OptU64.the-variants.{Absent, Given}
 use Rattle.geometry.specs.declared.Geometry.{Geometry}
@@ -149,7 +148,7 @@ module _ (g : Geometry) (p : AgPlan) (uuid : List ℕ) (s : SbState) (l : length
     unfolding chunkOfRecord chunkRec
     one-block = ap (λ (n : ℕ). n / g .inopblock) (start-back sparse (chunkRec ino) small)
 
-    leaf-chunks : (t : Bool) → recordsIn (chunkOfRecord g) 16 (leafOf sparse t ino) ≡ choose t (ino / g .inopblock ∷ []) []
+    leaf-chunks : (t : Bool) → recordsIn (chunkOfRecord g) 16 (leafOf sparse t ino) ≡ cond t (ino / g .inopblock ∷ []) []
     unfolding bit
     leaf-chunks true =
         ap (λ (n : ℕ). readRecords (chunkOfRecord g) 16 n 56 (leafOf sparse true ino))
@@ -164,7 +163,7 @@ module _ (g : Geometry) (p : AgPlan) (uuid : List ℕ) (s : SbState) (l : length
   inodes-some : 0 < g .inopblock
   inodes-some = let b = answer-bounds g l (plan-answer g p l h .0) .sizes .inodes-power in rw b (pow-pos (g .inopblog))
 
-  chunk-at : (c : OptU64) → choose (hasChunk c) (chunkIno (g .inopblog) c / g .inopblock ∷ []) [] ≡ chunkList c
+  chunk-at : (c : OptU64) → cond (hasChunk c) (chunkIno (g .inopblog) c / g .inopblock ∷ []) [] ≡ chunkList c
   unfolding hasChunk chunkIno chunkList
   chunk-at Absent = refl
   chunk-at (Given c) =

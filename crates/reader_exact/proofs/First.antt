@@ -1,7 +1,7 @@
 -- EXACT, GROUP 0: the reader accepts a head there exactly where an accepted run of either sizing leaves it, and gives that run's geometry, but for the sizing, UUID and plan.
 -- Assumes nothing.
 use mathlib.Core.Path.{_≡_, refl, ap, ap₂, sym, subst, _∙_}
-use mathlib.Core.Bool.{Bool, true, false, not}
+use mathlib.Core.Bool.{Bool, true, false, not, cond}
 use mathlib.Core.List.{List}
 use Prim.Native.Nat.{ℕ, _≤_, _<_}
 use native.Mathlib.Omega.{arith}
@@ -12,7 +12,6 @@ use Rattle.endian.specs.Bytes.{beAt}
 use Rattle.endian.specs.Fields.{part}
 use Rattle.refusals.specs.Table.{first}
 use Rattle.refusals.proofs.Clear.{clear, passed, passes}
-use Rattle.seqs.specs.Lists.{choose}
 use Rattle.seqs.proofs.Laws.{never, choose-elim}
 use Rattle.geometry.specs.declared.Geometry.{Geometry}
 use Rattle.geometry.specs.declared.Computed.{Computed}
@@ -196,11 +195,11 @@ module _ (g : Geometry) (u : List ℕ) (s : Source g u) where
 module _ (xs : List ℕ) where
   old-read : readSized false xs .number ≡ 0 → readGroup0 xs ≡ readSized false xs
   unfolding readGroup0
-  old-read z = ap (λ (t : Bool). choose t (readSized true xs) (readSized false xs)) (le-ltb (readSized true xs .number) (readSized false xs .number) (omega arith))
+  old-read z = ap (λ (t : Bool). cond t (readSized true xs) (readSized false xs)) (le-ltb (readSized true xs .number) (readSized false xs .number) (omega arith))
 
   roomy-read : readSized true xs .number ≡ 0 → (readSized false xs .number ≡ 0 → ⊥) → readGroup0 xs ≡ readSized true xs
   unfolding readGroup0
-  roomy-read z n = ap (λ (t : Bool). choose t (readSized true xs) (readSized false xs)) (lt-ltb (readSized true xs .number) (readSized false xs .number) (omega (arith, z, n)))
+  roomy-read z n = ap (λ (t : Bool). cond t (readSized true xs) (readSized false xs)) (lt-ltb (readSized true xs .number) (readSized false xs .number) (omega (arith, z, n)))
 
 module _ (g : Geometry) (u : List ℕ) (s : Source g u) where
   -- where plain sizing gives the same log, it is reported

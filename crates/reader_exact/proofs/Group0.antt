@@ -2,7 +2,7 @@
 -- length than the head's, which is the same under both sizings; 30 where neither sizing leaves the bytes.
 -- Assumes nothing.
 use mathlib.Core.Path.{_≡_, refl, ap, sym, _∙_}
-use mathlib.Core.Bool.{Bool, true, false}
+use mathlib.Core.Bool.{Bool, true, false, cond}
 use mathlib.Core.List.{List}
 use Prim.Native.Nat.{ℕ, _*_, _<_, _≤_}
 use native.Mathlib.Omega.{arith}
@@ -12,7 +12,6 @@ use lib.ListN.{length}
 use Rattle.refusals.specs.Numbers.{notLeft, wrongLength}
 use Rattle.arith.specs.Choice.{when}
 use Rattle.refusals.specs.Table.{first}
-use Rattle.seqs.specs.Lists.{choose}
 use Rattle.geometry.specs.Log.{preallocOf}
 use Rattle.geometry.specs.declared.Geometry.{Geometry}
 use Rattle.geometry_layout.proofs.Sizings.{old-accepts}
@@ -87,7 +86,7 @@ module _ (xs : List ℕ) (l : 512 ≤ length xs) (z : namedBy false xs .number �
     other-length =
         let m = no-less (eqb (namedBy true xs .number) 0) refl in
         let r = length-is false xs l z n in
-        ap (λ (t : Bool). choose t (readSized true xs) (readSized false xs) .number) (le-ltb (readSized true xs .number) (readSized false xs .number) (omega arith)) ∙ r
+        ap (λ (t : Bool). cond t (readSized true xs) (readSized false xs) .number) (le-ltb (readSized true xs .number) (readSized false xs .number) (omega arith)) ∙ r
 
   module _ (o : Octets xs) (h : length xs ≡ headLength (namedBy false xs .geometry)) (n : LeftFirst xs → ⊥) where
     not-as : (roomy : Bool) → readSized roomy xs .number ≡ 0 → ⊥

@@ -1,13 +1,12 @@
 -- Where a geometry is an answer under both sizings, all that a run leaves is the same for both.
 -- Assumes nothing.
 use mathlib.Core.Path.{_≡_, refl, ap, ap₂, sym, subst, _∙_}
-use mathlib.Core.Bool.{Bool, true, false, not}
+use mathlib.Core.Bool.{Bool, true, false, not, cond}
 use mathlib.Core.List.{List, [], _∷_, _++_}
 use Prim.Native.Nat.{ℕ, _<_}
 use lib.Dec.{eqb, leb}
 use Rattle.refusals.specs.Numbers.{noAnswer, noPlace}
 use Rattle.refusals.specs.Table.{_if_, first}
-use Rattle.seqs.specs.Lists.{choose}
 use Rattle.seqs.proofs.Laws.{choose-elim}
 use Rattle.geometry.specs.declared.Geometry.{Geometry}
 use Rattle.geometry_answers.specs.Named.{isAnswer}
@@ -58,11 +57,11 @@ module _ (g : Geometry) (a : isAnswer g ≡ true) (b : isAnswer (plain g) ≡ tr
 
   pub planned-plain : (k : ℕ) → planned (plain g) k ≡ planned g k
   unfolding planned siteOf
-  planned-plain k = ap (λ (n : ℕ). choose (eqb n 0) (planOf (siteOf g k)) (refusedPlan n)) (refusal-plain k)
+  planned-plain k = ap (λ (n : ℕ). cond (eqb n 0) (planOf (siteOf g k)) (refusedPlan n)) (refusal-plain k)
 
   pub plans-plain : plansNumber (plain g) ≡ plansNumber g
   unfolding plansNumber
-  plans-plain = ap₂ (λ (t : Bool) (f : ℕ → Planned). choose t (firstTo (g .agcount) (λ k. f k .number)) noAnswer) (b ∙ sym a) (λ i k. planned-plain k i)
+  plans-plain = ap₂ (λ (t : Bool) (f : ℕ → Planned). cond t (firstTo (g .agcount) (λ k. f k .number)) noAnswer) (b ∙ sym a) (λ i k. planned-plain k i)
 
   free-plain : freeCount (plain g) ≡ freeCount g
   unfolding freeCount
@@ -74,7 +73,7 @@ module _ (g : Geometry) (a : isAnswer g ≡ true) (b : isAnswer (plain g) ≡ tr
 
   written-state : (u : List ℕ) (k : ℕ) → stateOf (plain g) u k ≡ stateOf g u k
   unfolding stateOf unfinishedState secondaryState rootIno rootChunk initialFdblocks
-  written-state u k = ap (λ (n : ℕ). choose (eqb k 0) (primaryWith u (rootIno g) n true) (secondaryState g u k)) free-plain
+  written-state u k = ap (λ (n : ℕ). cond (eqb k 0) (primaryWith u (rootIno g) n true) (secondaryState g u k)) free-plain
 
   finished-plain : (u : List ℕ) → headFinished (plain g) u ≡ headFinished g u
   unfolding headFinished
@@ -90,7 +89,7 @@ module _ (g : Geometry) (a : isAnswer g ≡ true) (b : isAnswer (plain g) ≡ tr
 
   pub left-plain : (u : List ℕ) (k : ℕ) → headLeft (plain g) u k ≡ headLeft g u k
   unfolding headLeft
-  left-plain u k = ap₂ (λ (xs : List ℕ) (ys : List ℕ). choose (eqb k 0) xs ys) (finished-plain u) (written-plain u k)
+  left-plain u k = ap₂ (λ (xs : List ℕ) (ys : List ℕ). cond (eqb k 0) xs ys) (finished-plain u) (written-plain u k)
 
 -- ---- what the reader reports
 

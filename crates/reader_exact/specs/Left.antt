@@ -1,11 +1,11 @@
 -- What accepted runs leave in each place; and disks that are read whole.
 -- Assumes nothing.
+use mathlib.Core.Bool.{cond}
 use mathlib.Core.Path.{_≡_}
 use mathlib.Core.List.{List}
 use Prim.Native.Nat.{ℕ, _<_}
 use lib.ListN.{length, getD}
 use Rattle.geometry.specs.declared.Geometry.{Geometry}
-use Rattle.seqs.specs.Lists.{choose}
 use Rattle.geometry_answers.specs.Named.{isAnswer}
 use Rattle.geometry_answers.specs.Answers.{TypedGeometry}
 use Rattle.list_spec.specs.Listing.{logBlock, headLeft}
@@ -42,7 +42,7 @@ pub record LeftFirst (xs : List ℕ) : Type 0 where
 
 -- the geometry as the reader reports it: with plain sizing where this gives the same log
 unfoldable pub reported : Geometry → Geometry
-reported g = choose (isAnswer (plain g)) (plain g) g
+reported g = cond (isAnswer (plain g)) (plain g) g
 
 -- the reader accepts group 0's head, and the other heads and the log block with what it gave
 pub record ReadWhole (heads : ℕ → List ℕ) (log : List ℕ) : Type 0 where

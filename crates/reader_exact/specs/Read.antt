@@ -1,13 +1,12 @@
 -- What the reader answers: for group 0's head, and with what that gave for any group's head and for the log block.
 -- Assumes nothing.
-use mathlib.Core.Bool.{Bool, true, false, not}
+use mathlib.Core.Bool.{Bool, true, false, not, cond}
 use mathlib.Core.List.{List, [], _∷_}
 use Prim.Native.Nat.{ℕ}
 use lib.Dec.{ltb, leb, eqb}
 use lib.ListN.{length, replicate}
 use Rattle.refusals.specs.Numbers.{wrongLength, noPlace, notLeft, noAnswer}
 use Rattle.refusals.specs.Table.{Refusal, _if_, first}
-use Rattle.seqs.specs.Lists.{choose}
 use Rattle.geometry.specs.declared.Geometry.{Geometry}
 use Rattle.geometry.specs.declared.Computed.{Computed}
 use Rattle.geometry.specs.Compute.{zeroGeometry}
@@ -52,7 +51,7 @@ firstTests xs c u =
     ∷ leftTests (c .geometry) (headLeft (c .geometry) u 0) xs
 
 unfoldable pub foundAs : ℕ → Geometry → List ℕ → Found
-foundAs n g u = choose (eqb n 0) (found g u (planned g 0 .plan)) (notFound n)
+foundAs n g u = cond (eqb n 0) (found g u (planned g 0 .plan)) (notFound n)
 
 -- under one sizing of the log
 unfoldable pub readSized : Bool → List ℕ → Found
@@ -60,7 +59,7 @@ readSized roomy xs = foundAs (first (firstTests xs (namedBy roomy xs) (uuidAt xs
 
 -- under both: the one with the smaller number, and plain sizing where they have the same
 abbrev pub lesser : Found → Found → Found
-lesser roomy old = choose (ltb (roomy .number) (old .number)) roomy old
+lesser roomy old = cond (ltb (roomy .number) (old .number)) roomy old
 
 unfoldable pub readGroup0 : List ℕ → Found
 readGroup0 xs = lesser (readSized true xs) (readSized false xs)
@@ -80,7 +79,7 @@ unfoldable pub groupNumber : Geometry → List ℕ → ℕ → List ℕ → ℕ
 groupNumber g u k xs = first (placeTests g (leb (g .agcount) k) (headLength g) (headLeft g u k) xs) 0
 
 unfoldable pub readGroup : Geometry → List ℕ → ℕ → List ℕ → Planned
-readGroup g u k xs = choose (eqb (groupNumber g u k xs) 0) (record { number = 0; plan = planned g k .plan })
+readGroup g u k xs = cond (eqb (groupNumber g u k xs) 0) (record { number = 0; plan = planned g k .plan })
     (refusedPlan (groupNumber g u k xs))
 
 -- the log's first block

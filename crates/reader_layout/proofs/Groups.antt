@@ -1,7 +1,7 @@
 -- AGF, AGI AND FREE LIST of a head that a run leaves, field by field, whatever state its superblock is in.
 -- Assumes nothing.
 use mathlib.Core.Path.{_≡_, refl, ap, sym, _∙_}
-use mathlib.Core.Bool.{Bool, true, false}
+use mathlib.Core.Bool.{Bool, true, false, cond}
 use mathlib.Core.List.{List, [], _∷_}
 use Prim.Native.Nat.{ℕ, zero, suc, _+_, _*_, _-_, _%_, _^_, _≤_, _<_}
 use native.Mathlib.Nat.{mul-suc, mod-eq-of-lt, le-div-iff-mul-le}
@@ -16,7 +16,6 @@ use Rattle.structs.specs.Holds.{Holds}
 use Rattle.structs.specs.Written.{null32}
 use Rattle.structs.proofs.Lengths.{sector-least}
 use Rattle.structs.proofs.Reading.{read-number}
-use Rattle.seqs.specs.Lists.{choose}
 use Rattle.params.specs.declared.OptU64.the-variants.{Absent, Given}
 use Rattle.geometry.specs.declared.Geometry.{Geometry}
 use Rattle.geometry_layout.specs.Places.{cntBlock, ibtBlock, fibtBlock, rmapBlock, refcBlock, groupBlocks}
@@ -52,12 +51,12 @@ use Rattle.reader_layout.specs.Layouts.{AgfAt, AgiAt, FreeListAt}
 
 -- ---- the chunk is group 0's
 
-chunk-has : (t : Bool) (c : ℕ) → hasChunk (choose t (Given c) Absent) ≡ t
+chunk-has : (t : Bool) (c : ℕ) → hasChunk (cond t (Given c) Absent) ≡ t
 unfolding hasChunk
 chunk-has true c = refl
 chunk-has false c = refl
 
-chunk-first : (t : Bool) (c log : ℕ) → chunkIno log (choose t (Given c) Absent) ≡ when t (c * 2 ^ log) null32
+chunk-first : (t : Bool) (c log : ℕ) → chunkIno log (cond t (Given c) Absent) ≡ when t (c * 2 ^ log) null32
 unfolding chunkIno when
 chunk-first true c log = refl
 chunk-first false c log = refl

@@ -1,7 +1,7 @@
 -- WHAT THE RECORDS OF A RUN LEAVE, STRUCTURE BY STRUCTURE, on any device: the sectors of every head, and the inodes of the root chunk.
 -- Assumes nothing.
 use mathlib.Core.Path.{_≡_, refl, ap, sym, subst, _∙_}
-use mathlib.Core.Bool.{Bool, true, false, not}
+use mathlib.Core.Bool.{Bool, true, false, not, cond}
 use mathlib.Core.List.{List}
 use Prim.Native.Nat.{ℕ, _+_, _*_, _^_, _≤_, _<_}
 use native.Mathlib.Nat.{zero-mul}
@@ -16,7 +16,6 @@ use Rattle.endian.proofs.Consecutive.{at-inside}
 use Rattle.structs.specs.Written.{null64}
 use Rattle.structs.proofs.Written.{passed}
 use Rattle.inode_time.specs.Time.{timeInside}
-use Rattle.seqs.specs.Lists.{choose}
 use Rattle.geometry.specs.declared.Geometry.{Geometry}
 use Rattle.geometry_layout.specs.Bounds.{Bounds}
 use Rattle.geometry_places.specs.Answers.{rootChunk, rootIno}
@@ -52,9 +51,9 @@ use Rattle.reader_layout.proofs.Super.{Stated, superblock-at}
 
 module _ (g : Geometry) (u : List ℕ) (k : ℕ) where
   abbrev last-state : Bool → SbState
-  last-state t = choose t (finishedState g u) (secondaryState g u k)
+  last-state t = cond t (finishedState g u) (secondaryState g u k)
 
-  left-at : (t : Bool) → eqb k 0 ≡ t → choose t (headFinished g u) (headWritten g u k) ≡ headBytes g (planned g k .plan) u (last-state t)
+  left-at : (t : Bool) → eqb k 0 ≡ t → cond t (headFinished g u) (headWritten g u k) ≡ headBytes g (planned g k .plan) u (last-state t)
   unfolding headFinished headWritten stateOf
   left-at true e = ap (λ (j : ℕ). headBytes g (planned g j .plan) u (finishedState g u)) (sym (eqb-true k 0 e))
   left-at false e = rw e refl

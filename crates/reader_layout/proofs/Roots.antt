@@ -1,7 +1,7 @@
 -- THE ROOTS of a head that a run leaves: the header of each, at its block.
 -- Assumes nothing.
 use mathlib.Core.Path.{_≡_, refl, ap, sym, subst, _∙_}
-use mathlib.Core.Bool.{Bool, true, false}
+use mathlib.Core.Bool.{Bool, true, false, cond}
 use mathlib.Core.List.{List, [], _∷_}
 use Prim.Native.Nat.{ℕ, zero, suc, _+_, _*_, _/_, _^_, _≤_, _<_}
 use native.Mathlib.Nat.{add-mul}
@@ -14,7 +14,7 @@ use Rattle.endian.specs.Fields.{part}
 use Rattle.structs.specs.Written.{null32}
 use Rattle.structs.proofs.Lengths.{block-least}
 use Rattle.structs.proofs.Reading.{read-number}
-use Rattle.seqs.specs.Lists.{choose, total}
+use Rattle.seqs.specs.Lists.{total}
 use Rattle.geometry.specs.declared.Geometry.{Geometry}
 use Rattle.geometry_layout.specs.Places.{diskBlocksBefore as blocksBefore, cntBlock, ibtBlock, fibtBlock, rmapBlock, refcBlock, daddrOf}
 use Rattle.btree.specs.declared.records.AllocRec.{AllocRec}
@@ -52,12 +52,12 @@ block-part bs (x ∷ ps) a zero h = first-part x (joined ps []) bs (a .0)
 block-part bs (x ∷ ps) a (suc i) h = next-part x (joined ps []) i bs (a .0) ∙ block-part bs ps (a .2) i (omega arith)
 
 -- one that may be there, and what stands behind it
-opt-behind : (t : Bool) (x : List ℕ) (ps : List (List ℕ)) (n : ℕ) → getD (choose t (x ∷ ps) ps) (bit t + n) [] ≡ getD ps n []
+opt-behind : (t : Bool) (x : List ℕ) (ps : List (List ℕ)) (n : ℕ) → getD (cond t (x ∷ ps) ps) (bit t + n) [] ≡ getD ps n []
 unfolding bit
 opt-behind true x ps n = let e : 1 + n ≡ suc n = omega arith in ap (λ (i : ℕ). getD (x ∷ ps) i []) e
 opt-behind false x ps n = let e : 0 + n ≡ n = omega arith in ap (λ (i : ℕ). getD ps i []) e
 
-opt-here : (t : Bool) (x : List ℕ) (ps : List (List ℕ)) → t ≡ true → getD (choose t (x ∷ ps) ps) 0 [] ≡ x
+opt-here : (t : Bool) (x : List ℕ) (ps : List (List ℕ)) → t ≡ true → getD (cond t (x ∷ ps) ps) 0 [] ≡ x
 opt-here t x ps e = rw e refl
 
 third : (a b c : List ℕ) (ps : List (List ℕ)) (n : ℕ) → getD (a ∷ b ∷ c ∷ ps) (3 + n) [] ≡ getD ps n []

@@ -1,13 +1,12 @@
 -- One pass over a disk: the bytes that it wants next, the state after they were fed, and what is said at the end.
 -- Assumes nothing.
-use mathlib.Core.Bool.{Bool, true, false}
+use mathlib.Core.Bool.{Bool, true, false, cond}
 use mathlib.Core.List.{List}
 use Prim.Native.Nat.{ℕ, _+_, _-_, _^_}
 use lib.Dec.{ltb, eqb}
 use lib.ListN.{length, replicate}
 use Rattle.refusals.specs.Numbers.{wrongLength, notLeft}
 use Rattle.arith.specs.Choice.{when}
-use Rattle.seqs.specs.Lists.{choose}
 use Rattle.geometry.specs.declared.Geometry.{Geometry}
 use Rattle.geometry.specs.declared.Computed.{Computed}
 use Rattle.geometry.specs.Compute.{zeroGeometry}
@@ -80,7 +79,7 @@ passEndedBy p n = record { stage = Ended; number = n; place = p .place; geometry
 
 -- place k is a head, or behind the last head the log's block
 unfoldable pub stageAt : Geometry → ℕ → Stage
-stageAt g k = choose (ltb k (g .agcount)) Heads Log
+stageAt g k = cond (ltb k (g .agcount)) Heads Log
 
 -- the place behind this one; behind the log's block there is none
 unfoldable pub following : ℕ → ℕ → ℕ
@@ -88,13 +87,13 @@ following k agcount = when (ltb k agcount) (k + 1) k
 
 -- a head has the number n, and with it come geometry and UUID; place k is next
 unfoldable pub wentOn : Pass → ℕ → Geometry → List ℕ → ℕ → Pass
-wentOn p n g u k = choose (eqb n 0) (record { stage = stageAt g k; number = 0; place = k; geometry = g; uuid = u }) (passEndedBy p n)
+wentOn p n g u k = cond (eqb n 0) (record { stage = stageAt g k; number = 0; place = k; geometry = g; uuid = u }) (passEndedBy p n)
 
 -- what the first sector names: how long a head is. Plain sizing decides, since roomy sizing accepts nothing more and a head is as long
 -- under both
 unfoldable pub namedSo : Pass → Computed → Pass
 namedSo p c =
-    choose (eqb (c .number) 0) (record { stage = First; number = 0; place = 0; geometry = c .geometry; uuid = p .uuid })
+    cond (eqb (c .number) 0) (record { stage = First; number = 0; place = 0; geometry = c .geometry; uuid = p .uuid })
     (passEndedBy p notLeft)
 
 -- the first sector
@@ -124,11 +123,11 @@ fedWhole Ended p xs = p
 
 -- another number of bytes: 27, but nothing is asked for at the end
 unfoldable pub fedShort : Stage → Pass → Pass
-fedShort s p = choose (isEnded s) p (passEndedBy p wrongLength)
+fedShort s p = cond (isEnded s) p (passEndedBy p wrongLength)
 
 -- THE PASS after the bytes xs: the first refusal ends it, and the end stays
 unfoldable pub passFed : Pass → List ℕ → Pass
-passFed p xs = choose (eqb (length xs) (stageLength (p .stage) (p .geometry))) (fedWhole (p .stage) p xs) (fedShort (p .stage) p)
+passFed p xs = cond (eqb (length xs) (stageLength (p .stage) (p .geometry))) (fedWhole (p .stage) p xs) (fedShort (p .stage) p)
 
 -- ---- what is left in the work buffer: the head that was compared, if it was made there
 
@@ -142,7 +141,7 @@ workIn Ended p ws = ws
 
 -- after any; bytes of another length leave it as it was
 unfoldable pub worked : Pass → List ℕ → List ℕ → List ℕ
-worked p xs ws = choose (eqb (length xs) (stageLength (p .stage) (p .geometry))) (workIn (p .stage) p ws) ws
+worked p xs ws = cond (eqb (length xs) (stageLength (p .stage) (p .geometry))) (workIn (p .stage) p ws) ws
 
 -- ---- what is said at the end
 
@@ -152,4 +151,4 @@ saying p n = record { number = n; place = p .place; geometry = p .geometry; uuid
 
 -- where it isn't ended, 27 for the bytes that are missing
 unfoldable pub passVerdict : Pass → Verdict
-passVerdict p = choose (isEnded (p .stage)) (saying p (p .number)) (saying p wrongLength)
+passVerdict p = cond (isEnded (p .stage)) (saying p (p .number)) (saying p wrongLength)

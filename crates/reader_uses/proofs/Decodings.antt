@@ -1,14 +1,14 @@
 -- What the heads that a run leaves say is what its plans say.
 -- Assumes nothing.
 use mathlib.Core.Path.{_≡_, refl, ap, sym, _∙_}
-use mathlib.Core.Bool.{Bool, true, false}
+use mathlib.Core.Bool.{Bool, true, false, cond}
 use mathlib.Core.List.{List, [], _∷_}
 use Prim.Native.Nat.{ℕ, _+_, _^_, _<_}
 use native.Mathlib.Omega.{arith}
 use borrow.Author.Tests.{eqb-true}
 use lib.Dec.{eqb}
 use lib.ListN.{length}
-use Rattle.seqs.specs.Lists.{choose, fold, total}
+use Rattle.seqs.specs.Lists.{fold, total}
 use Rattle.geometry.specs.declared.Geometry.{Geometry}
 use Rattle.geometry_answers.specs.Named.{isAnswer}
 use Rattle.geometry_layout.proofs.Bounding.{answer-bounds}
@@ -71,9 +71,9 @@ module _ (g : Geometry) (u : List ℕ) (heads : ℕ → List ℕ) (d : LeftHeads
 
     -- its head is the plan's, with some state of the superblock
     state : SbState
-    state = choose (eqb k 0) (finishedState g u) (stateOf g u k)
+    state = cond (eqb k 0) (finishedState g u) (stateOf g u k)
 
-    left-at : (t : Bool) → eqb k 0 ≡ t → choose t (headFinished g u) (headWritten g u k) ≡ headBytes g its u (choose t (finishedState g u) (stateOf g u k))
+    left-at : (t : Bool) → eqb k 0 ≡ t → cond t (headFinished g u) (headWritten g u k) ≡ headBytes g its u (cond t (finishedState g u) (stateOf g u k))
     unfolding headFinished headWritten
     left-at true e = ap (λ (n : ℕ). headBytes g (planned g n .plan) u (finishedState g u)) (sym (eqb-true k 0 e))
     left-at false e = refl

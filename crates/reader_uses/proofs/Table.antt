@@ -1,5 +1,6 @@
 -- planlist's table, by the bytes: every row and the last line are those of the plans.
 -- Assumes nothing.
+use mathlib.Core.Bool.{cond}
 use mathlib.Core.Path.{_≡_, refl, ap, sym, _∙_}
 use mathlib.Core.List.{List}
 use Prim.Native.Nat.{ℕ, _*_, _<_}
@@ -7,7 +8,7 @@ use native.Mathlib.Nat.{one-mul, zero-mul}
 use lib.Dec.{eqb}
 use lib.ListN.{length}
 use borrow.Author.Tests.{eq-eqb}
-use Rattle.seqs.specs.Lists.{choose, total}
+use Rattle.seqs.specs.Lists.{total}
 use Rattle.params.specs.declared.OptU64.{OptU64}
 use Rattle.params.specs.declared.OptU64.the-variants.{Absent, Given}
 use Rattle.geometry.specs.declared.Geometry.{Geometry}
@@ -59,7 +60,7 @@ module _ (g : Geometry) (u : List ℕ) (heads : ℕ → List ℕ) (d : LeftHeads
     unfolding rowByBytes
     row-is =
         same-row (group-is g u heads d k i) (length-is g u heads d k i)
-        (ap (λ (r : LogRun). choose (eqb k (r .group)) (r .blocks) 0) (log-is g u heads d))
+        (ap (λ (r : LogRun). cond (eqb k (r .group)) (r .blocks) 0) (log-is g u heads d))
         (entries-are g u heads d k i)
         (ap (λ (bs : List ℕ). length bs * size) (chunks-are g u heads d k i) ∙ chunk-count (its .chunk) size)
         (lengths-are g u heads d k i) (longest-is g u heads d k i)

@@ -1,14 +1,14 @@
 -- Totals, by the bytes: free records and free-list entries of all groups are the superblock's free count, and all blocks but heads, log and chunk.
 -- Assumes nothing.
 use mathlib.Core.Path.{_≡_, ap, sym, _∙_}
-use mathlib.Core.Bool.{Bool, true, false}
+use mathlib.Core.Bool.{Bool, true, false, cond}
 use mathlib.Core.List.{List}
 use Prim.Native.Nat.{ℕ, _+_, _*_, _<_}
 use native.Mathlib.Nat.{one-mul, zero-mul}
 use native.Mathlib.Omega.{arith}
 use lib.Dec.{eqb}
 use lib.ListN.{length}
-use Rattle.seqs.specs.Lists.{choose, total}
+use Rattle.seqs.specs.Lists.{total}
 use Rattle.params.specs.declared.OptU64.the-variants.{Absent, Given}
 use Rattle.geometry.specs.declared.Geometry.{Geometry}
 use Rattle.geometry.specs.Log.{preallocOf}
@@ -37,7 +37,7 @@ module _ (g : Geometry) (u : List ℕ) (heads : ℕ → List ℕ) (d : LeftHeads
   chunk = chunkOf (g .inodesize) (g .blocksize)
 
   -- the chunk is group 0's
-  chunk-at : (t : Bool) (c : ℕ) → length (chunkList (choose t (Given c) Absent)) * chunk ≡ choose t chunk 0
+  chunk-at : (t : Bool) (c : ℕ) → length (chunkList (cond t (Given c) Absent)) * chunk ≡ cond t chunk 0
   unfolding chunkList
   chunk-at true c = one-mul chunk
   chunk-at false c = zero-mul chunk

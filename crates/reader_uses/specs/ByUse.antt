@@ -2,12 +2,13 @@
 -- the superblock's log start and length, free list by its entries in use, chunk by the inode tree's record, free by the records of the tree
 -- by block.
 -- Assumes nothing.
+use mathlib.Core.Bool.{cond}
 use mathlib.Core.Path.{_≡_}
 use mathlib.Core.List.{List, [], _∷_}
 use Prim.Native.Nat.{ℕ, _+_, _*_, _-_, _≤_, _<_}
 use lib.Dec.{eqb}
 use lib.ListN.{length}
-use Rattle.seqs.specs.Lists.{choose, fold, total}
+use Rattle.seqs.specs.Lists.{fold, total}
 use Rattle.seqs.specs.Runs.{weigh, runLength, has}
 use Rattle.geometry.specs.declared.Geometry.{Geometry}
 use Rattle.geometry.specs.Log.{preallocOf}
@@ -29,7 +30,7 @@ headPart f g = f 0 (preallocOf (g .features) (g .sectsize) (g .blocksize))
 
 -- log: its run, where group k is its group
 abbrev pub logRuns : (ℕ → ℕ → ℕ) → LogRun → ℕ → ℕ
-logRuns f r k = choose (eqb k (r .group)) (f (r .at) (r .at + r .blocks)) 0
+logRuns f r k = cond (eqb k (r .group)) (f (r .at) (r .at + r .blocks)) 0
 
 -- as group 0's head sb names it
 unfoldable pub logPart : (ℕ → ℕ → ℕ) → Geometry → List ℕ → ℕ → ℕ
@@ -112,7 +113,7 @@ rowByBytes g sb xs k =
       number = 0;
       group = agfIn g xs .seqno;
       length = agfIn g xs .length;
-      log = choose (eqb k (logRunIn g sb .group)) (logRunIn g sb .blocks) 0;
+      log = cond (eqb k (logRunIn g sb .group)) (logRunIn g sb .blocks) 0;
       list = length (listIn g xs);
       chunk = length (chunksIn g xs) * chunkOf (g .inodesize) (g .blocksize);
       free = total allocCount (freeRecordsIn g xs);

@@ -1,6 +1,7 @@
 -- THE SENTENCES OF REFUSALS: what each number says, once, in the numbers' order. The programs print them on standard error behind the
 -- number, and `zechurqi numbers` reads this page.
 -- Assumes nothing.
+use mathlib.Core.Bool.{cond}
 use mathlib.Core.List.{List, [], _∷_}
 use Prim.Native.Nat.{ℕ}
 use Prim.Native.Char.{code}
@@ -8,7 +9,6 @@ use Prim.Native.String.{String, [] as []ˢ, _∷_ as _∷ˢ_}
 use lib.Dec.{eqb}
 use lib.ListN.{drop}
 use Rattle.refusals.specs.Numbers.{inobtcountAlone, blockNoPower, blockOf512, blockTooLarge, badSector, blockBelowSector, sectorBelowLogical, badInode, sizeAboveDevice, tooFewBlocks, agsizeNoMultiple, agsizeZero, agcountZero, lastGroupShort, groupTooSmall, groupTooLarge, groupAboveDisk, tooManyGroups, imaxpctAbove100, labelTooLong, diskTooSmall, logTooSmall, tooFewGroups, agcountUnlike, freeListShort, timeOutOfRange, wrongLength, malformed, noPlace, notLeft, noAnswer, notValid, notFree, tooManyRecords, sunitTooLarge, badRange, notInProfile, noneReaches, badSizes, areaTooSmall, tooManyDisks, notHoldable, notHeld}
-use Rattle.seqs.specs.Lists.{choose}
 
 -- a number beside its sentence
 infix 68 _says_
@@ -70,7 +70,7 @@ unknownNumber = "no such number"
 -- the sentence of n in some rows
 unfoldable pub sentenceIn : List Row → ℕ → String
 sentenceIn [] n = unknownNumber
-sentenceIn ((m says text) ∷ rows) n = choose (eqb n m) text (sentenceIn rows n)
+sentenceIn ((m says text) ∷ rows) n = cond (eqb n m) text (sentenceIn rows n)
 
 -- THE SENTENCE OF A NUMBER
 abbrev pub sentence : ℕ → String

@@ -1,7 +1,7 @@
 -- The options that the records of a well-formed input give.
 -- Assumes nothing.
 use mathlib.Core.List.{List, _++_}
-use mathlib.Core.Bool.{Bool, true, false}
+use mathlib.Core.Bool.{Bool, true, false, cond}
 use Prim.Native.Nat.{ℕ, _+_, _-_, _/_, _%_, _^_, _≤_, _<_, min}
 use lib.Dec.{ltb, eqb}
 use lib.IntN.{ℤ, pos, _-ℤ_}
@@ -48,13 +48,8 @@ abbrev pub short8 : OptU64 → OptU8
 short8 Absent = Absent8
 short8 (Given n) = Given8 n
 
--- a number of 64 bits in two's complement
-abbrev pub byTest : Bool → ℤ → ℤ → ℤ
-byTest true a b = a
-byTest false a b = b
-
 unfoldable pub signed : ℕ → ℤ
-signed n = byTest (ltb n (2 ^ 63)) (pos n) (pos n -ℤ pos (2 ^ 64))
+signed n = cond (ltb n (2 ^ 63)) (pos n) (pos n -ℤ pos (2 ^ 64))
 
 abbrev pub givenTime : ℕ → ℕ → OptTime
 givenTime secs nsecs = GivenTime (record { secs = signed secs; nsecs = nsecs })

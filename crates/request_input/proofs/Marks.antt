@@ -1,7 +1,7 @@
 -- The record at an offset, by its mark.
 -- Assumes nothing.
 use mathlib.Core.Path.{_≡_, refl}
-use mathlib.Core.Bool.{Bool, true, false}
+use mathlib.Core.Bool.{Bool, true, false, cond}
 use mathlib.Core.List.{List}
 use Prim.Native.Nat.{ℕ, _+_, _≤_, _<_}
 use native.Mathlib.Omega.{arith}
@@ -10,7 +10,7 @@ use lib.ListN.{length, getD}
 use borrow.Author.Tests.{le-leb, lt-leb, eq-eqb, ne-eqb, leb-true}
 use Rattle.endian.specs.Bytes.{beAt}
 use Rattle.request_input.specs.declared.Record.{Record}
-use Rattle.request_input.specs.Records.{device, label, uuid, option, entry, choose, noRecord, wholeRecord, recordAt}
+use Rattle.request_input.specs.Records.{device, label, uuid, option, entry, noRecord, wholeRecord, recordAt}
 
 -- ---- a record of a known length
 module _ (len key value next : ℕ) where
@@ -25,7 +25,7 @@ pub option-held : (len b v next : ℕ) → next ≤ len → {c w : ℕ} → b �
 option-held len b v next h {c} {w} d e = rw (d, e) (held len (3 + c) w next h)
 
 -- ---- what holds of every record
-choose-all : (P : Record → Type 0) (b : Bool) (r s : Record) → (b ≡ true → P r) → P s → P (choose b r s)
+choose-all : (P : Record → Type 0) (b : Bool) (r s : Record) → (b ≡ true → P r) → P s → P (cond b r s)
 choose-all P true r s f e = f refl
 choose-all P false r s f e = e
 

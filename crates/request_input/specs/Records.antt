@@ -1,7 +1,7 @@
 -- The input as a list of records, and which lists are well-formed.
 -- Assumes nothing.
 use mathlib.Core.List.{List, [], _∷_}
-use mathlib.Core.Bool.{Bool, true, false, not, _&&_, _||_}
+use mathlib.Core.Bool.{Bool, true, false, not, _&&_, _||_, cond}
 use Prim.Native.Nat.{ℕ, zero, suc, _+_, _-_, _^_}
 use lib.Dec.{leb, ltb, eqb}
 use lib.ListN.{length, getD}
@@ -55,28 +55,24 @@ option code = 3 + code
 abbrev pub entry : ℕ → ℕ → ℕ → Record
 entry key value next = record { key = key; value = value; next = next }
 
-abbrev pub choose : Bool → Record → Record → Record
-choose true r s = r
-choose false r s = s
-
 -- no record, in an input of `len` bytes: it has the key of no option, and nothing is read behind it
 abbrev pub noRecord : ℕ → Record
 noRecord len = entry (option 0) 0 len
 
 -- a record that ends inside the input; a cut one is none
 abbrev pub wholeRecord : ℕ → ℕ → ℕ → ℕ → Record
-wholeRecord len key value next = choose (leb next len) (entry key value next) (noRecord len)
+wholeRecord len key value next = cond (leb next len) (entry key value next) (noRecord len)
 
 -- The record at an offset, by its mark: `DV`, `OP`, `LB`, `ID`. Each has three bytes or more.
 abbrev pub recordByMark : ℕ → ℕ → List ℕ → Record
 recordByMark mark at xs =
-    choose (eqb mark 0x4456) (wholeRecord (length xs) device (at + 2) (at + 18))
-    (choose (eqb mark 0x4f50) (wholeRecord (length xs) (option (getD xs (at + 2) 0)) (beAt 8 (at + 3) xs) (at + 11))
-    (choose (eqb mark 0x4c42) (wholeRecord (length xs) label (at + 2) (at + 3 + getD xs (at + 2) 0))
-    (choose (eqb mark 0x4944) (wholeRecord (length xs) uuid (at + 2) (at + 18)) (noRecord (length xs)))))
+    cond (eqb mark 0x4456) (wholeRecord (length xs) device (at + 2) (at + 18))
+    (cond (eqb mark 0x4f50) (wholeRecord (length xs) (option (getD xs (at + 2) 0)) (beAt 8 (at + 3) xs) (at + 11))
+    (cond (eqb mark 0x4c42) (wholeRecord (length xs) label (at + 2) (at + 3 + getD xs (at + 2) 0))
+    (cond (eqb mark 0x4944) (wholeRecord (length xs) uuid (at + 2) (at + 18)) (noRecord (length xs)))))
 
 unfoldable pub recordAt : ℕ → List ℕ → Record
-recordAt at xs = choose (leb (at + 3) (length xs)) (recordByMark (beAt 2 at xs) at xs) (noRecord (length xs))
+recordAt at xs = cond (leb (at + 3) (length xs)) (recordByMark (beAt 2 at xs) at xs) (noRecord (length xs))
 
 -- its mark and its code are known, it isn't cut, and its number fits
 abbrev pub recordKnown : ℕ → ℕ → Bool

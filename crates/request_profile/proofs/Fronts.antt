@@ -1,7 +1,7 @@
 -- The records of an input with bytes behind it: those of the input, where they are all known, and then the others.
 -- Assumes nothing.
 use mathlib.Core.Path.{_≡_, refl, sym, ap, ap₂, subst, _∙_}
-use mathlib.Core.Bool.{Bool, true, false}
+use mathlib.Core.Bool.{Bool, true, false, cond}
 use mathlib.Core.List.{List, [], _∷_, _++_}
 use Prim.Native.Nat.{ℕ, zero, suc, _+_, _-_, _*_, _^_, _≤_, _<_}
 use native.Mathlib.Omega.{arith}
@@ -13,7 +13,7 @@ use Rattle.seqs.proofs.Laws.{never}
 use Rattle.endian.specs.Bytes.{beAt}
 use Rattle.endian.specs.Fields.{part}
 use Rattle.request_input.specs.declared.Record.{Record}
-use Rattle.request_input.specs.Records.{device, label, uuid, option, optionBits, optionFits, recordKnown, choose, noRecord, wholeRecord, recordByMark, recordAt, records}
+use Rattle.request_input.specs.Records.{device, label, uuid, option, optionBits, optionFits, recordKnown, noRecord, wholeRecord, recordByMark, recordAt, records}
 use Rattle.request_input.proofs.Marks.{record-ends}
 use Rattle.request_input.proofs.Splitting.{records-end, records-more}
 use Rattle.request.proofs.Values.{Each}
@@ -47,7 +47,7 @@ unknown = refl
 no-record : {X : Type 0} → recordKnown (option 0) 0 ≡ true → X
 no-record k = never (sym unknown ∙ k)
 
-pick : (t : Bool) (a b c d : Record) → (Known a → b ≡ a) → (Known c → d ≡ c) → Known (choose t a c) → choose t b d ≡ choose t a c
+pick : (t : Bool) (a b c d : Record) → (Known a → b ≡ a) → (Known c → d ≡ c) → Known (cond t a c) → cond t b d ≡ cond t a c
 pick true a b c d f g k = f k
 pick false a b c d f g k = g k
 
@@ -61,8 +61,8 @@ module _ (at : ℕ) (xs ys : List ℕ) where
   whole-same : (key value next : ℕ) → Known (wholeRecord (length xs) key value next) → wholeRecord (length zs) key value next ≡ wholeRecord (length xs) key value next
   whole-same key value next = go (leb next (length xs)) refl
     where
-      go : (t : Bool) → leb next (length xs) ≡ t → Known (choose t (record { key = key; value = value; next = next }) (noRecord (length xs)))
-          → wholeRecord (length zs) key value next ≡ choose t (record { key = key; value = value; next = next }) (noRecord (length xs))
+      go : (t : Bool) → leb next (length xs) ≡ t → Known (cond t (record { key = key; value = value; next = next }) (noRecord (length xs)))
+          → wholeRecord (length zs) key value next ≡ cond t (record { key = key; value = value; next = next }) (noRecord (length xs))
       go true e k = rw (longer next (leb-true next (length xs) e)) refl
       go false e k = no-record k
 
@@ -70,8 +70,8 @@ module _ (at : ℕ) (xs ys : List ℕ) where
       → wholeRecord (length zs) (option c) (beAt 8 (at + 3) zs) (at + 11) ≡ wholeRecord (length xs) (option c) (beAt 8 (at + 3) xs) (at + 11)
   option-same c = go (leb (at + 11) (length xs)) refl
     where
-      go : (t : Bool) → leb (at + 11) (length xs) ≡ t → Known (choose t (record { key = option c; value = beAt 8 (at + 3) xs; next = at + 11 }) (noRecord (length xs)))
-          → wholeRecord (length zs) (option c) (beAt 8 (at + 3) zs) (at + 11) ≡ choose t (record { key = option c; value = beAt 8 (at + 3) xs; next = at + 11 }) (noRecord (length xs))
+      go : (t : Bool) → leb (at + 11) (length xs) ≡ t → Known (cond t (record { key = option c; value = beAt 8 (at + 3) xs; next = at + 11 }) (noRecord (length xs)))
+          → wholeRecord (length zs) (option c) (beAt 8 (at + 3) zs) (at + 11) ≡ cond t (record { key = option c; value = beAt 8 (at + 3) xs; next = at + 11 }) (noRecord (length xs))
       go true e k = let h = leb-true (at + 11) (length xs) e in rw (longer (at + 11) h, at-front 8 (at + 3) xs ys (omega arith)) refl
       go false e k = no-record k
 
@@ -92,11 +92,11 @@ module _ (at : ℕ) (xs ys : List ℕ) where
   unfolding recordAt
   record-same = go (leb (at + 3) (length xs)) refl
     where
-      go : (t : Bool) → leb (at + 3) (length xs) ≡ t → Known (choose t (recordByMark (beAt 2 at xs) at xs) (noRecord (length xs)))
-          → choose (leb (at + 3) (length zs)) (recordByMark (beAt 2 at zs) at zs) (noRecord (length zs)) ≡ choose t (recordByMark (beAt 2 at xs) at xs) (noRecord (length xs))
+      go : (t : Bool) → leb (at + 3) (length xs) ≡ t → Known (cond t (recordByMark (beAt 2 at xs) at xs) (noRecord (length xs)))
+          → cond (leb (at + 3) (length zs)) (recordByMark (beAt 2 at zs) at zs) (noRecord (length zs)) ≡ cond t (recordByMark (beAt 2 at xs) at xs) (noRecord (length xs))
       go true e k =
           let h = leb-true (at + 3) (length xs) e in
-          ap (λ (t : Bool). choose t (recordByMark (beAt 2 at zs) at zs) (noRecord (length zs))) (longer (at + 3) h)
+          ap (λ (t : Bool). cond t (recordByMark (beAt 2 at zs) at zs) (noRecord (length zs))) (longer (at + 3) h)
           ∙ ap (λ (m : ℕ). recordByMark m at zs) (at-front 2 at xs ys (omega arith))
           ∙ mark-same (beAt 2 at xs) h k
       go false e k = no-record k

@@ -1,7 +1,7 @@
 -- The records that words ask for, as pieces: all are known, and none has the key of a later one.
 -- Assumes nothing.
 use mathlib.Core.Path.{_≡_, refl, sym, ap, _∙_}
-use mathlib.Core.Bool.{Bool, true, false, not, _&&_, _||_}
+use mathlib.Core.Bool.{Bool, true, false, not, _&&_, _||_, cond}
 use mathlib.Core.List.{List, [], _∷_, _++_, append-assoc, append-nil}
 use Prim.Native.Nat.{ℕ, zero, suc, _+_, _-_, _^_, _≤_, _<_}
 use native.Mathlib.Omega.{arith}
@@ -9,7 +9,6 @@ use lib.Dec.{eqb, ltb}
 use lib.ListN.{length, getD, replicate, length-append, length-take}
 use borrow.Author.Tests.{lt-ltb, le-ltb, eq-eqb, ne-eqb, eqb-true}
 use mathlib.Core.Logic.{_⊎_, inl, inr}
-use Rattle.seqs.specs.Lists.{choose}
 use Rattle.seqs.proofs.Laws.{lt-or-le}
 use Rattle.endian.specs.Bytes.{beBytes, beAt}
 use Rattle.request.specs.Cases.{dv, op, lb, id}
@@ -49,9 +48,9 @@ good-sound at (p ∷ ps) g = rw (g .0 at, fresh-lookup (p .key) (at + length (p 
 
 -- ---- a piece that is there or isn't
 abbrev kept : Bool → Piece → List Piece → List Piece
-kept b p ps = choose b (p ∷ ps) ps
+kept b p ps = cond b (p ∷ ps) ps
 
-kept-joined : (b : Bool) (p : Piece) (ps : List Piece) → joined (kept b p ps) ≡ choose b (p .bytes) [] ++ joined ps
+kept-joined : (b : Bool) (p : Piece) (ps : List Piece) → joined (kept b p ps) ≡ cond b (p .bytes) [] ++ joined ps
 unfolding joined
 kept-joined true p ps = refl
 kept-joined false p ps = refl
@@ -69,7 +68,7 @@ kept-good true p ps k f g = (k refl, f, g)
 kept-good false p ps k f g = g
 
 -- ---- an option's record that is there or isn't, and one that is another's
-here : (b : Bool) (c v at : ℕ) (ps : List Piece) → Fresh (3 + c) ps → lookupRecord (3 + c) (entries at (kept b (option-piece c v) ps)) ≡ choose b (Given v) Absent
+here : (b : Bool) (c v at : ℕ) (ps : List Piece) → Fresh (3 + c) ps → lookupRecord (3 + c) (entries at (kept b (option-piece c v) ps)) ≡ cond b (Given v) Absent
 unfolding lookupRecord entries
 here true c v at ps f = rw (eq-eqb (3 + c) (3 + c) refl) refl
 here false c v at ps f = fresh-lookup (3 + c) at ps f
@@ -83,7 +82,7 @@ skip false key c v at ps o ne f = f at
 -- a record that is there or isn't is passed
 pass : (b : Bool) (key c v at n : ℕ) (ps rest : List Piece) → (3 + c ≡ key → ⊥)
     → ((at : ℕ) → lookupRecord key (entries at ps) ≡ lookupRecord key (entries (at + n) rest))
-    → lookupRecord key (entries at (kept b (option-piece c v) ps)) ≡ lookupRecord key (entries (at + (length (choose b (op c v) []) + n)) rest)
+    → lookupRecord key (entries at (kept b (option-piece c v) ps)) ≡ lookupRecord key (entries (at + (length (cond b (op c v) []) + n)) rest)
 unfolding lookupRecord entries
 pass true key c v at n ps rest ne f =
     let e : at + length (op c v) + n ≡ at + (length (op c v) + n) = omega arith in
@@ -95,21 +94,21 @@ module _ (b c : Bool) (text bytes : List ℕ) where
   both-names : List Piece
   both-names = kept b (label-piece text) (kept c (uuid-piece bytes) [])
 
-  label-found : (at : ℕ) → lookupRecord 1 (entries at both-names) ≡ choose b (Given (at + 2)) Absent
+  label-found : (at : ℕ) → lookupRecord 1 (entries at both-names) ≡ cond b (Given (at + 2)) Absent
   unfolding both-names lookupRecord entries
   label-found at = by b c
     where
-      by : (b c : Bool) → lookupRecord 1 (entries at (kept b (label-piece text) (kept c (uuid-piece bytes) []))) ≡ choose b (Given (at + 2)) Absent
+      by : (b c : Bool) → lookupRecord 1 (entries at (kept b (label-piece text) (kept c (uuid-piece bytes) []))) ≡ cond b (Given (at + 2)) Absent
       by true c = refl
       by false true = refl
       by false false = refl
 
-  uuid-found : (at : ℕ) → lookupRecord 2 (entries at both-names) ≡ choose c (Given (at + length (choose b (lb text) []) + 2)) Absent
+  uuid-found : (at : ℕ) → lookupRecord 2 (entries at both-names) ≡ cond c (Given (at + length (cond b (lb text) []) + 2)) Absent
   unfolding both-names lookupRecord entries
   uuid-found at = by b c
     where
       by : (b c : Bool) → lookupRecord 2 (entries at (kept b (label-piece text) (kept c (uuid-piece bytes) [])))
-          ≡ choose c (Given (at + length (choose b (lb text) []) + 2)) Absent
+          ≡ cond c (Given (at + length (cond b (lb text) []) + 2)) Absent
       by true true = refl
       by true false = refl
       by false true = ap Given (let e : at + 2 ≡ at + 0 + 2 = omega arith in e)
@@ -117,13 +116,13 @@ module _ (b c : Bool) (text bytes : List ℕ) where
 
 -- ---- what stands where they are found
 label-given : (b : Bool) (pre text post : List ℕ) → length text ≤ 12
-    → labelGiven (choose b (Given (length pre + 2)) Absent) (pre ++ (choose b (lb text) [] ++ post))
-    ≡ choose b (record { length = length text; bytes = text ++ replicate (12 - length text) 0 }) noLabel
+    → labelGiven (cond b (Given (length pre + 2)) Absent) (pre ++ (cond b (lb text) [] ++ post))
+    ≡ cond b (record { length = length text; bytes = text ++ replicate (12 - length text) 0 }) noLabel
 label-given true pre text post h = label-there pre text post h
 label-given false pre text post h = refl
 
 uuid-given : (b : Bool) (pre bytes post : List ℕ) → length bytes ≡ 16
-    → uuidGiven (choose b (Given (length pre + 2)) Absent) (pre ++ (choose b (id bytes) [] ++ post)) ≡ choose b (record { presence = Yes; bytes = bytes }) noUuid
+    → uuidGiven (cond b (Given (length pre + 2)) Absent) (pre ++ (cond b (id bytes) [] ++ post)) ≡ cond b (record { presence = Yes; bytes = bytes }) noUuid
 uuid-given true pre bytes post h = ap (λ (u : List ℕ). record { presence = Yes; bytes = u }) (uuid-there pre bytes post h)
 uuid-given false pre bytes post h = refl
 
@@ -281,7 +280,7 @@ module _ (xs : List ℕ) where
   starts = refl
 
   asked : ℕ → OptU64
-  asked k = choose (given k (wordsFrom 0 xs)) (Given (value-of k)) Absent
+  asked k = cond (given k (wordsFrom 0 xs)) (Given (value-of k)) Absent
 
   found-turn : (k n code : ℕ) (rest : List Piece) (at : ℕ) → code ≤ k → (code < k) ⊎ (k ≤ code)
       → (code < k → (at : ℕ) → lookupRecord (3 + k) (entries at (option-pieces n (code + 1) rest)) ≡ asked k) → Fresh (3 + k) rest
@@ -354,8 +353,8 @@ module _ (xs : List ℕ) where
       behind ∙ sym (append-assoc before (labelRecord ws xs) (uuidRecord ws xs)) ∙ ap (λ (u : List ℕ). pre ++ u) (sym (append-nil (uuidRecord ws xs))) in
       ap (λ (o : OptU64). uuidGiven o (wordsRequest xs))
       (names-found 2 (omega arith) (omega arith) ∙ uuid-found label-flag uuid-flag label-text uuid-text (length before)
-      ∙ ap (λ (k : ℕ). choose uuid-flag (Given (k + 2)) Absent) l)
-      ∙ ap (uuidGiven (choose uuid-flag (Given (length pre + 2)) Absent)) w
+      ∙ ap (λ (k : ℕ). cond uuid-flag (Given (k + 2)) Absent) l)
+      ∙ ap (uuidGiven (cond uuid-flag (Given (length pre + 2)) Absent)) w
       ∙ uuid-given uuid-flag pre uuid-text [] (length-pairs 16 0 (wordWith 16 ws .from) xs)
 
   found-asked : (k : ℕ) → 1 ≤ k → k ≤ 12 → lookupRecord (3 + k) (records 0 (wordsRequest xs)) ≡ optionAsked k (wordsFrom 0 xs)

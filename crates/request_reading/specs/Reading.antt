@@ -2,12 +2,11 @@
 -- Assumes nothing.
 use mathlib.Core.List.{List, _++_}
 use mathlib.Core.Path.{_≡_}
-use mathlib.Core.Bool.{true}
+use mathlib.Core.Bool.{true, cond}
 use Prim.Native.Nat.{ℕ, _-_, _≤_}
 use lib.Dec.{eqb}
 use lib.ListN.{length, replicate}
 use Rattle.endian.specs.Bytes.{beAt}
-use Rattle.seqs.specs.Lists.{choose}
 use Rattle.params.specs.declared.OptU64.{OptU64}
 use Rattle.params.specs.declared.OptU64.the-variants.{Absent, Given}
 use Rattle.params.specs.declared.Label.{Label}
@@ -26,7 +25,7 @@ Readable = (xs : List ℕ) → wellFormed (wordsRequest xs) ≡ true
 
 -- the option that a word gives, by its code
 abbrev pub optionAsked : ℕ → List Word → OptU64
-optionAsked code ws = choose (given code ws) (Given (wordWith code ws .value)) Absent
+optionAsked code ws = cond (given code ws) (Given (wordWith code ws .value)) Absent
 
 -- each option that is read back is the word's, and absent where there is no word
 unfoldable pub OptionsReadBack : Type 0
@@ -44,11 +43,11 @@ DeviceReadBack = (xs : List ℕ) → given 13 (wordsFrom 0 xs) ≡ true → give
 abbrev pub labelAsked : List Word → List ℕ → Label
 labelAsked ws xs =
     let text = labelWordText (wordWith 0 ws) xs in
-    choose (given 0 ws) (record { length = length text; bytes = text ++ replicate (12 - length text) 0 }) noLabel
+    cond (given 0 ws) (record { length = length text; bytes = text ++ replicate (12 - length text) 0 }) noLabel
 
 -- the UUID that a word gives: the bytes that its pairs of digits are
 abbrev pub uuidAsked : List Word → List ℕ → OptUuid
-uuidAsked ws xs = choose (eqb (wordWith 16 ws .value) 1) (record { presence = Yes; bytes = pairs 16 0 (wordWith 16 ws .from) xs }) noUuid
+uuidAsked ws xs = cond (eqb (wordWith 16 ws .value) 1) (record { presence = Yes; bytes = pairs 16 0 (wordWith 16 ws .from) xs }) noUuid
 
 -- the label that is read back is the word's, and there is none where there is no word
 unfoldable pub LabelReadBack : Type 0

@@ -1,7 +1,7 @@
 -- Laws of names and numbers: each branch of a test, and each turn of a loop.
 -- Assumes nothing.
 use mathlib.Core.Path.{_≡_, refl, sym, ap, _∙_}
-use mathlib.Core.Bool.{Bool, true, false, not}
+use mathlib.Core.Bool.{Bool, true, false, not, cond}
 use mathlib.Core.List.{List, [], _∷_}
 use Prim.Native.Nat.{ℕ, zero, suc, _+_, _-_, _*_, _^_, _≤_, _<_}
 use native.Mathlib.Nat.{add-zero, mul-suc}
@@ -11,7 +11,7 @@ use lib.Dec.{ltb, leb, eqb}
 use lib.ListN.{length, getD, take, drop, drop-of-length-le}
 use lib.Seq.{drop-cons}
 use borrow.Author.Tests.{lt-ltb, le-ltb, le-leb, lt-leb, eq-eqb, ne-eqb, ltb-true, ltb-false}
-use Rattle.seqs.specs.Lists.{choose, firstIndex, fold}
+use Rattle.seqs.specs.Lists.{firstIndex, fold}
 use Rattle.table_lines.specs.Decimal.{valueAfter}
 use Rattle.request_texts.specs.declared.Value.{Value}
 use Rattle.request_texts.specs.Texts.{said, goodValue, malformedValue, tooLarge, within, letter, notName, named, packedName, isDigit, leading, suffix, factor, numberText}
@@ -148,11 +148,11 @@ module _ (xs : List ℕ) (n : ℕ) where
 
 -- ---- a number that is within 64 bits, or isn't
 module _ (n : ℕ) (v : Value) where
-  over-at : (t : Bool) → ltb n (2 ^ 64) ≡ t → v ≡ choose t (goodValue n) tooLarge → (v .number ≡ 0 → ⊥) → 2 ^ 64 ≤ n
+  over-at : (t : Bool) → ltb n (2 ^ 64) ≡ t → v ≡ cond t (goodValue n) tooLarge → (v .number ≡ 0 → ⊥) → 2 ^ 64 ≤ n
   over-at true h e ne = absurd (ne (ap (λ (w : Value). w .number) e))
   over-at false h e ne = ltb-false n (2 ^ 64) h
 
-  good-at : (t : Bool) → ltb n (2 ^ 64) ≡ t → v ≡ choose t (goodValue n) tooLarge → v .number ≡ 0 → v .value ≡ n
+  good-at : (t : Bool) → ltb n (2 ^ 64) ≡ t → v ≡ cond t (goodValue n) tooLarge → v .number ≡ 0 → v .value ≡ n
   good-at true h e z = ap (λ (w : Value). w .value) e
   good-at false h e z = let k : v .number ≡ 4 = ap (λ (w : Value). w .number) e in absurd (omega arith)
 

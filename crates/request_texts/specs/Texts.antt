@@ -1,12 +1,12 @@
 -- What a text says: a name, as a number; a decimal number with a suffix.
 -- Assumes nothing.
 use mathlib.Core.List.{List, [], _∷_}
-use mathlib.Core.Bool.{Bool, not, _&&_}
+use mathlib.Core.Bool.{Bool, not, _&&_, cond}
 use Prim.Native.Nat.{ℕ, _+_, _-_, _*_, _^_}
 use lib.Dec.{leb, ltb, eqb}
 use lib.ListN.{take, drop}
 use Rattle.arith.specs.Choice.{when}
-use Rattle.seqs.specs.Lists.{choose, firstIndex, fold}
+use Rattle.seqs.specs.Lists.{firstIndex, fold}
 use Rattle.table_lines.specs.Decimal.{valueAfter}
 use Rattle.request_texts.specs.declared.Value.{Value}
 
@@ -26,20 +26,20 @@ tooLarge = said 4 0
 
 -- a number, where it has 64 bits or fewer
 abbrev pub within : ℕ → Value
-within n = choose (ltb n (2 ^ 64)) (goodValue n) tooLarge
+within n = cond (ltb n (2 ^ 64)) (goodValue n) tooLarge
 
 -- ---- names
 
 -- a small letter or a digit as a digit of base 37, from 1 on; 0 for any other byte
 unfoldable pub letter : ℕ → ℕ
-letter b = choose (ltb 122 b) 0 (choose (ltb 96 b) (b - 96) (choose (ltb 57 b) 0 (choose (ltb 47 b) (b - 21) 0)))
+letter b = cond (ltb 122 b) 0 (cond (ltb 96 b) (b - 96) (cond (ltb 57 b) 0 (cond (ltb 47 b) (b - 21) 0)))
 
 -- what is no name: a byte that a name hasn't, or more bytes than a name has
 abbrev pub notName : ℕ
 notName = 2 ^ 63
 
 unfoldable pub named : ℕ → ℕ → ℕ
-named v b = choose (ltb v (2 ^ 58) && ltb 0 (letter b)) (v * 37 + letter b) notName
+named v b = cond (ltb v (2 ^ 58) && ltb 0 (letter b)) (v * 37 + letter b) notName
 
 -- a name as a number in base 37; no digit is 0, so two names have two numbers
 unfoldable pub packedName : List ℕ → ℕ
@@ -73,6 +73,6 @@ factor (b ∷ c ∷ bs) = 0
 -- digits, one at least, and a suffix or none
 unfoldable pub numberText : List ℕ → Value
 numberText text =
-    choose (eqb (leading text) 0) malformedValue
-    (choose (eqb (factor (drop (leading text) text)) 0) malformedValue
+    cond (eqb (leading text) 0) malformedValue
+    (cond (eqb (factor (drop (leading text) text)) 0) malformedValue
     (within (valueAfter 0 (take (leading text) text) * factor (drop (leading text) text))))

@@ -9,7 +9,7 @@ use lib.Dec.{ltb, eqb}
 use lib.ListN.{length, drop}
 use Rattle.endian.specs.Fields.{part}
 use borrow.Author.Tests.{lt-ltb, le-ltb, eq-eqb, ne-eqb, ltb-true}
-use Rattle.seqs.specs.Lists.{choose, firstIndex}
+use Rattle.seqs.specs.Lists.{firstIndex}
 use Rattle.seqs.proofs.Laws.{choose-elim}
 use Rattle.request_texts.specs.declared.Value.{Value}
 use Rattle.request_words.specs.declared.Word.{Word}

@@ -11,7 +11,7 @@ use lib.ListN.{length, getD, drop, replicate, length-append, length-drop, List·
 use lib.Seq.{length-take-le}
 use borrow.Author.Tests.{lt-ltb, le-ltb, le-leb, lt-leb, eq-eqb, ne-eqb, ltb-true, leb-true}
 use Rattle.arith.specs.Choice.{when}
-use Rattle.seqs.specs.Lists.{choose, firstIndex}
+use Rattle.seqs.specs.Lists.{firstIndex}
 use Rattle.seqs.proofs.Laws.{choose-elim, index-le}
 use Rattle.endian.specs.Bytes.{beBytes, patch}
 use Rattle.endian.specs.Fields.{part, byteRun, writeFields, table}

@@ -1,14 +1,13 @@
 -- The input records that words ask for: the device, the options by their codes, the label, the UUID.
 -- Assumes nothing.
 use mathlib.Core.List.{List, [], _∷_, _++_}
-use mathlib.Core.Bool.{Bool, _&&_}
+use mathlib.Core.Bool.{Bool, _&&_, cond}
 use mathlib.Core.Path.{_≡_}
 use Prim.Native.Nat.{ℕ, zero, suc, _+_, _-_, _*_, _%_, _≤_, min}
 use lib.Dec.{ltb, leb, eqb}
 use lib.ListN.{length, getD}
 use Rattle.refusals.specs.Numbers.{wrongLength}
 use Rattle.arith.specs.Choice.{when}
-use Rattle.seqs.specs.Lists.{choose}
 use Rattle.endian.specs.Bytes.{patch}
 use Rattle.endian.specs.Fields.{part}
 use Rattle.request.specs.Cases.{dv, op, lb, id}
@@ -38,7 +37,7 @@ unfoldable pub deviceRecord : List Word → List ℕ
 deviceRecord ws = dv (wordWith 13 ws .value) (wordWith 14 ws .value) (wordWith 15 ws .value)
 
 unfoldable pub optionRecord : ℕ → List Word → List ℕ
-optionRecord code ws = choose (given code ws) (op code (wordWith code ws .value)) []
+optionRecord code ws = cond (given code ws) (op code (wordWith code ws .value)) []
 
 -- n options, from a code on
 unfoldable pub optionRecords : ℕ → ℕ → List Word → List ℕ
@@ -50,10 +49,10 @@ abbrev pub labelWordText : Word → List ℕ → List ℕ
 labelWordText w xs = part (w .from) (min (w .end - w .from) 12) xs
 
 unfoldable pub labelRecord : List Word → List ℕ → List ℕ
-labelRecord ws xs = choose (given 0 ws) (lb (labelWordText (wordWith 0 ws) xs)) []
+labelRecord ws xs = cond (given 0 ws) (lb (labelWordText (wordWith 0 ws) xs)) []
 
 unfoldable pub uuidRecord : List Word → List ℕ → List ℕ
-uuidRecord ws xs = choose (eqb (wordWith 16 ws .value) 1) (id (pairs 16 0 (wordWith 16 ws .from) xs)) []
+uuidRecord ws xs = cond (eqb (wordWith 16 ws .value) 1) (id (pairs 16 0 (wordWith 16 ws .from) xs)) []
 
 abbrev pub wordsRecords : List Word → List ℕ → List ℕ
 wordsRecords ws xs = deviceRecord ws ++ (optionRecords 12 1 ws ++ (labelRecord ws xs ++ uuidRecord ws xs))
@@ -82,12 +81,12 @@ madeAs number index length = record { number = number; index = index; length = l
 -- changed
 abbrev pub madeOf : Verdict → List ℕ → List ℕ → Made
 madeOf v xs old =
-    choose (leb longest (length old))
-    (choose (eqb (v .number) 0) (madeAs 0 0 (length (wordsRequest xs))) (madeAs (v .number) (v .index) 0))
+    cond (leb longest (length old))
+    (cond (eqb (v .number) 0) (madeAs 0 0 (length (wordsRequest xs))) (madeAs (v .number) (v .index) 0))
     (madeAs wrongLength 0 0)
 
 abbrev pub leftOf : Verdict → List ℕ → List ℕ → List ℕ
-leftOf v xs old = choose (leb longest (length old)) (choose (eqb (v .number) 0) (patch 0 (wordsRequest xs) old) old) old
+leftOf v xs old = cond (leb longest (length old)) (cond (eqb (v .number) 0) (patch 0 (wordsRequest xs) old) old) old
 
 pub record Makes (xs old : List ℕ) (r : Made) (left : List ℕ) : Type 0 where
   pub answer : r ≡ madeOf (wordsVerdict xs) xs old

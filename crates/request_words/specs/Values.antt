@@ -1,12 +1,12 @@
 -- What the text behind `=` gives, by the word's key.
 -- Assumes nothing.
 use mathlib.Core.List.{List, [], _∷_}
-use mathlib.Core.Bool.{Bool, true, _&&_, _||_}
+use mathlib.Core.Bool.{Bool, true, _&&_, _||_, cond}
 use Prim.Native.Nat.{ℕ, suc, _+_, _-_, _*_, _/_, _%_, _^_}
 use lib.Dec.{leb, ltb, eqb}
 use lib.ListN.{length, getD}
 use Rattle.arith.specs.Choice.{when}
-use Rattle.seqs.specs.Lists.{choose, firstIndex, fold}
+use Rattle.seqs.specs.Lists.{firstIndex, fold}
 use Rattle.request_texts.specs.Texts.{goodValue, malformedValue, tooLarge, named, packedName, numberText}
 use Rattle.request_texts.specs.declared.Value.{Value}
 use Rattle.request_words.specs.declared.Names.{Names}
@@ -102,8 +102,8 @@ lastFeature s = turned (s .mask) (s .sign) (getD weights (indexIn featureNames (
 -- one byte of the list more: a comma ends a feature, a sign begins it
 unfoldable pub nextByte : Names → ℕ → Names
 nextByte s b =
-    choose (eqb b 44) (featuresRead (lastFeature s) 0 0)
-    (choose (eqb (s .sign) 0) (featuresRead (s .mask) b 0)
+    cond (eqb b 44) (featuresRead (lastFeature s) 0 0)
+    (cond (eqb (s .sign) 0) (featuresRead (s .mask) b 0)
     (featuresRead (s .mask) (s .sign) (named (s .name) b)))
 
 -- a list of features, each with its sign, commas between: all but those that it turns off
@@ -119,34 +119,34 @@ allName = packedName (97 ∷ 108 ∷ 108 ∷ [])
 -- `noneName`, `allName`, or a list
 unfoldable pub featuresText : List ℕ → Value
 featuresText text =
-    choose (eqb (packedName text) noneName) (goodValue 0)
-    (choose (eqb (packedName text) allName) (goodValue 127)
-    (choose (ltb (featureMask text) noFeatureList) (goodValue (featureMask text)) malformedValue))
+    cond (eqb (packedName text) noneName) (goodValue 0)
+    (cond (eqb (packedName text) allName) (goodValue 127)
+    (cond (ltb (featureMask text) noFeatureList) (goodValue (featureMask text)) malformedValue))
 
 -- ---- the log's sizing: `plain` or `roomy`
 unfoldable pub sizings : List ℕ
 sizings = packedName (112 ∷ 108 ∷ 97 ∷ 105 ∷ 110 ∷ []) ∷ packedName (114 ∷ 111 ∷ 111 ∷ 109 ∷ 121 ∷ []) ∷ []
 
 unfoldable pub sizingIn : List ℕ → Value
-sizingIn text = choose (ltb (indexIn sizings (packedName text)) 2) (goodValue (indexIn sizings (packedName text))) malformedValue
+sizingIn text = cond (ltb (indexIn sizings (packedName text)) 2) (goodValue (indexIn sizings (packedName text))) malformedValue
 
 -- ---- the UUID: 36 characters, hexadecimal but for four dashes; or `noneName`
 
 -- the value of a hexadecimal digit; 16 of any other byte
 unfoldable pub hex : ℕ → ℕ
 hex b =
-    choose (ltb 102 b) 16
-    (choose (ltb 96 b) (b - 87)
-    (choose (ltb 70 b) 16
-    (choose (ltb 64 b) (b - 55)
-    (choose (ltb 57 b) 16 (choose (ltb 47 b) (b - 48) 16)))))
+    cond (ltb 102 b) 16
+    (cond (ltb 96 b) (b - 87)
+    (cond (ltb 70 b) 16
+    (cond (ltb 64 b) (b - 55)
+    (cond (ltb 57 b) 16 (cond (ltb 47 b) (b - 48) 16)))))
 
 abbrev pub isDash : ℕ → Bool
 isDash i = eqb i 8 || (eqb i 13 || (eqb i 18 || eqb i 23))
 
 -- the byte that stands at index i of a UUID
 unfoldable pub fitsAt : ℕ → ℕ → Bool
-fitsAt i b = choose (isDash i) (eqb b 45) (ltb (hex b) 16)
+fitsAt i b = cond (isDash i) (eqb b 45) (ltb (hex b) 16)
 
 -- every byte from index i on
 unfoldable pub shaped : ℕ → List ℕ → Bool
@@ -156,19 +156,19 @@ shaped i (b ∷ bs) = fitsAt i b && shaped (suc i) bs
 -- 1 where there is a UUID, 0 where none is wanted
 unfoldable pub uuidIn : List ℕ → Value
 uuidIn text =
-    choose (eqb (packedName text) noneName) (goodValue 0)
-    (choose (eqb (length text) 36 && shaped 0 text) (goodValue 1) malformedValue)
+    cond (eqb (packedName text) noneName) (goodValue 0)
+    (cond (eqb (length text) 36 && shaped 0 text) (goodValue 1) malformedValue)
 
 -- ---- by the key
 
 -- the text's value, before its size is asked for; of a label it is the length
 unfoldable pub valueIn : ℕ → List ℕ → Value
 valueIn key text =
-    choose (eqb key 0) (goodValue (length text))
-    (choose (eqb key 9) (featuresText text)
-    (choose (eqb key 12) (sizingIn text)
-    (choose (eqb key 16) (uuidIn text) (numberText text))))
+    cond (eqb key 0) (goodValue (length text))
+    (cond (eqb key 9) (featuresText text)
+    (cond (eqb key 12) (sizingIn text)
+    (cond (eqb key 16) (uuidIn text) (numberText text))))
 
 -- a value that isn't larger than its key allows
 unfoldable pub limited : ℕ → Value → Value
-limited key v = choose (leb (v .value) (getD largestValues key 0)) v tooLarge
+limited key v = cond (leb (v .value) (getD largestValues key 0)) v tooLarge

@@ -1,12 +1,12 @@
 -- The words, each ended by a zero byte: what each says, which of them is refused, and what stands for a key.
 -- Assumes nothing.
 use mathlib.Core.List.{List, [], _∷_}
-use mathlib.Core.Bool.{Bool, true, false}
+use mathlib.Core.Bool.{Bool, true, false, cond}
 use Prim.Native.Nat.{ℕ, zero, suc, _+_, _-_, min}
 use lib.Dec.{ltb, eqb}
 use lib.ListN.{length, drop}
 use Rattle.endian.specs.Fields.{part}
-use Rattle.seqs.specs.Lists.{choose, firstIndex}
+use Rattle.seqs.specs.Lists.{firstIndex}
 use Rattle.request_texts.specs.Texts.{packedName}
 use Rattle.request_words.specs.Values.{indexIn, names, valueIn, limited}
 use Rattle.request_texts.specs.declared.Value.{Value}
@@ -47,13 +47,13 @@ withValue key v from end next = word (v .number) key (v .value) from end next
 -- a word with a key: its text's value; an unknown one where the key is no word's
 unfoldable pub meant : ℕ → ℕ → ℕ → ℕ → List ℕ → Word
 meant key from end next xs =
-    choose (ltb key noKey) (withValue key (limited key (valueIn key (part from (end - from) xs))) from end next)
+    cond (ltb key noKey) (withValue key (limited key (valueIn key (part from (end - from) xs))) from end next)
     (word unknownName noKey 0 from end next)
 
 -- the word at an offset, from its end and the place of its `=`: the name before that, the text behind it
 unfoldable pub wordBy : ℕ → ℕ → ℕ → List ℕ → Word
 wordBy at end eq xs =
-    choose (ltb eq end) (meant (indexIn names (packedName (part at (eq - at) xs))) (eq + 1) end (min (end + 1) (length xs)) xs)
+    cond (ltb eq end) (meant (indexIn names (packedName (part at (eq - at) xs))) (eq + 1) end (min (end + 1) (length xs)) xs)
     (word unknownName noKey 0 at end (min (end + 1) (length xs)))
 
 unfoldable pub wordAt : ℕ → List ℕ → Word
@@ -77,7 +77,7 @@ wordsFrom at xs = splitWords (length xs - at) at xs
 -- the first word with the key
 unfoldable pub wordWith : ℕ → List Word → Word
 wordWith key [] = noWord
-wordWith key (w ∷ ws) = choose (eqb (w .key) key) w (wordWith key ws)
+wordWith key (w ∷ ws) = cond (eqb (w .key) key) w (wordWith key ws)
 
 -- there is one
 abbrev pub given : ℕ → List Word → Bool
@@ -92,21 +92,21 @@ verdict number index = record { number = number; index = index }
 unfoldable pub judged : ℕ → List Word → Verdict
 judged i [] = verdict 0 0
 judged i (w ∷ ws) =
-    choose (eqb (w .number) 0) (choose (given (w .key) ws) (verdict twice i) (judged (i + 1) ws)) (verdict (w .number) i)
+    cond (eqb (w .number) 0) (cond (given (w .key) ws) (verdict twice i) (judged (i + 1) ws)) (verdict (w .number) i)
 
 -- Nobody guesses the device's size, its sectors (13 to 15) and the UUID (16): the first that is missing, by its key.
 unfoldable pub complete : List Word → Verdict
 complete ws =
-    choose (given 13 ws)
-    (choose (given 14 ws)
-    (choose (given 15 ws)
-    (choose (given 16 ws) (verdict 0 0) (verdict missing 16))
+    cond (given 13 ws)
+    (cond (given 14 ws)
+    (cond (given 15 ws)
+    (cond (given 16 ws) (verdict 0 0) (verdict missing 16))
     (verdict missing 15))
     (verdict missing 14))
     (verdict missing 13)
 
 abbrev pub allJudged : Verdict → List Word → Verdict
-allJudged v ws = choose (eqb (v .number) 0) (complete ws) v
+allJudged v ws = cond (eqb (v .number) 0) (complete ws) v
 
 -- number 0: the words are a request
 unfoldable pub wordsVerdict : List ℕ → Verdict

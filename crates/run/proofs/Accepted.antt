@@ -1,13 +1,12 @@
 -- What is 0 in an accepted run.
 -- Assumes nothing.
 use mathlib.Core.Path.{_≡_, refl, ap, _∙_}
-use mathlib.Core.Bool.{Bool, true, false}
+use mathlib.Core.Bool.{Bool, true, false, cond}
 use mathlib.Core.List.{List, []}
 use Prim.Native.Nat.{ℕ}
 use borrow.Author.Tests.{eqb-true, eqb-false, eq-eqb}
 use lib.Dec.{eqb}
 use Rattle.refusals.specs.Numbers.{malformed}
-use Rattle.seqs.specs.Lists.{choose}
 use Rattle.request_input.specs.Records.{recordAt, splitRecords, records, startsWithDevice, wellFormed}
 use Rattle.request.specs.declared.Request.{Request}
 use Rattle.request.specs.Parse.{parseDef}
@@ -18,14 +17,14 @@ use Rattle.run.specs.declared.Run.{Run}
 use Rattle.run.specs.Runs.{orNext, stepOf, timeRefusal, bareNumber, runNumber, noRun, runOf, accepted}
 
 -- the first of two numbers that isn't 0 is 0: so are both
-none-at : (a b : ℕ) (t : Bool) → eqb a 0 ≡ t → choose t b a ≡ 0 → (a ≡ 0) × (b ≡ 0)
+none-at : (a b : ℕ) (t : Bool) → eqb a 0 ≡ t → cond t b a ≡ 0 → (a ≡ 0) × (b ≡ 0)
 none-at a b true e z = (eqb-true a 0 e, z)
 none-at a b false e z = absurd (eqb-false a 0 e z)
 
 pub none : (a b : ℕ) → orNext a b ≡ 0 → (a ≡ 0) × (b ≡ 0)
 none a b z = none-at a b (eqb a 0) refl z
 
-zero-at : (n : ℕ) (t : Bool) (r : Run) → eqb n 0 ≡ t → choose t r (noRun n) .number ≡ 0 → n ≡ 0
+zero-at : (n : ℕ) (t : Bool) (r : Run) → eqb n 0 ≡ t → cond t r (noRun n) .number ≡ 0 → n ≡ 0
 zero-at n true r e z = eqb-true n 0 e
 zero-at n false r e z = z
 

@@ -2,14 +2,13 @@
 -- fails, and any other number as without it. The geometry step answers the same.
 -- Assumes nothing.
 use mathlib.Core.Path.{_≡_, refl, sym, ap, _∙_}
-use mathlib.Core.Bool.{Bool, true, false}
+use mathlib.Core.Bool.{Bool, true, false, cond}
 use mathlib.Core.Logic.{_↔_}
 use Prim.Native.Nat.{ℕ}
 use native.Mathlib.Omega.{arith}
 use borrow.Author.Tests.{eqb-true, eqb-false, eq-eqb, ne-eqb}
 use lib.Dec.{eqb}
 use Rattle.refusals.specs.Numbers.{notInProfile}
-use Rattle.seqs.specs.Lists.{choose}
 use Rattle.request.specs.declared.Request.{Request}
 use Rattle.request.specs.Parse.{under}
 use Rattle.profile.specs.Rules.{inProfile, profileNumber}
@@ -38,7 +37,7 @@ module _ (r : Request) where
   last-none : (n : ℕ) → orNext n 0 ≡ n
   last-none n = go (eqb n 0) refl
     where
-      go : (t : Bool) → eqb n 0 ≡ t → choose t 0 n ≡ n
+      go : (t : Bool) → eqb n 0 ≡ t → cond t 0 n ≡ n
       go true e = sym (eqb-true n 0 e)
       go false e = refl
 

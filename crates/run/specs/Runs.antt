@@ -1,11 +1,11 @@
 -- A run: what the input records ask for, accepted where its geometry, all its plans and its time are, and under the profile its rules hold.
 -- Assumes nothing.
+use mathlib.Core.Bool.{cond}
 use mathlib.Core.List.{List}
 use Prim.Native.Nat.{ℕ}
 use lib.Dec.{eqb}
 use lib.IntN.{pos}
 use lib.ListN.{replicate}
-use Rattle.seqs.specs.Lists.{choose}
 use Rattle.params.specs.declared.Timestamp.{Timestamp}
 use Rattle.geometry.specs.declared.Geometry.{Geometry}
 use Rattle.geometry.specs.declared.Computed.{Computed}
@@ -20,7 +20,7 @@ use Rattle.run.specs.declared.Run.{Run}
 
 -- the first of two numbers that isn't 0
 abbrev pub orNext : ℕ → ℕ → ℕ
-orNext a b = choose (eqb a 0) b a
+orNext a b = cond (eqb a 0) b a
 
 -- what the geometry step answers
 unfoldable pub stepOf : Request → Computed
@@ -46,7 +46,7 @@ noRun n = record { number = n; geometry = zeroGeometry; uuid = replicate 16 0; t
 -- the run of a request, or its refusal
 unfoldable pub runOf : Request → Run
 runOf r =
-    choose (eqb (runNumber r) 0)
+    cond (eqb (runNumber r) 0)
     (record { number = 0; geometry = stepOf r .geometry; uuid = uuidOf (r .params); time = timeOf (r .params); seed = seedOf (r .params) })
     (noRun (runNumber r))
 

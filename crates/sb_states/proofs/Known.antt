@@ -1,7 +1,7 @@
 -- Numbers of a geometry whose plans are accepted: they are answers, and the root inode has room behind it.
 -- Assumes nothing.
 use mathlib.Core.Path.{_≡_, refl}
-use mathlib.Core.Bool.{Bool, true, false}
+use mathlib.Core.Bool.{Bool, true, false, cond}
 use Prim.Native.Nat.{ℕ, _+_, _^_, _≤_, _<_}
 use native.Mathlib.Omega.{arith}
 use borrow.Author.Tests.{eqb-true, eq-eqb, le-leb, lt-leb}
@@ -9,7 +9,6 @@ use lib.Dec.{leb, eqb}
 use Rattle.refusals.specs.Numbers.{noPlace}
 use Rattle.arith.specs.Choice.{when}
 use lib.ListN.{length}
-use Rattle.seqs.specs.Lists.{choose}
 use Rattle.geometry.specs.declared.Geometry.{Geometry}
 use Rattle.geometry_answers.specs.Named.{isAnswer}
 use Rattle.geometry_layout.specs.Places.{fsbOf, inoOf, rootChunkOf}
@@ -58,7 +57,7 @@ module _ (g : Geometry) (l : length (g .label) ≡ 12) (h : plansNumber g ≡ 0)
       omega arith
 
 -- a state that is not refused is that of accepted plans
-there-at : (n m : ℕ) (t : Bool) → eqb n 0 ≡ t → choose t m n ≡ 0 → n ≡ 0
+there-at : (n m : ℕ) (t : Bool) → eqb n 0 ≡ t → cond t m n ≡ 0 → n ≡ 0
 there-at n m true e z = eqb-true n 0 e
 there-at n m false e z = z
 

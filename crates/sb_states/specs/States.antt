@@ -1,13 +1,12 @@
 -- The superblock of each group: what its state is while the run writes, and of group 0 at the end.
 -- Assumes nothing.
-use mathlib.Core.Bool.{Bool, true, false, _&&_, _||_}
+use mathlib.Core.Bool.{Bool, true, false, _&&_, _||_, cond}
 use mathlib.Core.List.{List}
 use Prim.Native.Nat.{ℕ, _+_, _-_, _/_}
 use lib.Dec.{leb, ltb, eqb}
 use lib.ListN.{replicate}
 use Rattle.arith.specs.Choice.{when}
 use Rattle.refusals.specs.Numbers.{noPlace}
-use Rattle.seqs.specs.Lists.{choose}
 use Rattle.structs.specs.Written.{null64}
 use Rattle.geometry.specs.declared.Geometry.{Geometry}
 use Rattle.geometry_layout.specs.Limits.{chunkInodes}
@@ -71,7 +70,7 @@ finishedState g uuid = primaryWith uuid (rootIno g) (freeCount g) false
 
 -- the state that group agno's head is written with
 unfoldable pub stateOf : Geometry → List ℕ → ℕ → SbState
-stateOf g uuid agno = choose (eqb agno 0) (unfinishedState g uuid) (secondaryState g uuid agno)
+stateOf g uuid agno = cond (eqb agno 0) (unfinishedState g uuid) (secondaryState g uuid agno)
 
 -- ---- what the functions answer
 
@@ -84,11 +83,11 @@ stateRefused n = record {
 
 -- the state, where the number is 0
 abbrev pub statedAs : ℕ → SbState → Stated
-statedAs n s = choose (eqb n 0) (record { number = 0; state = s }) (stateRefused n)
+statedAs n s = cond (eqb n 0) (record { number = 0; state = s }) (stateRefused n)
 
 -- 31, 25, then 29 for a group that is not there
 unfoldable pub stateNumber : Geometry → ℕ → ℕ
-stateNumber g agno = choose (eqb (plansNumber g) 0) (when (leb (g .agcount) agno) noPlace 0) (plansNumber g)
+stateNumber g agno = cond (eqb (plansNumber g) 0) (when (leb (g .agcount) agno) noPlace 0) (plansNumber g)
 
 -- `state_of`: 31, 25, 29, or the state of a group's superblock
 unfoldable pub stated : Geometry → List ℕ → ℕ → Stated

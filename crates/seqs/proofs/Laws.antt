@@ -1,7 +1,7 @@
 -- Laws of lists, at the place of a loop and whole.
 -- Assumes nothing.
 use mathlib.Core.Path.{_≡_, refl, sym, ap, _∙_}
-use mathlib.Core.Bool.{Bool, true, false}
+use mathlib.Core.Bool.{Bool, true, false, cond, _&&_}
 use mathlib.Core.List.{List, [], _∷_, _++_, append-nil}
 use mathlib.Core.Logic.{_⊎_, inl, inr}
 use Prim.Native.Nat.{ℕ, zero, suc, _+_, _-_, _≤_, _<_}
@@ -12,22 +12,22 @@ use borrow.Author.Tests.{ltb-true, ltb-false, lt-ltb}
 use lib.Dec.{ltb}
 use lib.ListN.{length, take, drop, getD, set, replicate, length-append, length-drop, take-append-drop}
 use lib.Seq.{slice, slice-cons, slice-empty, set-append-seam, append-snoc, take-take, length-take-le}
-use Rattle.seqs.specs.Lists.{both, choose, firstIndex, spliced, Store, packed, pushed, appended, fold, turns, total, upFrom}
+use Rattle.seqs.specs.Lists.{firstIndex, spliced, Store, packed, pushed, appended, fold, turns, total, upFrom}
 
 -- ---- tests
 pub never : {X : Type 0} → false ≡ true → X
 never e = let z : _≡_ {A = ℕ} 0 1 = cc in absurd (omega arith)
 
-pub both-left : (a b : Bool) → both a b ≡ true → a ≡ true
+pub both-left : (a b : Bool) → (a && b) ≡ true → a ≡ true
 both-left true b e = refl
 both-left false b e = e
 
-pub both-right : (a b : Bool) → both a b ≡ true → b ≡ true
+pub both-right : (a b : Bool) → (a && b) ≡ true → b ≡ true
 both-right true b e = e
 both-right false b e = cc
 
 -- a fact of both cases of a test
-pub choose-elim : {A : Type 0} (P : A → Type 0) (t : Bool) (x y : A) → (t ≡ true → P x) → (t ≡ false → P y) → P (choose t x y)
+pub choose-elim : {A : Type 0} (P : A → Type 0) (t : Bool) (x y : A) → (t ≡ true → P x) → (t ≡ false → P y) → P (cond t x y)
 choose-elim P true x y f g = f refl
 choose-elim P false x y f g = g refl
 
@@ -60,7 +60,7 @@ module _ {A : Type 0} (p : A → Bool) (xs : List A) (z : A) (n i : ℕ) where
   unfolding firstIndex
   index-step h k e = rw (rest-cons xs z n i h k, e) (omega arith)
 
-index-le-at : (n : ℕ) (b : Bool) (m : ℕ) → m ≤ n → choose b 0 (suc m) ≤ suc n
+index-le-at : (n : ℕ) (b : Bool) (m : ℕ) → m ≤ n → cond b 0 (suc m) ≤ suc n
 index-le-at n true m h = omega arith
 index-le-at n false m h = omega arith
 
@@ -71,7 +71,7 @@ index-le p (x ∷ xs) = index-le-at (length xs) (p x) (firstIndex p xs) (index-l
 
 passes-at : {A : Type 0} (p : A → Bool) (x : A) (xs : List A) (z : A) (b : Bool) → p x ≡ b
     → (firstIndex p xs < length xs → p (getD xs (firstIndex p xs) z) ≡ true)
-    → choose b 0 (suc (firstIndex p xs)) < suc (length xs) → p (getD (x ∷ xs) (choose b 0 (suc (firstIndex p xs))) z) ≡ true
+    → cond b 0 (suc (firstIndex p xs)) < suc (length xs) → p (getD (x ∷ xs) (cond b 0 (suc (firstIndex p xs))) z) ≡ true
 passes-at p x xs z true e ih h = e
 passes-at p x xs z false e ih h = ih (le-of-suc-le-suc h)
 

@@ -1,14 +1,14 @@
 -- What holds of each element of a list.
 -- Assumes nothing.
 use mathlib.Core.Path.{_≡_, refl, sym, ap, _∙_}
-use mathlib.Core.Bool.{Bool, true, false}
+use mathlib.Core.Bool.{Bool, true, false, cond}
 use mathlib.Core.List.{List, [], _∷_, List·Memᴰ, List·Memᴰ·head, List·Memᴰ·tail, List·Memᴰ·not-nil, List·Memᴰ·cases-cons}
 use mathlib.Core.Logic.{_⊎_, inl, inr, ⊎-elim}
 use Prim.Native.Nat.{ℕ, zero, suc, _+_, _≤_, _<_}
 use native.Mathlib.Nat.{le-of-suc-le-suc, not-suc-le-zero}
 use native.Mathlib.Omega.{arith}
 use lib.ListN.{length, take, getD}
-use Rattle.seqs.specs.Lists.{choose, firstIndex}
+use Rattle.seqs.specs.Lists.{firstIndex}
 use Rattle.seqs.specs.Runs.{valid}
 use Rattle.seqs.proofs.Parts.{Follows, ended, valid-uncons, valid-cons}
 
@@ -18,7 +18,7 @@ module _ {A : Type 0} where
   getD-mem (x ∷ xs) zero z h = List·Memᴰ·head refl
   getD-mem (x ∷ xs) (suc i) z h = List·Memᴰ·tail (getD-mem xs i z (le-of-suc-le-suc h))
 
-  all-fail-at : (p : A → Bool) (y : A) (ys : List A) (t : Bool) → p y ≡ t → suc (length ys) ≤ choose t 0 (suc (firstIndex p ys))
+  all-fail-at : (p : A → Bool) (y : A) (ys : List A) (t : Bool) → p y ≡ t → suc (length ys) ≤ cond t 0 (suc (firstIndex p ys))
       → ((length ys ≤ firstIndex p ys) → (x : A) → List·Memᴰ x ys → p x ≡ false) → (x : A) → List·Memᴰ x (y ∷ ys) → p x ≡ false
   all-fail-at p y ys true e h below x m = absurd (not-suc-le-zero h)
   all-fail-at p y ys false e h below x m = ⊎-elim (λ f. ap p f ∙ e) (λ n. below (le-of-suc-le-suc h) x n) (List·Memᴰ·cases-cons m)
@@ -30,7 +30,7 @@ module _ {A : Type 0} where
   all-fail p (y ∷ ys) h x m = all-fail-at p y ys (p y) refl h (all-fail p ys) x m
 
 before-at : {A : Type 0} (p : A → Bool) (y : A) (ys : List A) (x : A) (t : Bool) → p y ≡ t → (List·Memᴰ x (take (firstIndex p ys) ys) → p x ≡ false)
-    → List·Memᴰ x (take (choose t 0 (suc (firstIndex p ys))) (y ∷ ys)) → p x ≡ false
+    → List·Memᴰ x (take (cond t 0 (suc (firstIndex p ys))) (y ∷ ys)) → p x ≡ false
 before-at p y ys x true e below m = absurd (List·Memᴰ·not-nil m)
 before-at p y ys x false e below m = ⊎-elim (λ f. ap p f ∙ e) below (List·Memᴰ·cases-cons m)
 

@@ -1,7 +1,7 @@
 -- Valid lists of runs taken apart and put together.
 -- Assumes nothing.
 use mathlib.Core.Path.{_≡_, refl, sym, ap, _∙_}
-use mathlib.Core.Bool.{true}
+use mathlib.Core.Bool.{true, _&&_}
 use mathlib.Core.List.{List, [], _∷_, _++_}
 use Prim.Native.Nat.{ℕ, _+_, _≤_, _<_, _^_}
 use native.Mathlib.Omega.{arith}
@@ -10,7 +10,6 @@ use borrow.Author.Tests.{leb-true, ltb-true, le-leb, lt-ltb}
 use lib.Dec.{leb, ltb}
 use lib.ListN.{length, take, drop, getD}
 use lib.Seq.{split-at}
-use Rattle.seqs.specs.Lists.{both}
 use Rattle.seqs.specs.Runs.{follows, valid}
 use Rattle.seqs.proofs.Laws.{both-left, both-right}
 
@@ -22,9 +21,9 @@ pub record Follows (lo s c : ℕ) : Type 0 where
 
 pub follows-facts : (lo s c : ℕ) → follows lo s c ≡ true → Follows lo s c
 follows-facts lo s c e =
-    let r : both (ltb 0 c) (ltb (s + c) (2 ^ 32)) ≡ true = both-right (leb lo s) _ e in
+    let r : (ltb 0 c && ltb (s + c) (2 ^ 32)) ≡ true = both-right (leb lo s) _ e in
     record {
-      low = leb-true _ _ (both-left (leb lo s) (both (ltb 0 c) (ltb (s + c) (2 ^ 32))) e);
+      low = leb-true _ _ (both-left (leb lo s) (ltb 0 c && ltb (s + c) (2 ^ 32)) e);
       some = ltb-true _ _ (both-left (ltb 0 c) (ltb (s + c) (2 ^ 32)) r);
       high = ltb-true _ _ (both-right (ltb 0 c) (ltb (s + c) (2 ^ 32)) r);
     }

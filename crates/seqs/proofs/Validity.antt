@@ -1,7 +1,7 @@
 -- Laws of valid lists of runs.
 -- Assumes nothing.
 use mathlib.Core.Path.{_≡_, refl, ap, _∙_}
-use mathlib.Core.Bool.{Bool, true, false}
+use mathlib.Core.Bool.{Bool, true, false, _&&_}
 use mathlib.Core.List.{List, [], _∷_}
 use Prim.Native.Nat.{ℕ, zero, suc, _+_, _-_, _≤_, _<_, _^_}
 use native.Mathlib.Nat.{le-of-suc-le-suc, not-suc-le-zero}
@@ -10,7 +10,7 @@ use borrow.Author.Tests.{ltb-true}
 use lib.Dec.{leb, ltb}
 use lib.ListN.{length, take, drop, getD}
 use lib.Seq.{slice, length-take-le, getD-take}
-use Rattle.seqs.specs.Lists.{both, spliced}
+use Rattle.seqs.specs.Lists.{spliced}
 use Rattle.seqs.specs.Runs.{follows, valid, endAt, nextOk}
 use Rattle.seqs.proofs.Laws.{both-left, both-right, rest-cons, rest-nil}
 
@@ -45,7 +45,7 @@ module _ {A : Type 0} (start count : A → ℕ) (z : A) where
       rw (← getD-take n xs i z h) (valid-at 0 (take n xs) i v (omega arith))
 
 -- ---- one element more in a valid list
-both-true : (b : Bool) → both b true ≡ b
+both-true : (b : Bool) → (b && true) ≡ b
 both-true true = refl
 both-true false = refl
 
@@ -54,8 +54,8 @@ module _ {A : Type 0} (start count : A → ℕ) (z : A) where
   unfolding valid
   valid-next e lo [] v = refl
   valid-next e lo (x ∷ xs) v =
-      let f : both (leb lo (start x)) (both (ltb 0 (count x)) (ltb (start x + count x) (2 ^ 32))) ≡ true = both-left (follows lo (start x) (count x)) (valid start count (start x + count x) xs) v in
-      let g : both (ltb 0 (count x)) (ltb (start x + count x) (2 ^ 32)) ≡ true = both-right (leb lo (start x)) _ f in
+      let f : (leb lo (start x) && (ltb 0 (count x) && ltb (start x + count x) (2 ^ 32))) ≡ true = both-left (follows lo (start x) (count x)) (valid start count (start x + count x) xs) v in
+      let g : (ltb 0 (count x) && ltb (start x + count x) (2 ^ 32)) ≡ true = both-right (leb lo (start x)) _ f in
       rw (g, both-right (follows lo (start x) (count x)) _ v) (both-true _ ∙ both-true _)
 
   endAt-cons : (lo : ℕ) (x : A) (xs : List A) (p : ℕ) → endAt start count z (start x + count x) xs p ≡ endAt start count z lo (x ∷ xs) (suc p)
@@ -64,14 +64,14 @@ module _ {A : Type 0} (start count : A → ℕ) (z : A) where
 
   -- an element put at index p keeps the list valid if it may follow the one before and the next starts at its end or later
   pub valid-insert : (lo : ℕ) (xs : List A) (p : ℕ) (r : A) → p ≤ length xs → valid start count lo xs ≡ true
-      → valid start count lo (spliced xs p p (r ∷ [])) ≡ both (follows (endAt start count z lo xs p) (start r) (count r)) (nextOk start count (start r + count r) (drop p xs))
+      → valid start count lo (spliced xs p p (r ∷ [])) ≡ (follows (endAt start count z lo xs p) (start r) (count r) && nextOk start count (start r + count r) (drop p xs))
   unfolding valid
-  valid-insert lo xs zero r h v = ap (both (follows lo (start r) (count r))) (valid-next (start r + count r) lo xs v)
+  valid-insert lo xs zero r h v = ap (λ (t : Bool). follows lo (start r) (count r) && t) (valid-next (start r + count r) lo xs v)
   valid-insert lo [] (suc p) r h v = absurd (not-suc-le-zero h)
   valid-insert lo (x ∷ xs) (suc p) r h v =
       let g = both-left (follows lo (start x) (count x)) (valid start count (start x + count x) xs) v in
       let i = valid-insert (start x + count x) xs p r (le-of-suc-le-suc h) (both-right (follows lo (start x) (count x)) _ v) in
-      rw g (i ∙ ap (λ (e : ℕ). both (follows e (start r) (count r)) (nextOk start count (start r + count r) (drop p xs))) (endAt-cons lo x xs p))
+      rw g (i ∙ ap (λ (e : ℕ). (follows e (start r) (count r) && nextOk start count (start r + count r) (drop p xs))) (endAt-cons lo x xs p))
 
   pub endAt-pos : (lo : ℕ) (xs : List A) (p : ℕ) → 0 < p → endAt start count z lo xs p ≡ start (getD xs (p - 1) z) + count (getD xs (p - 1) z)
   endAt-pos lo xs zero h = absurd (not-suc-le-zero h)

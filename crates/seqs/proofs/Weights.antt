@@ -1,7 +1,7 @@
 -- Weights of runs that add up where a run is split: how often a block is used, and how many blocks there are.
 -- Assumes nothing.
 use mathlib.Core.Path.{_≡_, refl, ap}
-use mathlib.Core.Bool.{Bool, true, false}
+use mathlib.Core.Bool.{Bool, true, false, cond}
 use mathlib.Core.List.{List, [], _∷_, _++_}
 use mathlib.Core.Logic.{⊎-elim}
 use Prim.Native.Nat.{ℕ, _+_, _≤_, _<_}
@@ -12,12 +12,12 @@ use borrow.Author.Tests.{lt-ltb, le-ltb}
 use lib.Dec.{ltb}
 use lib.ListN.{length, take, drop, getD}
 use lib.Seq.{split-at}
-use Rattle.seqs.specs.Lists.{choose, spliced, total}
+use Rattle.seqs.specs.Lists.{spliced, total}
 use Rattle.seqs.specs.Runs.{valid, insideRun, weigh, runLength, has}
 use Rattle.seqs.proofs.Parts.{Follows, valid-uncons}
 use Rattle.seqs.proofs.Laws.{lt-or-le}
 
-none-at : (t : Bool) → choose {A = ℕ} t 0 0 ≡ 0
+none-at : (t : Bool) → cond {A = ℕ} t 0 0 ≡ 0
 none-at true = refl
 none-at false = refl
 

@@ -1,25 +1,15 @@
 -- Lists over any element: the first that passes a test, a part replaced, an array of 64 with a count, loops.
 -- Assumes nothing.
-use mathlib.Core.Bool.{Bool, true, false}
+use mathlib.Core.Bool.{Bool, true, false, cond}
 use mathlib.Core.List.{List, [], _∷_, _++_}
 use Prim.Native.Nat.{ℕ, zero, suc, _+_, _-_}
 use lib.Dec.{ltb}
 use lib.ListN.{length, take, drop, set, replicate}
 
--- both tests hold
-abbrev pub both : Bool → Bool → Bool
-both true b = b
-both false b = false
-
--- a where the test holds, else b
-abbrev pub choose : {A : Type 0} → Bool → A → A → A
-choose true a b = a
-choose false a b = b
-
 -- the index of the first element that passes the test, or the count where none does
 unfoldable pub firstIndex : {A : Type 0} → (A → Bool) → List A → ℕ
 firstIndex p [] = 0
-firstIndex p (x ∷ xs) = choose (p x) 0 (suc (firstIndex p xs))
+firstIndex p (x ∷ xs) = cond (p x) 0 (suc (firstIndex p xs))
 
 -- xs with ys in place of the elements from index i up to, not including, index j
 abbrev pub spliced : {A : Type 0} → List A → ℕ → ℕ → List A → List A
@@ -40,7 +30,7 @@ packed z xs = record { recs = xs ++ replicate (64 - length xs) z; len = length x
 
 -- one element put behind the last; a full array stays as it is
 unfoldable pub pushed : {A : Type 0} → Store A → A → Store A
-pushed s x = choose (ltb (s .len) 64) (record { recs = set (s .recs) (s .len) x; len = s .len + 1 }) s
+pushed s x = cond (ltb (s .len) 64) (record { recs = set (s .recs) (s .len) x; len = s .len + 1 }) s
 
 -- several, one after the other
 unfoldable pub appended : {A : Type 0} → Store A → List A → Store A

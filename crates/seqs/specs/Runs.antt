@@ -1,21 +1,20 @@
 -- Runs of blocks, each from a start and of a count: which lists of them are valid, and what they weigh.
 -- Assumes nothing.
-use mathlib.Core.Bool.{Bool, true}
+use mathlib.Core.Bool.{Bool, true, cond, _&&_}
 use mathlib.Core.List.{List, [], _∷_}
 use Prim.Native.Nat.{ℕ, zero, suc, _+_, _-_, _^_}
 use lib.Dec.{leb, ltb}
 use lib.ListN.{getD}
-use Rattle.seqs.specs.Lists.{both, choose}
 
 -- a run that may follow what ends at lo: not before it, not empty, its end at most 2^32 − 1
 abbrev pub follows : ℕ → ℕ → ℕ → Bool
-follows lo start count = both (leb lo start) (both (ltb 0 count) (ltb (start + count) (2 ^ 32)))
+follows lo start count = leb lo start && (ltb 0 count && ltb (start + count) (2 ^ 32))
 
 module _ {A : Type 0} (start count : A → ℕ) where
   -- sorted by start, apart, none empty, no end above 2^32 − 1, after what ends at lo
   unfoldable pub valid : ℕ → List A → Bool
   valid lo [] = true
-  valid lo (r ∷ rs) = both (follows lo (start r) (count r)) (valid (start r + count r) rs)
+  valid lo (r ∷ rs) = follows lo (start r) (count r) && valid (start r + count r) rs
 
   -- where the run before index p ends, or lo
   abbrev pub endAt : A → ℕ → List A → ℕ → ℕ
@@ -29,7 +28,7 @@ module _ {A : Type 0} (start count : A → ℕ) where
 
 -- 1 if block b is one of those from a up to, not including, c, else 0
 unfoldable pub insideRun : ℕ → ℕ → ℕ → ℕ
-insideRun a c b = choose (ltb b a) 0 (choose (ltb b c) 1 0)
+insideRun a c b = cond (ltb b a) 0 (cond (ltb b c) 1 0)
 
 -- the sum of f over the runs' ends
 module _ {A : Type 0} (start count : A → ℕ) (f : ℕ → ℕ → ℕ) where

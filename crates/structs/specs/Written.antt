@@ -2,10 +2,9 @@
 -- Assumes nothing.
 use mathlib.Core.Path.{_≡_}
 use mathlib.Core.List.{List}
-use mathlib.Core.Bool.{Bool, true, false}
+use mathlib.Core.Bool.{Bool, true, false, cond}
 use Prim.Native.Nat.{ℕ}
 use lib.Dec.{eqb}
-use Rattle.endian.specs.Answer.{chosen}
 
 -- no block or inode of a group (NULLAGBLOCK, NULLAGINO); no inode (NULLFSINO)
 abbrev pub null32 : ℕ
@@ -22,4 +21,4 @@ require n false rest = n
 -- An encoder with the number `n` wrote `new` over `old`, or nothing.
 pub record Written (n : ℕ) (new old : List ℕ) (r : ℕ) (left : List ℕ) : Type 0 where
   pub number : r ≡ n
-  pub bytes : left ≡ chosen (eqb n 0) new old
+  pub bytes : left ≡ cond (eqb n 0) new old

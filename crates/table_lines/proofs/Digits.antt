@@ -1,7 +1,7 @@
 -- The digits of a number: one more, how many, that each is a digit, and that they say the number.
 -- Assumes nothing.
 use mathlib.Core.Path.{_≡_, refl, sym, ap, _∙_}
-use mathlib.Core.Bool.{Bool, true, false}
+use mathlib.Core.Bool.{Bool, true, false, cond}
 use mathlib.Core.List.{List, [], _∷_, _++_}
 use Prim.Native.Nat.{ℕ, zero, suc, _+_, _-_, _*_, _/_, _%_, _^_, _≤_, _<_}
 use native.Mathlib.Omega.{arith}
@@ -9,9 +9,9 @@ use native.Mathlib.Nat.{pow-suc}
 use lib.Dec.{ltb}
 use lib.ListN.{length, length-append}
 use borrow.Author.Tests.{lt-ltb, le-ltb, ltb-true, ltb-false}
-use Rattle.table_lines.specs.Decimal.{digit, pick, digits, decimal, valueAfter}
+use Rattle.table_lines.specs.Decimal.{digit, digits, decimal, valueAfter}
 
-same-pick : (t : Bool) (a b c : List ℕ) → (t ≡ false → b ≡ c) → pick t a b ≡ pick t a c
+same-pick : (t : Bool) (a b c : List ℕ) → (t ≡ false → b ≡ c) → cond t a b ≡ cond t a c
 same-pick true a b c f = refl
 same-pick false a b c f = f refl
 
@@ -50,7 +50,7 @@ unfolding digits
 digits-few zero n h = decimal-small n (let g : n < 10 = h in g)
 digits-few (suc k) n h = go (ltb n 10) refl (digits-few k (n / 10))
   where
-    go : (t : Bool) → ltb n 10 ≡ t → (n / 10 < 10 ^ suc k → decimal (n / 10) ≡ digits k (n / 10)) → decimal n ≡ pick (ltb n 10) (digit n ∷ []) (digits k (n / 10) ++ (digit (n % 10) ∷ []))
+    go : (t : Bool) → ltb n 10 ≡ t → (n / 10 < 10 ^ suc k → decimal (n / 10) ≡ digits k (n / 10)) → decimal n ≡ cond (ltb n 10) (digit n ∷ []) (digits k (n / 10) ++ (digit (n % 10) ∷ []))
     go true e f = rw e (decimal-small n (ltb-true n 10 e))
     go false e f =
         let p = pow-suc 10 (suc k) in

@@ -1,7 +1,7 @@
 -- A number in decimal.
 -- Assumes nothing.
 use mathlib.Core.List.{List, [], _∷_, _++_}
-use mathlib.Core.Bool.{Bool, true, false}
+use mathlib.Core.Bool.{Bool, true, false, cond}
 use Prim.Native.Nat.{ℕ, zero, suc, _+_, _-_, _*_, _/_, _%_}
 use lib.Dec.{ltb}
 
@@ -9,14 +9,10 @@ use lib.Dec.{ltb}
 abbrev pub digit : ℕ → ℕ
 digit d = 48 + d
 
-abbrev pub pick : Bool → List ℕ → List ℕ → List ℕ
-pick true a b = a
-pick false a b = b
-
 -- the digits of `n`, the most significant first, in at most `turns` + 1
 unfoldable pub digits : ℕ → ℕ → List ℕ
 digits zero n = digit n ∷ []
-digits (suc turns) n = pick (ltb n 10) (digit n ∷ []) (digits turns (n / 10) ++ (digit (n % 10) ∷ []))
+digits (suc turns) n = cond (ltb n 10) (digit n ∷ []) (digits turns (n / 10) ++ (digit (n % 10) ∷ []))
 
 -- the digits of `n`, the most significant first; `0` for 0
 unfoldable pub decimal : ℕ → List ℕ

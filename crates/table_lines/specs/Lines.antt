@@ -2,13 +2,13 @@
 -- Assumes nothing.
 use mathlib.Core.Path.{_≡_}
 use mathlib.Core.List.{List, [], _∷_, _++_}
-use mathlib.Core.Bool.{Bool, true, false}
+use mathlib.Core.Bool.{Bool, true, false, cond}
 use Prim.Native.Nat.{ℕ, _+_}
 use lib.Dec.{eqb}
 use lib.ListN.{length}
-use Rattle.endian.specs.Answer.{room, answer, chosen, valued}
+use Rattle.endian.specs.Answer.{room, answer, valued}
 use Rattle.endian.specs.Bytes.{patch}
-use Rattle.table_lines.specs.Decimal.{decimal, pick}
+use Rattle.table_lines.specs.Decimal.{decimal}
 use Rattle.table_lines.specs.declared.Row.{Row}
 use Rattle.table_lines.specs.declared.Sums.{Sums}
 
@@ -55,8 +55,8 @@ refusedBytes n = (114 ∷ 101 ∷ 102 ∷ 117 ∷ 115 ∷ 101 ∷ 100 ∷ space 
 -- what a call of `inquire holds` did: `held` or `released`; `refused` and the number where it isn't 0
 unfoldable pub answerBytes : Bool → ℕ → List ℕ
 answerBytes release n =
-    pick (eqb n 0)
-    (pick release
+    cond (eqb n 0)
+    (cond release
     (114 ∷ 101 ∷ 108 ∷ 101 ∷ 97 ∷ 115 ∷ 101 ∷ 100 ∷ newline ∷ [])
     (104 ∷ 101 ∷ 108 ∷ 100 ∷ newline ∷ []))
     (refusedBytes n)
@@ -64,11 +64,11 @@ answerBytes release n =
 -- `held` or `free`, then the run's first block and its length
 unfoldable pub runLine : Bool → ℕ → ℕ → List ℕ
 runLine held start count =
-    pick held (104 ∷ 101 ∷ 108 ∷ 100 ∷ space ∷ []) (102 ∷ 114 ∷ 101 ∷ 101 ∷ space ∷ []) ++ line (start ∷ count ∷ [])
+    cond held (104 ∷ 101 ∷ 108 ∷ 100 ∷ space ∷ []) (102 ∷ 114 ∷ 101 ∷ 101 ∷ space ∷ []) ++ line (start ∷ count ∷ [])
 
 -- A write of a line's bytes at `at` over `old`: its number, where the line ends, and what it leaves. A line that doesn't fit is refused by
 -- 27.
 pub record PutLine (at : ℕ) (bytes old : List ℕ) (number end : ℕ) (left : List ℕ) : Type 0 where
   pub number-is : number ≡ answer (room (at + length bytes) old)
   pub end-is : end ≡ valued (room (at + length bytes) old) (at + length bytes)
-  pub bytes-are : left ≡ chosen (room (at + length bytes) old) (patch at bytes old) old
+  pub bytes-are : left ≡ cond (room (at + length bytes) old) (patch at bytes old) old

@@ -2,14 +2,13 @@
 -- byte or is the last.
 -- Assumes nothing.
 use mathlib.Core.Path.{_≡_, refl, sym, _∙_}
-use mathlib.Core.Bool.{Bool, true, false}
+use mathlib.Core.Bool.{Bool, true, false, cond}
 use Prim.Native.Nat.{ℕ, _+_, _-_, _≤_, _<_}
 use native.Mathlib.Omega.{arith}
 use borrow.Author.Tests.{ltb-true, ltb-false}
 use lib.Dec.{ltb}
 use lib.ListN.{length}
 use lib.Seq.{length-take-le}
-use Rattle.seqs.specs.Lists.{choose}
 use Rattle.input_bytes.proofs.read_input.Statement.{statement}
 use Rattle.input_bytes.proofs.read_input.Tie as tie
 
@@ -17,10 +16,10 @@ abbrev Inv-loop : tie.InvT-loop
 Inv-loop fd buf₀ i₀ buf i = (i .n ≤ length buf) × (length buf ≡ length buf₀)
 
 abbrev μ-loop : tie.MeasureT-loop
-μ-loop fd buf₀ i₀ buf i = choose (i .more) (1 + (length buf₀ - i .n)) 0
+μ-loop fd buf₀ i₀ buf i = cond (i .more) (1 + (length buf₀ - i .n)) 0
 
 -- what is left falls
-fewer : (t : Bool) (n m l : ℕ) → ltb n m ≡ t → n ≤ m → n < l → choose t (1 + (l - m)) 0 < 1 + (l - n)
+fewer : (t : Bool) (n m l : ℕ) → ltb n m ≡ t → n ≤ m → n < l → cond t (1 + (l - m)) 0 < 1 + (l - n)
 fewer true n m l e h k = let z = ltb-true n m e in omega arith
 fewer false n m l e h k = omega arith
 

@@ -14,7 +14,6 @@ use Rattle.endian.specs.Bytes.{patch}
 use Rattle.endian.specs.Fields.{writeFields, table, tableFits, PutAll}
 use Rattle.table_lines.specs.Lines.{PutLine}
 use Rattle.chunk.specs.Chunk.{ChunkMade}
-pub use Rattle.seqs.specs.Lists.{both}
 pub use Rattle.refusals.specs.Numbers.{freeListShort, wrongLength, noPlace, notLeft, noAnswer}
 pub use Rattle.refusals.specs.Table.{Refusal, _if_, first}
 pub use Rattle.params.specs.declared.Params.{Params}

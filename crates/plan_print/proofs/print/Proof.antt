@@ -4,11 +4,11 @@ use borrow.Author.Needs.{needs}
 use Rattle.plan_table.proofs.Parts.{reached-more, part-falls}
 use Rattle.plan_table.specs.Filling.{afterParts, ReachedByParts}
 use Rattle.seqs.proofs.Laws.{never}
-use Rattle.seqs.specs.Lists.{choose}
 use lib.ListN.{length}
 use borrow.Author.Tests.{ltb-true, ltb-false}
 use native.Mathlib.Omega.{arith}
 use Prim.Native.Nat.{_+_}
+use mathlib.Core.Bool.{cond}
 use mathlib.Core.Path.{_≡_, refl, sym, ap, _∙_}
 use Rattle.plan_print.proofs.print.Statement.{statement}
 use Rattle.plan_print.proofs.print.Tie as tie
@@ -17,7 +17,7 @@ abbrev Inv-loop : tie.InvT-loop
 Inv-loop fd buf₀ p₀ buf p = (length buf ≡ length buf₀) × ReachedByParts (length buf₀) (p₀ .table) (p .table)
 
 abbrev μ-loop : tie.MeasureT-loop
-μ-loop fd buf₀ p₀ buf p = p .table .left + choose (p .written) 1 0
+μ-loop fd buf₀ p₀ buf p = p .table .left + cond (p .written) 1 0
 
 loop-holds : tie.Need-loop-holds Inv-loop μ-loop
 unfolding afterParts

@@ -2,12 +2,11 @@
 -- Assumes nothing.
 use Rattle.seqs.proofs.Laws.{never}
 use Rattle.plan_table.proofs.Steps.{Going, begins, goes-on, falls, ends-bytes, ends-filled}
-use Rattle.seqs.specs.Lists.{choose}
 use borrow.Author.Needs.{needs}
 use borrow.Author.Tests.{not-true, not-false}
 use native.Mathlib.Omega.{arith}
 use Prim.Native.Nat.{_+_}
-use mathlib.Core.Bool.{false}
+use mathlib.Core.Bool.{false, cond}
 use mathlib.Core.Logic.{⊎-elim}
 use mathlib.Core.Path.{_≡_, sym, _∙_}
 use Rattle.plan_table.proofs.fill.Statement.{statement}
@@ -17,7 +16,7 @@ abbrev Inv-loop : tie.InvT-loop
 Inv-loop t buf₀ at₀ buf at = Going t buf₀ (at .table) (at .end) (at .full) buf
 
 abbrev μ-loop : tie.MeasureT-loop
-μ-loop t buf₀ at₀ buf at = at .table .left + choose (at .full) 0 1
+μ-loop t buf₀ at₀ buf at = at .table .left + cond (at .full) 0 1
 
 loop-holds : tie.Need-loop-holds Inv-loop μ-loop
 loop-holds c = begins _ _
