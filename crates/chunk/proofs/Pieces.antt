@@ -10,7 +10,7 @@ use native.Mathlib.Numerals.{add-one}
 use borrow.Rule.Slice.PartMut.{putMid}
 use lib.ListN.{length, take, drop, length-append, length-replicate, length-drop, take-append-drop}
 use lib.Seq.{take-at, drop-at, drop-drop, drop-length, length-take-le}
-use Rattle.endian.specs.Bytes.{patch}
+use Rattle.endian.specs.Bytes.{patch, zeros}
 use Rattle.endian.specs.Fields.{part}
 use Rattle.endian.specs.Answer.{Put}
 use Rattle.endian.proofs.Laws.{patch-split, part-back, put-in}
@@ -21,7 +21,7 @@ use Rattle.inode.specs.Dinode.{freeFields, freeBytes, freeNumber, dinodeFields,
 use Rattle.structs.specs.Sizes.{isInode}
 use Rattle.structs.specs.Written.{Written}
 use Rattle.structs.proofs.Written.{written-in}
-use Rattle.chunk.specs.Slots.{slots, zeros}
+use Rattle.chunk.specs.Slots.{slots}
 
 -- ---- lengths
 

@@ -2,17 +2,13 @@
 -- Assumes nothing.
 use mathlib.Core.List.{List, [], _++_}
 use Prim.Native.Nat.{ℕ, zero, suc, _+_}
-use lib.ListN.{replicate}
+use Rattle.endian.specs.Bytes.{zeros}
 use Rattle.inode.specs.Dinode.{freeBytes}
 
 -- `n` slots, the first that of `i`
 unfoldable pub slots : (ℕ → List ℕ) → ℕ → ℕ → List ℕ
 slots f i zero = []
 slots f i (suc n) = f i ++ slots f (suc i) n
-
--- `n` bytes of zero
-abbrev pub zeros : ℕ → List ℕ
-zeros n = replicate n 0
 
 -- slot `i` of a chunk, as it is before it is allocated: its number is the first inode's plus `i`, its generation the chunk's
 abbrev pub freeSlot : ℕ → ℕ → List ℕ → ℕ → ℕ → List ℕ

@@ -3,11 +3,11 @@ ghost use mathlib.Core.Path.{_≡_};
 ghost use mathlib.Core.Bool.{true};
 ghost use Prim.Native.Nat.{_+_, _*_, _<_, _≤_, _^_};
 ghost use lib.ListN.{length};
-ghost use Rattle.endian.specs.Bytes.{patch};
+ghost use Rattle.endian.specs.Bytes.{patch, zeros};
 ghost use Rattle.endian.specs.Fields.{part};
 ghost use Rattle.structs.specs.Sizes.{isInode};
 ghost use Rattle.inode.specs.Dinode.{freeBytes, dinodeNumber, dinodeBytes};
-ghost use Rattle.chunk.specs.Slots.{slots as slots·of, zeros, freeSlot};
+ghost use Rattle.chunk.specs.Slots.{slots as slots·of, freeSlot};
 use inode::Dinode;
 use inode::encode_free;
 

@@ -2,7 +2,11 @@
 -- Assumes nothing.
 use mathlib.Core.List.{List, [], _∷_, _++_}
 use Prim.Native.Nat.{ℕ, zero, suc, _+_, _*_, _/_, _%_, _^_, _<_}
-use lib.ListN.{getD, set}
+use lib.ListN.{getD, set, replicate}
+
+-- `n` bytes of zero
+abbrev pub zeros : ℕ → List ℕ
+zeros n = replicate n 0
 
 -- `v` in `n` bytes, the highest first
 unfoldable pub beBytes : ℕ → ℕ → List ℕ

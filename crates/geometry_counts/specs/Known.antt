@@ -18,6 +18,11 @@ abbrev pub number32 : Value32 → ℕ
 number32 (Refused32 n) = n
 number32 (Of32 v) = 0
 
+-- the value of an answer, 0 of a refusal
+abbrev pub value64 : Value64 → ℕ
+value64 (Refused64 n) = 0
+value64 (Of64 v) = v
+
 -- the value where the geometry is an answer, else 31
 unfoldable pub known64 : Bool → ℕ → Value64
 known64 true v = Of64 v

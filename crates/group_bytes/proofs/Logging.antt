@@ -14,7 +14,7 @@ use lib.Pow.{pow-add}
 use Rattle.refusals.specs.Numbers.{wrongLength}
 use Rattle.arith.specs.Choice.{when}
 use Rattle.endian.specs.Answer.{Put}
-use Rattle.endian.specs.Bytes.{patch}
+use Rattle.endian.specs.Bytes.{patch, zeros}
 use Rattle.endian.proofs.Laws.{part-back, patch-split, put-in}
 use Rattle.endian.proofs.Fields.{write-length}
 use Rattle.structs.specs.Written.{Written, require}
@@ -25,7 +25,6 @@ use Rattle.geometry_layout.specs.Bounds.{Bounds}
 use Rattle.geometry_layout.specs.Places.{lsunitBytes, logsunitOf}
 use Rattle.plan_totals.specs.Totals.{plansNumber}
 use Rattle.log.specs.Record.{clearSunit, roundedUp, basicBlocksOf, recordNumber, recordFields, logRecordBytes}
-use Rattle.head_bytes.specs.Head.{zeros}
 use Rattle.head_bytes.proofs.Lending.{part-length}
 use Rattle.list_spec.specs.Listing.{logUnit, firstRecord, logBlock}
 use Rattle.group_bytes.specs.Answers.{logRefusal}

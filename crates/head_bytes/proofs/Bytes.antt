@@ -6,13 +6,14 @@ use mathlib.Core.List.{List, _++_}
 use Prim.Native.Nat.{ℕ, _*_}
 use lib.ListN.{length, take, drop, replicate, length-replicate}
 use lib.Seq.{take-at, drop-at}
+use Rattle.endian.specs.Bytes.{zeros}
 use Rattle.geometry.specs.declared.Geometry.{Geometry}
 use Rattle.sb.specs.declared.SbState.{SbState}
 use Rattle.sb.specs.Superblock.{sbBytes}
 use Rattle.plan.specs.declared.AgPlan.{AgPlan}
 use Rattle.plan_same.specs.Same.{isPlan}
 use Rattle.head_frame.specs.Frames.{frameOf}
-use Rattle.head_bytes.specs.Head.{zeros, frameBlocks, behindBytes, headBytes, headLength}
+use Rattle.head_bytes.specs.Head.{frameBlocks, behindBytes, headBytes, headLength}
 use Rattle.head_bytes.proofs.Lending.{sb-length}
 use Rattle.head_bytes.proofs.Ready.{blocks-are, ready, head-from}
 use Rattle.head_bytes.proofs.Whole.{whole-length}

@@ -5,7 +5,7 @@ use mathlib.Core.Bool.{Bool, true, false, cond}
 use mathlib.Core.List.{List, [], _∷_, _++_}
 use Prim.Native.Nat.{ℕ, _*_, _-_}
 use lib.ListN.{length, take, replicate}
-use Rattle.endian.specs.Bytes.{beBytes, numbersBytes, below}
+use Rattle.endian.specs.Bytes.{beBytes, numbersBytes, below, zeros}
 use Rattle.endian.specs.Fields.{Field, field, writeFields}
 use Rattle.geometry.specs.declared.Geometry.{Geometry}
 use Rattle.geometry_layout.specs.Places.{ibtBlock, fibtBlock}
@@ -32,7 +32,7 @@ use Rattle.plan_same.specs.Same.{isPlan}
 use Rattle.plan_same.proofs.Planners.{is-plan-same}
 use Rattle.head_frame.specs.declared.Frame.{Frame}
 use Rattle.head_frame.specs.Frames.{frameOf}
-use Rattle.head_bytes.specs.Head.{zeros, agfFor, agiFor, inoMagic, finoMagic, rootBytes, bnoRoot, cntRoot, inodeRoot, rmapRoot, refcRoot, sectorsBytes, rootsBytes, behindBytes, headBytes}
+use Rattle.head_bytes.specs.Head.{agfFor, agiFor, inoMagic, finoMagic, rootBytes, bnoRoot, cntRoot, inodeRoot, rmapRoot, refcRoot, sectorsBytes, rootsBytes, behindBytes, headBytes}
 use Rattle.head_bytes.proofs.Below.{below-append, below-be, below-run, below-zeros, below-choose, allBelow, all-append, below-write, below-stamped, below-listed}
 
 -- ---- records

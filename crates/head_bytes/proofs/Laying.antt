@@ -7,10 +7,9 @@ use Prim.Native.Nat.{ℕ, _+_, _*_, _-_, _≤_}
 use native.Mathlib.Omega.{arith}
 use lib.ListN.{length, take, drop, replicate, length-append, length-replicate, replicate-append-replicate}
 use lib.Seq.{take-at, drop-at}
-use Rattle.endian.specs.Bytes.{patch}
+use Rattle.endian.specs.Bytes.{patch, zeros}
 use Rattle.endian.specs.Fields.{part}
 use Rattle.endian.proofs.Laws.{patch-split, length-patch}
-use Rattle.head_bytes.specs.Head.{zeros}
 use Rattle.head_bytes.specs.Parts.{sectorOn}
 
 -- `pre` stands at the start of xs, with `rest` behind it

@@ -9,6 +9,7 @@ use native.Mathlib.Omega.{arith}
 use lib.Dec.{eqb}
 use lib.ListN.{length}
 use borrow.Author.Tests.{eq-eqb, ne-eqb}
+use Rattle.endian.specs.Bytes.{zeros}
 use Rattle.refusals.specs.Numbers.{noAnswer, wrongLength}
 use Rattle.arith.specs.Choice.{bit}
 use Rattle.geometry.specs.declared.Geometry.{Geometry}
@@ -23,7 +24,7 @@ use Rattle.head_frame.specs.declared.Frame.{Frame}
 use Rattle.head_frame.specs.Frames.{frameOf, framed, Fine, Few, Counted}
 use Rattle.plan_summary.proofs.Narrow.{plan-answer}
 use Rattle.head_frame.proofs.Fitting.{plan-few, plan-fine, framed-number}
-use Rattle.head_bytes.specs.Head.{zeros, frameBlocks, behindBytes, headBytes, headLength, headNumber}
+use Rattle.head_bytes.specs.Head.{frameBlocks, behindBytes, headBytes, headLength, headNumber}
 use Rattle.head_bytes.proofs.Whole.{three-inside}
 
 pub sb-accepted : (g : Geometry) (len : ℕ) → isAnswer g ≡ true → len ≡ g .sectsize → sbNumber g len ≡ 0

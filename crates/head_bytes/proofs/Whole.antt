@@ -10,7 +10,7 @@ use lib.ListN.{length, take, drop, replicate, length-append, length-replicate}
 use lib.Seq.{take-at, drop-at}
 use Rattle.arith.specs.Choice.{bit}
 use Rattle.arith.proofs.Laws.{bit-le}
-use Rattle.endian.specs.Bytes.{patch}
+use Rattle.endian.specs.Bytes.{patch, zeros}
 use Rattle.endian.proofs.Laws.{patch-split, length-patch}
 use Rattle.geometry.specs.declared.Geometry.{Geometry}
 use Rattle.geometry_layout.specs.Places.{cntBlock, ibtBlock, fibtBlock, rmapBlock, refcBlock}
@@ -24,7 +24,7 @@ use Rattle.plan_rmap.specs.declared.RmapList.{RmapList}
 use Rattle.plan.specs.declared.AgPlan.{AgPlan}
 use Rattle.head_frame.specs.declared.Frame.{Frame}
 use Rattle.head_frame.specs.Frames.{Fine}
-use Rattle.head_bytes.specs.Head.{zeros, frameBlocks, agfFor, agiFor, inoMagic, finoMagic, rootBytes, bnoRoot, cntRoot, inodeRoot, rmapRoot, refcRoot, sectorsBytes, rootsBytes, behindBytes}
+use Rattle.head_bytes.specs.Head.{frameBlocks, agfFor, agiFor, inoMagic, finoMagic, rootBytes, bnoRoot, cntRoot, inodeRoot, rmapRoot, refcRoot, sectorsBytes, rootsBytes, behindBytes}
 use Rattle.head_bytes.specs.Parts.{sectorOn, blockIf, sectorsOn, rootsOn, moreOn}
 use Rattle.head_bytes.proofs.Lending.{sb-length, agf-length, agi-length, agfl-length, leaf-length}
 use Rattle.head_bytes.proofs.Laying.{Starts, next, next-if, next-sector, all-laid}

@@ -4,7 +4,8 @@ use mathlib.Core.Bool.{Bool, cond}
 use mathlib.Core.List.{List, [], _++_}
 use Prim.Native.Nat.{ℕ, _+_, _*_, _-_, _%_}
 use lib.Dec.{eqb}
-use lib.ListN.{length, take, replicate}
+use lib.ListN.{length, take}
+use Rattle.endian.specs.Bytes.{zeros}
 use Rattle.refusals.specs.Numbers.{wrongLength, noAnswer}
 use Rattle.arith.specs.Choice.{when, bit}
 use Rattle.structs.specs.Written.{require}
@@ -34,9 +35,6 @@ use Rattle.head_leaves.specs.Leaves.{chunkRec, few}
 use Rattle.head_frame.specs.declared.Frame.{Frame}
 use Rattle.head_frame.specs.Frames.{frameOf}
 use Rattle.head_bytes.specs.Sorting.{bySize}
-
-abbrev pub zeros : ℕ → List ℕ
-zeros n = replicate n 0
 
 -- the blocks of the head: header blocks, three roots, and one more for each of finobt, rmapbt and reflink
 unfoldable pub frameBlocks : Frame → ℕ

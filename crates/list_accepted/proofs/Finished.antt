@@ -10,7 +10,7 @@ use borrow.Author.Tests.{eqb-false, ltb-true, ltb-false, leb-false}
 use lib.Dec.{leb, ltb, eqb}
 use lib.ListN.{getD, take, drop}
 use Rattle.arith.specs.Choice.{bit}
-use Rattle.endian.specs.Bytes.{beBytes}
+use Rattle.endian.specs.Bytes.{beBytes, zeros}
 use Rattle.endian_little.specs.Bytes.{leBytes}
 use Rattle.endian.specs.Fields.{field, writeFields}
 use Rattle.crc.specs.Crc.{cksumOf, stamped}
@@ -20,7 +20,7 @@ use Rattle.sb.specs.Superblock.{crcAt, largeSector, fieldsWith, sbFields, sbByt
 use Rattle.plan.specs.declared.AgPlan.{AgPlan}
 use Rattle.plan.specs.Plan.{planned}
 use Rattle.head_frame.specs.Frames.{frameOf}
-use Rattle.head_bytes.specs.Head.{zeros, behindBytes, headBytes}
+use Rattle.head_bytes.specs.Head.{behindBytes, headBytes}
 use Rattle.head_bytes.proofs.Lending.{sb-length}
 use Rattle.sb_states.specs.States.{unfinishedState, finishedState, stateOf}
 use Rattle.list_spec.specs.Listing.{headWritten, headFinished}

@@ -8,7 +8,7 @@ use lib.Dec.{lit<}
 use lib.ListN.{length, getD, take, length-replicate}
 use lib.Seq.{take-at}
 use Rattle.arith.specs.Choice.{bit}
-use Rattle.endian.specs.Bytes.{beAt}
+use Rattle.endian.specs.Bytes.{beAt, zeros}
 use Rattle.endian.specs.Fields.{part}
 use Rattle.endian.proofs.Consecutive.{part-part, at-inside}
 use Rattle.structs.proofs.Reading.{read-number}
@@ -23,7 +23,7 @@ use Rattle.sb.specs.Superblock.{sbBytes}
 use Rattle.sb.proofs.Read.{dblocks-back, uuid-back, rootino-back, agcount-back, inprogress-back, fdblocks-back}
 use Rattle.plan.specs.declared.AgPlan.{AgPlan}
 use Rattle.head_frame.specs.Frames.{frameOf}
-use Rattle.head_bytes.specs.Head.{zeros, agfFor, agiFor, sectorsBytes, rootsBytes, behindBytes, headBytes}
+use Rattle.head_bytes.specs.Head.{agfFor, agiFor, sectorsBytes, rootsBytes, behindBytes, headBytes}
 use Rattle.head_bytes.proofs.Bytes.{head-first, head-behind}
 use Rattle.head_bytes.proofs.Lending.{agf-length}
 use Rattle.list_accepted.specs.Superblocks.{markAt, rootField, freeField}

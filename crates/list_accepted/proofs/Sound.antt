@@ -10,6 +10,7 @@ use borrow.Author.Tests.{eq-eqb, ltb-false, ne-eqb, le-leb, le-ltb}
 use lib.Dec.{ltb, eqb}
 use lib.Pow.{pow-add}
 use lib.ListN.{length, replicate, length-append, length-replicate}
+use Rattle.endian.specs.Bytes.{zeros}
 use Rattle.arith.specs.Choice.{when}
 use Rattle.endian.proofs.Fields.{write-length}
 use Rattle.geometry.specs.declared.Geometry.{Geometry}
@@ -27,7 +28,7 @@ use Rattle.log.specs.Record.{clearSunit, roundedUp, basicBlocksOf, recordFields
 use Rattle.sb.specs.declared.SbState.{SbState}
 use Rattle.plan.specs.Plan.{planned}
 use Rattle.plan_same.proofs.Planners.{planned-is-plan}
-use Rattle.head_bytes.specs.Head.{zeros, headBytes, headLength}
+use Rattle.head_bytes.specs.Head.{headBytes, headLength}
 use Rattle.head_bytes.proofs.Bytes.{head-length}
 use Rattle.chunk.specs.Chunk.{chunkLength}
 use Rattle.chunk.proofs.Chunks.{chunk-length}

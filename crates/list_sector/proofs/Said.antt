@@ -9,11 +9,12 @@ use lib.Dec.{eqb}
 use lib.ListN.{length, take, drop, length-append}
 use lib.Seq.{drop-append-add, take-at}
 use borrow.Author.Tests.{eq-eqb}
+use Rattle.list_read.specs.Records.{bytesMark}
 use Rattle.endian.specs.Bytes.{beBytes, beAt}
 use Rattle.endian.proofs.Laws.{length-be}
 use Rattle.endian.proofs.Fields.{at-part, at-written}
 use Rattle.list_records.specs.Records.{Record, WZ, WB, recordBytes, listBytes}
-use Rattle.list_sector.specs.Sector.{bytesMark, magic, beginsSuperblock, sectorBehind, sectorIn}
+use Rattle.list_sector.specs.Sector.{magic, beginsSuperblock, sectorBehind, sectorIn}
 use Rattle.list_sector.proofs.Laws.{said, long-enough}
 
 -- a number behind some bytes

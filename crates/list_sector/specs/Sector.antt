@@ -6,11 +6,8 @@ use mathlib.Core.List.{List}
 use Prim.Native.Nat.{ℕ, _+_, _*_}
 use lib.Dec.{leb, ltb, eqb}
 use lib.ListN.{length}
+use Rattle.list_read.specs.Records.{bytesMark}
 use Rattle.endian.specs.Bytes.{beAt}
-
--- the mark WB
-abbrev pub bytesMark : ℕ
-bytesMark = 0x5742
 
 -- XFSB
 abbrev pub magic : ℕ

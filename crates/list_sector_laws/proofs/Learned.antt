@@ -9,7 +9,7 @@ use lib.Dec.{ltb, lit<}
 use lib.Pow.{pow-mono}
 use lib.ListN.{length, take, getD, length-replicate}
 use lib.Seq.{length-take-le, take-at}
-use Rattle.endian.specs.Bytes.{beAt}
+use Rattle.endian.specs.Bytes.{beAt, zeros}
 use Rattle.endian.proofs.Consecutive.{at-inside}
 use Rattle.structs.proofs.Reading.{read-number}
 use Rattle.geometry.specs.declared.Geometry.{Geometry}
@@ -17,7 +17,6 @@ use Rattle.plan.specs.Plan.{planned}
 use Rattle.sb.specs.Superblock.{fieldsWith, sbFields, sbBytes}
 use Rattle.sb.proofs.Read.{sb-holds, sectsize-back}
 use Rattle.sb_states.specs.States.{unfinishedState, stateOf}
-use Rattle.head_bytes.specs.Head.{zeros}
 use Rattle.head_bytes.proofs.Bytes.{head-first}
 use Rattle.list_records.specs.Records.{Record, listBytes}
 use Rattle.list_sector.specs.Sector.{magic, sectorIn, belowLogical}

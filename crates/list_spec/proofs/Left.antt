@@ -8,8 +8,8 @@ use native.Mathlib.Omega.{arith}
 use borrow.Author.Tests.{ne-eqb}
 use lib.ListN.{length, take, drop, take-append-drop}
 use lib.Seq.{take-all, take-at, drop-at}
+use Rattle.endian.specs.Bytes.{zeros}
 use Rattle.geometry_places.specs.Answers.{rootChunk}
-use Rattle.head_bytes.specs.Head.{zeros}
 use Rattle.chunk.specs.Chunk.{chunkBytes}
 use Rattle.seqs.proofs.Laws.{lt-or-le}
 use Rattle.run.specs.declared.Run.{Run}

@@ -5,9 +5,9 @@ use mathlib.Core.List.{List, _++_}
 use mathlib.Core.Logic.{_⊎_}
 use Prim.Native.Nat.{ℕ, _+_, _*_, _-_, _<_, _≤_}
 use lib.ListN.{take, drop}
+use Rattle.endian.specs.Bytes.{zeros}
 use Rattle.geometry_layout.specs.Places.{byteOf}
 use Rattle.geometry_places.specs.Answers.{rootChunk}
-use Rattle.head_bytes.specs.Head.{zeros}
 use Rattle.chunk.specs.Chunk.{chunkBytes}
 use Rattle.run.specs.declared.Run.{Run}
 use Rattle.list_records.specs.Records.{Record, WB, All}

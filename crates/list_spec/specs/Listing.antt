@@ -5,6 +5,7 @@ use mathlib.Core.List.{List, [], _∷_, _++_}
 use Prim.Native.Nat.{ℕ, zero, suc, _+_, _*_, _-_, _/_, _^_, min}
 use lib.Dec.{ltb, leb, eqb}
 use lib.ListN.{length}
+use Rattle.endian.specs.Bytes.{zeros}
 use Rattle.arith.specs.Choice.{when}
 use Rattle.geometry.specs.declared.Geometry.{Geometry}
 use Rattle.geometry.specs.Log.{headerOf, preallocOf}
@@ -13,7 +14,7 @@ use Rattle.geometry_places.specs.Answers.{rootChunk}
 use Rattle.log.specs.Record.{clearSunit}
 use Rattle.log.specs.Record.{logRecordBytes as logRecord}
 use Rattle.plan.specs.Plan.{planned}
-use Rattle.head_bytes.specs.Head.{zeros, headBytes}
+use Rattle.head_bytes.specs.Head.{headBytes}
 use Rattle.chunk.specs.Chunk.{chunkBytes}
 use Rattle.sb_states.specs.States.{stateOf, finishedState}
 use Rattle.run.specs.declared.Run.{Run}

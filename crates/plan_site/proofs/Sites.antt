@@ -20,12 +20,12 @@ use Rattle.geometry_layout.specs.Bounds.{SizeBounds, GroupBounds, Bounds}
 use Rattle.geometry_layout.proofs.Bounding.{answer-bounds}
 use Rattle.geometry_layout.proofs.Ceil.{counted, one-more}
 use Rattle.geometry_layout.proofs.Small.{freelist-most}
-use Rattle.geometry_counts.specs.Known.{number64}
+use Rattle.geometry_counts.specs.Known.{number64, value64}
 use Rattle.geometry_counts.specs.declared.Value64.the-variants.{Refused, Of}
 use Rattle.geometry_places.specs.Answers.{unless64, groupRefusal, agBlocks}
 use Rattle.geometry_places.proofs.Refused.{a-group}
 use Rattle.plan_site.specs.declared.Sited.{Sited}
-use Rattle.plan_site.specs.Sites.{value64, siteOf, noSite, sited, Narrow, SoundSite}
+use Rattle.plan_site.specs.Sites.{siteOf, noSite, sited, Narrow, SoundSite}
 
 -- 16 MiB are at least 1024 blocks, 64 MiB at least one
 blocks-least : (a b : ℕ) → b ≤ 2 ^ 14 → 2 ^ 24 ≤ a * b → 1024 ≤ a

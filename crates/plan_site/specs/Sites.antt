@@ -8,16 +8,9 @@ use Rattle.arith.specs.Choice.{bit}
 use Rattle.geometry.specs.declared.Geometry.{Geometry}
 use Rattle.geometry.specs.Log.{headerOf, preallocOf}
 use Rattle.geometry_layout.specs.Places.{ibtBlock, rmapBlock, refcBlock, freelistOf, chunkOf, rootChunkOf, groupBlocks}
-use Rattle.geometry_counts.specs.declared.Value64.{Value64}
-use Rattle.geometry_counts.specs.declared.Value64.the-variants.{Refused, Of}
 use Rattle.geometry_places.specs.Answers.{groupRefusal}
 use Rattle.plan_site.specs.declared.Site.{Site}
 use Rattle.plan_site.specs.declared.Sited.{Sited}
-
--- the value of an answer, 0 of a refusal
-abbrev pub value64 : Value64 → ℕ
-value64 (Refused n) = 0
-value64 (Of v) = v
 
 unfoldable pub siteOf : Geometry → ℕ → Site
 siteOf g agno =

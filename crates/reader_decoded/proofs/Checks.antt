@@ -8,6 +8,7 @@ use native.Mathlib.Nat.{add-mul, suc-mul, zero-mul}
 use native.Mathlib.Omega.{arith}
 use lib.ListN.{length, take, replicate, length-replicate, length-append}
 use lib.Seq.{take-at}
+use Rattle.endian.specs.Bytes.{zeros}
 use Rattle.arith.specs.Choice.{bit}
 use Rattle.endian.specs.Fields.{part}
 use Rattle.endian.proofs.Fields.{write-length}
@@ -27,7 +28,7 @@ use Rattle.plan.specs.declared.AgPlan.{AgPlan}
 use Rattle.plan_same.specs.Same.{isPlan}
 use Rattle.head_frame.specs.declared.Frame.{Frame}
 use Rattle.head_frame.specs.Frames.{frameOf, Fine}
-use Rattle.head_bytes.specs.Head.{zeros, agfFor, agiFor, inoMagic, finoMagic, rootBytes, bnoRoot, cntRoot, inodeRoot, rmapRoot, refcRoot, sectorsBytes, rootsBytes, behindBytes, headBytes}
+use Rattle.head_bytes.specs.Head.{agfFor, agiFor, inoMagic, finoMagic, rootBytes, bnoRoot, cntRoot, inodeRoot, rmapRoot, refcRoot, sectorsBytes, rootsBytes, behindBytes, headBytes}
 use Rattle.head_bytes.proofs.Lending.{sb-length, agf-length, agi-length, agfl-length}
 use Rattle.head_bytes.proofs.Whole.{root-length}
 use Rattle.reader_decoded.specs.Decoded.{sectorAt, blockAt}

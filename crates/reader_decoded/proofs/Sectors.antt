@@ -8,7 +8,7 @@ use native.Mathlib.Nat.{add-mul, le-div-iff-mul-le}
 use native.Mathlib.Omega.{arith}
 use lib.Dec.{lit<}
 use lib.ListN.{length, take, replicate, length-replicate}
-use Rattle.endian.specs.Bytes.{numbersAt}
+use Rattle.endian.specs.Bytes.{numbersAt, zeros}
 use Rattle.endian.specs.Fields.{part}
 use Rattle.structs.specs.Written.{null32}
 use Rattle.structs.proofs.Lengths.{sector-least}
@@ -28,7 +28,7 @@ use Rattle.plan_same.specs.Same.{isPlan}
 use Rattle.head_frame.specs.declared.Frame.{Frame}
 use Rattle.head_frame.specs.Frames.{frameOf, Fine}
 use Rattle.head_frame.proofs.Fitting.{plan-narrow, plan-few, plan-fine}
-use Rattle.head_bytes.specs.Head.{zeros, agfFor, agiFor, inoMagic, finoMagic, bnoRoot, cntRoot, inodeRoot, rmapRoot, refcRoot, sectorsBytes, rootsBytes, behindBytes, headBytes}
+use Rattle.head_bytes.specs.Head.{agfFor, agiFor, inoMagic, finoMagic, bnoRoot, cntRoot, inodeRoot, rmapRoot, refcRoot, sectorsBytes, rootsBytes, behindBytes, headBytes}
 use Rattle.head_bytes.proofs.Lending.{sb-length, agf-length, agi-length, agfl-length}
 use Rattle.head_bytes.proofs.Whole.{root-length}
 use Rattle.head_bytes.proofs.Ready.{head-from}

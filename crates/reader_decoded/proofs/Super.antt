@@ -8,7 +8,7 @@ use native.Mathlib.Nat.{add-zero, mul-add-div-right, mul-add-mod-self-right, div
 use native.Mathlib.Omega.{arith}
 use lib.ListN.{length, length-replicate}
 use lib.Pow.{pow-pos, pow-mono}
-use Rattle.endian.specs.Bytes.{beAt}
+use Rattle.endian.specs.Bytes.{beAt, zeros}
 use Rattle.geometry.specs.declared.Geometry.{Geometry}
 use Rattle.geometry_answers.specs.Named.{isAnswer}
 use Rattle.geometry_layout.specs.Places.{fsbOf}
@@ -20,7 +20,7 @@ use Rattle.sb.specs.Superblock.{logstartOf, sbBytes}
 use Rattle.sb.proofs.Read.{logstart-back, logblocks-back, fdblocks-back}
 use Rattle.plan.specs.declared.AgPlan.{AgPlan}
 use Rattle.head_frame.specs.Frames.{frameOf}
-use Rattle.head_bytes.specs.Head.{zeros, behindBytes, headBytes}
+use Rattle.head_bytes.specs.Head.{behindBytes, headBytes}
 use Rattle.head_bytes.proofs.Lending.{sb-length}
 use Rattle.reader_decoded.specs.Decoded.{LogRun, logRunIn, countIn}
 use Rattle.reader_decoded.proofs.Parts.{at-before}

@@ -10,7 +10,7 @@ use lib.Dec.{eqb}
 use lib.ListN.{length, take}
 use Rattle.refusals.specs.Numbers.{noAnswer, noPlace, notLeft, wrongLength}
 use Rattle.arith.specs.Choice.{when, bit}
-use Rattle.endian.specs.Bytes.{beAt}
+use Rattle.endian.specs.Bytes.{beAt, zeros}
 use Rattle.refusals.specs.Table.{first}
 use Rattle.geometry.specs.declared.Geometry.{Geometry}
 use Rattle.geometry.specs.Log.{preallocOf}
@@ -21,7 +21,7 @@ use Rattle.plan.specs.Plan.{planned}
 use Rattle.plan_totals.specs.Totals.{plansNumber}
 use Rattle.plan_same.specs.Same.{eqList}
 use Rattle.sb.specs.Superblock.{sbBytes}
-use Rattle.head_bytes.specs.Head.{zeros, headLength}
+use Rattle.head_bytes.specs.Head.{headLength}
 use Rattle.head_bytes.proofs.Bytes.{head-first}
 use Rattle.sb_states.specs.States.{unfinishedState, stateOf}
 use Rattle.list_spec.specs.Listing.{headWritten, headLeft}

@@ -5,6 +5,7 @@ use mathlib.Core.Bool.{Bool, true, false, not, cond}
 use mathlib.Core.List.{List, [], _∷_, _++_}
 use Prim.Native.Nat.{ℕ, _<_}
 use lib.Dec.{eqb, leb}
+use Rattle.endian.specs.Bytes.{zeros}
 use Rattle.refusals.specs.Numbers.{noAnswer, noPlace}
 use Rattle.refusals.specs.Table.{_if_, first}
 use Rattle.seqs.proofs.Laws.{choose-elim}
@@ -20,7 +21,7 @@ use Rattle.plan.specs.declared.Planned.{Planned}
 use Rattle.plan.specs.Plan.{refusedPlan, planOf, planned}
 use Rattle.plan_totals.specs.Totals.{firstTo, sumTo, freeOfPlan, plansNumber, freeCount}
 use Rattle.head_frame.specs.Frames.{frameOf}
-use Rattle.head_bytes.specs.Head.{zeros, behindBytes, headBytes}
+use Rattle.head_bytes.specs.Head.{behindBytes, headBytes}
 use Rattle.sb_states.specs.States.{primaryWith, secondaryWith, namesRoot, secondaryState, unfinishedState, finishedState, stateOf}
 use Rattle.list_spec.specs.Listing.{logUnit, firstRecord, logBlock, headWritten, headFinished, headLeft}
 use Rattle.list_accepted.specs.Accepted.{Source}

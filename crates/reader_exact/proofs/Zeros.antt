@@ -12,13 +12,12 @@ use Rattle.refusals.specs.Numbers.{blockNoPower}
 use Rattle.arith.specs.Choice.{when, bit}
 use Rattle.arith.specs.Numbers.{ceilDiv}
 use Rattle.arith.specs.Powers.{powerIn, powerLog, leastFrom, log2Up}
-use Rattle.endian.specs.Bytes.{beAt}
+use Rattle.endian.specs.Bytes.{beAt, zeros}
 use Rattle.endian.specs.Fields.{part}
 use Rattle.geometry_sizes.specs.Sizes.{defaultSector, sizesOf, sizesRefusals}
 use Rattle.geometry.specs.declared.Computed.{Computed}
 use Rattle.geometry.specs.Compute.{withGroups, withSizes, chosenOf, refusals, refusalOf, computeDef, stepAnswer}
 use Rattle.geometry_answers.specs.Named.{namedOptions, namedOn, namedFits, namedAnswer}
-use Rattle.head_bytes.specs.Head.{zeros}
 use Rattle.reader_names.specs.Named.{hasBit, featuresAt, namesAt, namedBy}
 use Rattle.reader_names.proofs.Inside.{part-first}
 use Rattle.reader_names.proofs.Only.{same-named}

@@ -9,6 +9,7 @@ use native.Mathlib.Omega.{arith}
 use lib.Dec.{ltb, lit<}
 use lib.ListN.{length, length-replicate}
 use lib.Seq.{take-at}
+use Rattle.endian.specs.Bytes.{zeros}
 use Rattle.endian.specs.Fields.{part}
 use Rattle.endian.proofs.Fields.{write-length}
 use Rattle.endian.proofs.Laws.{length-be}
@@ -25,7 +26,7 @@ use Rattle.inode.proofs.Held.{dinode-holds, dinode-ino, free-holds, free-ino}
 use Rattle.geometry.specs.declared.Geometry.{Geometry}
 use Rattle.geometry_layout.specs.Bounds.{Bounds}
 use Rattle.geometry_places.specs.Answers.{rootChunk, rootIno}
-use Rattle.chunk.specs.Slots.{slots, zeros, freeSlot}
+use Rattle.chunk.specs.Slots.{slots, freeSlot}
 use Rattle.chunk.specs.Inodes.{newBitmap, flagsOf, noTime, rootInode, fileInode}
 use Rattle.chunk.specs.Chunk.{chunkDraw, bitmapDraw, summaryDraw, rootOver, bitmapOver, summaryOver, contents, chunkBytes}
 use Rattle.chunk.proofs.Pieces.{free-length, dinode-length}

@@ -9,7 +9,7 @@ use native.Mathlib.Omega.{arith}
 use lib.Dec.{eqb, lit<}
 use lib.ListN.{length, getD, take, replicate, length-replicate}
 use Rattle.arith.specs.Choice.{when}
-use Rattle.endian.specs.Bytes.{beBytes, beAt, below, numbersAt, numbersBytes}
+use Rattle.endian.specs.Bytes.{beBytes, beAt, below, numbersAt, numbersBytes, zeros}
 use Rattle.endian.specs.Fields.{Field, field, part, nth}
 use Rattle.endian.proofs.Consecutive.{run-back}
 use Rattle.structs.specs.Holds.{Holds}
@@ -40,7 +40,7 @@ use Rattle.sb.specs.declared.SbState.{SbState}
 use Rattle.head_frame.specs.declared.Frame.{Frame}
 use Rattle.head_frame.specs.Frames.{frameOf, hasChunk, chunkIno, Fine}
 use Rattle.head_frame.proofs.Fitting.{plan-narrow, plan-few}
-use Rattle.head_bytes.specs.Head.{zeros, agfFor, agiFor, headBytes}
+use Rattle.head_bytes.specs.Head.{agfFor, agiFor, headBytes}
 use Rattle.list_spec.proofs.Whole.{group-planned}
 use Rattle.list_accepted.specs.Accepted.{Source}
 use Rattle.list_accepted.proofs.Runs.{source-label, source-plans, source-uuid}

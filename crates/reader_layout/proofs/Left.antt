@@ -10,7 +10,7 @@ use borrow.Author.Tests.{eqb-true}
 use lib.Dec.{eqb, lit<}
 use lib.ListN.{length}
 use Rattle.arith.specs.Choice.{when, bit}
-use Rattle.endian.specs.Bytes.{beAt}
+use Rattle.endian.specs.Bytes.{beAt, zeros}
 use Rattle.endian.specs.Fields.{part}
 use Rattle.endian.proofs.Consecutive.{at-inside}
 use Rattle.structs.specs.Written.{null64}
@@ -25,7 +25,7 @@ use Rattle.sb.specs.declared.SbState.{SbState}
 use Rattle.sb.specs.Superblock.{sbBytes}
 use Rattle.sb_states.specs.States.{finishedState, secondaryState, stateOf}
 use Rattle.sb_states.proofs.Known.{root-room}
-use Rattle.head_bytes.specs.Head.{zeros, headBytes}
+use Rattle.head_bytes.specs.Head.{headBytes}
 use Rattle.head_bytes.proofs.Bytes.{head-first}
 use Rattle.request.specs.declared.Request.{Request}
 use Rattle.run.specs.Runs.{timeRefusal, runOf}

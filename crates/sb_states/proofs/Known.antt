@@ -15,12 +15,12 @@ use Rattle.geometry_layout.specs.Places.{fsbOf, inoOf, rootChunkOf}
 use Rattle.geometry_layout.specs.Bounds.{Bounds}
 use Rattle.geometry_layout.proofs.Bounding.{answer-bounds}
 use Rattle.geometry_layout.proofs.Inside.{blocks-least, fitting}
-use Rattle.geometry_counts.specs.Known.{known64}
+use Rattle.geometry_counts.specs.Known.{known64, value64}
 use Rattle.geometry_places.specs.Answers.{rootChunk, rootIno, initialFdblocks, unless64}
 use Rattle.geometry_places.proofs.Room.{some-inode}
 use Rattle.plan_totals.specs.Totals.{plansNumber, freeCount, freeCountAnswer}
 use Rattle.plan_totals.proofs.Whole.{all-planned}
-use Rattle.sb_states.specs.States.{value64, stateNumber}
+use Rattle.sb_states.specs.States.{stateNumber}
 
 module _ (g : Geometry) (l : length (g .label) ≡ 12) (h : plansNumber g ≡ 0) where
   -- accepted plans are those of an answer

@@ -10,8 +10,6 @@ use Rattle.refusals.specs.Numbers.{noPlace}
 use Rattle.structs.specs.Written.{null64}
 use Rattle.geometry.specs.declared.Geometry.{Geometry}
 use Rattle.geometry_layout.specs.Limits.{chunkInodes}
-use Rattle.geometry_counts.specs.declared.Value64.{Value64}
-use Rattle.geometry_counts.specs.declared.Value64.the-variants.{Refused, Of}
 use Rattle.geometry_places.specs.Answers.{rootIno, initialFdblocks}
 use Rattle.plan_totals.specs.Totals.{plansNumber, freeCount}
 use Rattle.sb.specs.declared.SbState.{SbState}
@@ -96,8 +94,3 @@ stated g uuid agno = statedAs (stateNumber g agno) (stateOf g uuid agno)
 -- `finished_state`: 31, 25, or the state of group 0's superblock at the end
 unfoldable pub finishedAnswer : Geometry → List ℕ → Stated
 finishedAnswer g uuid = statedAs (plansNumber g) (finishedState g uuid)
-
--- the value of an answer, 0 of a refusal
-abbrev pub value64 : Value64 → ℕ
-value64 (Refused n) = 0
-value64 (Of v) = v

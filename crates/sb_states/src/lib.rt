@@ -2,10 +2,11 @@
 ghost use mathlib.Core.Path.{_≡_};
 ghost use Prim.Native.Nat.{_+_, _<_, _^_};
 ghost use lib.Dec.{leb};
+ghost use Rattle.geometry_counts.specs.Known.{value64};
 ghost use Rattle.arith.specs.Choice.{when};
 ghost use Rattle.plan_totals.specs.Totals.{plansNumber, freeCount};
 ghost use Rattle.geometry_places.specs.Answers.{rootIno};
-ghost use Rattle.sb_states.specs.States.{secondaryWith, primaryWith, namesRoot, secondaryState, stateRefused, stateNumber, stated, finishedAnswer, value64};
+ghost use Rattle.sb_states.specs.States.{secondaryWith, primaryWith, namesRoot, secondaryState, stateRefused, stateNumber, stated, finishedAnswer};
 use geometry::Geometry;
 use geometry_counts::Value64;
 use geometry_places::fixed::initial_fdblocks;

@@ -1,8 +1,8 @@
 -- `plan_site::site_of` meets its contract.
 -- Assumes nothing.
 use Rattle.plan_site.proofs.Sites.{its-number, its-value, narrow}
-use Rattle.geometry_counts.specs.Known.{number64}
-use Rattle.plan_site.specs.Sites.{value64, sited}
+use Rattle.geometry_counts.specs.Known.{number64, value64}
+use Rattle.plan_site.specs.Sites.{sited}
 use Rattle.geometry_places.proofs.Refused.{a-group}
 use borrow.Author.Tests.{eq-eqb, ne-eqb}
 use mathlib.Core.Path.{_≡_, sym, ap, _∙_}
