@@ -1,5 +1,5 @@
 # The field tables of the port's definitions (specs/*.antt of log, btree, ag, inode and sb) as lines `struct field offset size`.
-# A line there is `field OFFSET WIDTH VALUE  -- name` or `run OFFSET BYTES  -- name`.
+# A line there is `field OFFSET WIDTH VALUE  -- name` or `byteRun OFFSET BYTES  -- name`.
 
 function structure(name) {
     if (name ~ /^sb_/) return "xfs_dsb"
@@ -19,7 +19,7 @@ function structure(name) {
 function bytes(text) {
     if (text ~ /uuid/) return 16
     if (text ~ /label/) return 12
-    if (text ~ /runBytes 4 \(replicate unlinkedBuckets/) return 4 * 64
+    if (text ~ /numbersBytes 4 \(replicate unlinkedBuckets/) return 4 * 64
     if (text ~ /leBytes 2/) return 2
     return "?"
 }
@@ -28,7 +28,7 @@ function say(name, offset, size) { print structure(name), name, offset, size }
 
 # Offsets and widths of a line's fields, in `at` and `wide`; how many they are.
 function fields(text, n) {
-    while (match(text, /(field|run) (\(at \+ )?[0-9]+\)? [^∷]*/)) {
+    while (match(text, /(field|byteRun) (\(at \+ )?[0-9]+\)? [^∷]*/)) {
         part = substr(text, RSTART, RLENGTH)
         text = substr(text, RSTART + RLENGTH)
         plain = part
@@ -49,14 +49,14 @@ function fields(text, n) {
     if (!stamped[name]++) say(name "_crc", number[1], 4)
 }
 /^crcAt = / { say("sb_crc", $3, 4) }
-/^headerSize = / { print "xfs_btree_block end", $3, 0 }
+/^leafHeaderSize = / { print "xfs_btree_block end", $3, 0 }
 /^coreSize = / { print "xfs_dinode end", $3, 0 }
 /^allocSize = / { print "xfs_alloc_rec end", $3, 0 }
 /^inobtSize = / { print "xfs_inobt_rec end", $3, 0 }
 /^rmapSize = / { print "xfs_rmap_rec end", $3, 0 }
-/^agflSlots .* run 36 / { print "xfs_agfl end", 36, 0; next }
+/^agflSlots .* byteRun 36 / { print "xfs_agfl end", 36, 0; next }
 
-/(field|run) (\(at \+ )?[0-9]/ {
+/(field|byteRun) (\(at \+ )?[0-9]/ {
     n = fields($0, 0)
     names = $0
     if (!sub(/.*  -- /, "", names)) names = ""
