@@ -10,11 +10,11 @@ use Rattle.arith.specs.Choice.{when}
 use Rattle.arith.specs.Powers.{powerLog, log2Up}
 use Rattle.refusals.specs.Table.{Refusal, _if_, first}
 use Rattle.geometry.specs.Limits.{minGroup, labelRoom, minDirBlock, minDirLog}
-use Rattle.geometry_sizes.specs.Sizes.{sizesOf, sizesRefusals}
+use Rattle.geometry.specs.Sizes.{sizesOf, sizesRefusals}
 use Rattle.geometry.specs.Groups.{askedBlocks, initialGroups, isShort, trim, optionsRefusals, groupsRefusals}
 use Rattle.geometry.specs.Log.{preallocOf, logLimit, logBlocks, imaxpctOf, lastRefusals}
 use Rattle.params.specs.declared.Params.{Params}
-use Rattle.geometry_sizes.specs.declared.Sizes.{Sizes}
+use Rattle.geometry.specs.declared.sizes.Sizes.{Sizes}
 use Rattle.geometry.specs.declared.groups.Groups.{Groups}
 use Rattle.geometry.specs.declared.Chosen.{Chosen}
 use Rattle.geometry.specs.declared.Geometry.{Geometry}

@@ -1,3 +1,5 @@
+pub mod SizeLimits
+pub mod Sizes
 pub mod Limits
 pub mod Groups
 pub mod Log

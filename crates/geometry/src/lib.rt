@@ -1,11 +1,12 @@
 // The geometry step: what mkfs.xfs would choose for the options and the device, or the number of the refusal.
 // The types stand here.
+pub mod sizes; // sizes.rt: block, sector and inode size, 2 to 8
 pub mod groups; // groups.rt: block count and groups, 9 to 18
 pub mod log_size; // log_size.rt: head blocks, log and imaxpct, 19 to 24
 pub mod step; // step.rt: Geometry::compute
 
 use crate::groups::Groups;
-use geometry_sizes::Sizes;
+use crate::sizes::Sizes;
 use params::Features;
 
 // All that the options and the device decide; the groups as asked for and without a short last one.

@@ -15,13 +15,13 @@ use Rattle.arith.proofs.PowerLaws.{power-least}
 use Rattle.refusals.proofs.Clear.{clear, joined}
 use Rattle.params.specs.declared.OptU64.the-variants.{Absent, Given}
 use Rattle.params.specs.declared.Params.{Params}
-use Rattle.geometry_sizes.specs.declared.Sizes.{Sizes}
+use Rattle.geometry.specs.declared.sizes.Sizes.{Sizes}
 use Rattle.geometry.specs.declared.groups.Groups.{Groups}
 use Rattle.geometry_answers.specs.declared.Named.{Named}
 use Rattle.geometry.specs.declared.Geometry.{Geometry}
 use Rattle.geometry.specs.declared.Computed.{Computed}
 use Rattle.geometry.specs.Limits.{minGroup}
-use Rattle.geometry_sizes.specs.Sizes.{sizesOf, sizesRefusals}
+use Rattle.geometry.specs.Sizes.{sizesOf, sizesRefusals}
 use Rattle.geometry.specs.Groups.{isShort, trim, optionsRefusals}
 use Rattle.geometry.specs.Log.{lastRefusals}
 use Rattle.geometry.specs.Compute.{withGroups, askedGroups, withSizes, chosenOf, refusals, refusalOf, labelOf, geometryOf, stepAnswer, computeDef}

@@ -12,11 +12,11 @@ use Rattle.arith.specs.Powers.{powerLog}
 use Rattle.refusals.specs.Table.{Refusal}
 use Rattle.refusals.proofs.Clear.{clear, passed, passes, left, right}
 use Rattle.params.specs.declared.Params.{Params}
-use Rattle.geometry_sizes.specs.declared.Sizes.{Sizes}
+use Rattle.geometry.specs.declared.sizes.Sizes.{Sizes}
 use Rattle.geometry.specs.declared.groups.Groups.{Groups}
 use Rattle.geometry.specs.declared.Chosen.{Chosen}
 use Rattle.geometry.specs.Limits.{minGroup, maxGroup, minBytes, realisticLogBytes}
-use Rattle.geometry_sizes.specs.Sizes.{sizesRefusals}
+use Rattle.geometry.specs.Sizes.{sizesRefusals}
 use Rattle.geometry.specs.Groups.{isShort, optionsRefusals, groupsRefusals}
 use Rattle.geometry.specs.Log.{lastRefusals}
 use Rattle.geometry.specs.Compute.{withGroups, refusals, refusalOf}

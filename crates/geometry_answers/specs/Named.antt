@@ -4,7 +4,7 @@ use mathlib.Core.Bool.{Bool, _&&_, cond}
 use Prim.Native.Nat.{ℕ, _*_, _^_}
 use lib.Dec.{ltb, eqb}
 use Rattle.refusals.specs.Numbers.{notLeft}
-use Rattle.geometry_sizes.specs.Limits.{minSector}
+use Rattle.geometry.specs.SizeLimits.{minSector}
 use Rattle.geometry.specs.Limits.{labelRoom}
 use Rattle.params.specs.Params.{options, noUuid}
 use Rattle.geometry.specs.Compute.{computeDef, stepRefused}

@@ -79,7 +79,7 @@ impl Named {
                 geometry,
             };
         }
-        let sector = geometry_sizes::MIN_SECTORSIZE;
+        let sector = geometry::sizes::MIN_SECTORSIZE;
         Geometry::compute(self.options(roomy), self.dblocks * bs, sector, sector)
     }
 }

@@ -12,8 +12,8 @@ use Rattle.arith.proofs.PowerLaws.{log-power, power-least, power-div}
 use Rattle.arith.proofs.PowerLaws as power
 use Rattle.arith.proofs.Least as least
 use Rattle.params.specs.declared.Params.{Params}
-use Rattle.geometry_sizes.specs.declared.Sizes.{Sizes}
-use Rattle.geometry_sizes.specs.Sizes.{sizesOf}
+use Rattle.geometry.specs.declared.sizes.Sizes.{Sizes}
+use Rattle.geometry.specs.Sizes.{sizesOf}
 use Rattle.geometry.specs.declared.groups.Groups.{Groups}
 use Rattle.geometry.specs.declared.Geometry.{Geometry}
 use Rattle.geometry.specs.Limits.{mib, minGroup, maxGroup, realisticLogBytes}

@@ -12,8 +12,8 @@ use Rattle.refusals.proofs.Clear.{clear, joined}
 use Rattle.params.specs.declared.Features.{Features}
 use Rattle.params.specs.declared.Params.{Params}
 use Rattle.params.specs.Params.{withRoomy}
-use Rattle.geometry_sizes.specs.declared.Sizes.{Sizes}
-use Rattle.geometry_sizes.specs.Sizes.{sizesOf}
+use Rattle.geometry.specs.declared.sizes.Sizes.{Sizes}
+use Rattle.geometry.specs.Sizes.{sizesOf}
 use Rattle.geometry.specs.declared.groups.Groups.{Groups}
 use Rattle.geometry.specs.Limits.{minGroup, realisticLogBytes, logRatio}
 use Rattle.geometry.specs.Groups.{groupBlocks, trim}

@@ -13,8 +13,8 @@ use Rattle.refusals.proofs.Clear.{clear, passed}
 use Rattle.params.specs.declared.OptU64.{OptU64}
 use Rattle.params.specs.declared.OptU64.the-variants.{Absent, Given}
 use Rattle.params.specs.declared.Params.{Params}
-use Rattle.geometry_sizes.specs.declared.Sizes.{Sizes}
-use Rattle.geometry_sizes.specs.Sizes.{sizesOf, sizesRefusals}
+use Rattle.geometry.specs.declared.sizes.Sizes.{Sizes}
+use Rattle.geometry.specs.Sizes.{sizesOf, sizesRefusals}
 use Rattle.geometry.specs.declared.groups.Groups.{Groups}
 use Rattle.geometry.specs.declared.Chosen.{Chosen}
 use Rattle.geometry.specs.declared.Geometry.{Geometry}

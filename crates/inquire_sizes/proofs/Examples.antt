@@ -9,7 +9,7 @@ use Rattle.arith.specs.Numbers.{ceilDiv}
 use Rattle.arith.specs.Powers.{powerIn, powerLog}
 use Rattle.params.specs.declared.Params.{Params}
 use Rattle.params.specs.Params.{noOptions, withSize, withBlockSize}
-use Rattle.geometry_sizes.specs.Sizes.{defaultSector, sizesOf, sizesRefusals}
+use Rattle.geometry.specs.Sizes.{defaultSector, sizesOf, sizesRefusals}
 use Rattle.geometry.specs.Groups.{groupBlocks, isShort, trim, optionsRefusals}
 use Rattle.geometry.specs.Log.{headerOf, preallocOf, freelistOf, logLimit, defaultImaxpct}
 use Rattle.inquire_sizes.specs.declared.Range.{Range}

@@ -11,7 +11,7 @@ use lib.Dec.{ltb, eqb}
 use Rattle.arith.specs.Choice.{when}
 use Rattle.refusals.specs.Table.{first}
 use Rattle.params.specs.declared.Params.{Params}
-use Rattle.geometry_sizes.specs.Sizes.{sizesRefusals}
+use Rattle.geometry.specs.Sizes.{sizesRefusals}
 use Rattle.geometry.specs.declared.Computed.{Computed}
 use Rattle.geometry.specs.Groups.{optionsRefusals, groupsRefusals}
 use Rattle.geometry.specs.Log.{lastRefusals}

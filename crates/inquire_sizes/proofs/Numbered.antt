@@ -18,7 +18,7 @@ use Rattle.params.specs.declared.OptU8.{OptU8}
 use Rattle.params.specs.declared.OptU8.the-variants.{Absent as Absent8, Given as Given8}
 use Rattle.params.specs.declared.Params.{Params}
 use Rattle.params.specs.Options.{or64, given64}
-use Rattle.geometry_sizes.specs.Sizes.{sizesOf}
+use Rattle.geometry.specs.Sizes.{sizesOf}
 use Rattle.geometry.specs.declared.groups.Groups.{Groups}
 use Rattle.geometry.specs.declared.Geometry.{Geometry}
 use Rattle.geometry.specs.declared.Computed.{Computed}

@@ -9,8 +9,8 @@ use Rattle.arith.specs.Choice.{when}
 use Rattle.refusals.specs.Numbers.{inobtcountAlone, badRange}
 use Rattle.refusals.specs.Table.{_if_, first}
 use Rattle.params.specs.declared.Params.{Params}
-use Rattle.geometry_sizes.specs.declared.Sizes.{Sizes}
-use Rattle.geometry_sizes.specs.Sizes.{blockOf, sizesOf, sizesRefusals}
+use Rattle.geometry.specs.declared.sizes.Sizes.{Sizes}
+use Rattle.geometry.specs.Sizes.{blockOf, sizesOf, sizesRefusals}
 use Rattle.geometry.specs.declared.Computed.{Computed}
 use Rattle.geometry.specs.Compute.{computeDef}
 use Rattle.plan_totals.specs.Totals.{plansNumber}

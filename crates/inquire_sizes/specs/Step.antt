@@ -14,8 +14,8 @@ use Rattle.params.specs.declared.OptU64.the-variants.{Absent, Given}
 use Rattle.params.specs.declared.OptU8.{OptU8}
 use Rattle.params.specs.declared.Params.{Params}
 use Rattle.params.specs.Options.{or64, given64}
-use Rattle.geometry_sizes.specs.declared.Sizes.{Sizes}
-use Rattle.geometry_sizes.specs.Sizes.{sizesOf}
+use Rattle.geometry.specs.declared.sizes.Sizes.{Sizes}
+use Rattle.geometry.specs.Sizes.{sizesOf}
 use Rattle.geometry.specs.declared.groups.Groups.{Groups}
 use Rattle.geometry.specs.Limits.{minGroup, maxGroup, maxGroups, largeBytes, fourGroupBytes, twoGroupBytes, minBytes, minGroups, realisticLogBytes, maxLogBytes, maxLogBlocks, logRatio, maxImaxpct, labelRoom}
 use Rattle.geometry.specs.Groups.{groupsOf, groupBlocks, isShort, trim, optionsRefusals}

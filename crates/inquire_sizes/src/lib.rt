@@ -8,8 +8,8 @@ pub mod step; // step.rt: the number of one size
 
 use arith::choice::both;
 use arith::numbers::quotient;
-use geometry_sizes::chosen_sizes;
-use geometry_sizes::sizes_refusal;
+use geometry::sizes::chosen_sizes;
+use geometry::sizes::sizes_refusal;
 use params::Params;
 use refusals::first;
 use step::Fixed;

@@ -23,7 +23,7 @@ use geometry::log_size::freelist_of;
 use geometry::log_size::imaxpct_of;
 use geometry::log_size::log_limit;
 use geometry::log_size::prealloc_of;
-use geometry_sizes::chosen_sizes;
+use geometry::sizes::chosen_sizes;
 use params::Features;
 use params::OptU8;
 use params::OptU64;

@@ -5,7 +5,7 @@ use mathlib.Core.Path.{_≡_, sym}
 use mathlib.Core.Bool.{true}
 use Prim.Native.Nat.{ℕ, _<_, _≤_}
 use native.Mathlib.Omega.{arith}
-use Rattle.geometry_sizes.specs.Limits.{maxSupportedBlock}
+use Rattle.geometry.specs.SizeLimits.{maxSupportedBlock}
 use Rattle.list_records.specs.Records.{Record, WZ, WB, FL, OneBlock}
 use Rattle.list_records.proofs.Blocks.{all-map}
 use Rattle.list_records.specs.Device.{InsideDevice}

@@ -12,7 +12,7 @@ use Rattle.endian.proofs.Fields.{and-left, and-right}
 use Rattle.seqs.proofs.Laws.{never}
 use Rattle.refusals.specs.Table.{Refusal, _if_, first}
 use Rattle.params.specs.declared.Params.{Params}
-use Rattle.geometry_sizes.specs.Sizes.{sizesRefusals}
+use Rattle.geometry.specs.Sizes.{sizesRefusals}
 use Rattle.geometry.specs.declared.Chosen.{Chosen}
 use Rattle.geometry.specs.Groups.{optionsRefusals, groupsRefusals}
 use Rattle.geometry.specs.Log.{lastRefusals}

@@ -13,7 +13,7 @@ use Rattle.seqs.proofs.Laws.{choose-elim}
 use Rattle.params.specs.declared.Label.{Label}
 use Rattle.params.specs.declared.Params.{Params}
 use Rattle.params.specs.Params.{withLabel}
-use Rattle.geometry_sizes.specs.Sizes.{sizesOf}
+use Rattle.geometry.specs.Sizes.{sizesOf}
 use Rattle.geometry.specs.declared.Geometry.{Geometry}
 use Rattle.geometry.specs.declared.Computed.{Computed}
 use Rattle.geometry.specs.Limits.{minGroup}

@@ -18,7 +18,7 @@ use Rattle.request.specs.declared.Request.{Request}
 use Rattle.arith.specs.Choice.{when, bit}
 use Rattle.arith.specs.Numbers.{ceilDiv}
 use Rattle.arith.specs.Powers.{powerIn, powerLog, leastFrom, log2Up}
-use Rattle.geometry_sizes.specs.Sizes.{defaultSector, sizesOf, sizesRefusals}
+use Rattle.geometry.specs.Sizes.{defaultSector, sizesOf, sizesRefusals}
 use Rattle.geometry.specs.declared.Geometry.{Geometry}
 use Rattle.geometry.specs.Groups.{askedBlocks, defaultSize, initialGroups, isShort, trim, optionsRefusals, groupsRefusals}
 use Rattle.geometry.specs.Log.{headerOf, preallocOf, logLimit, logBlocks, defaultImaxpct, lastRefusals}

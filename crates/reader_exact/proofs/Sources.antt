@@ -15,7 +15,7 @@ use Rattle.params.specs.declared.OptTime.the-variants.{Absent as AbsentTime}
 use Rattle.params.specs.declared.Presence.the-variants.{Given}
 use Rattle.params.specs.declared.Params.{Params}
 use Rattle.params.specs.Params.{options}
-use Rattle.geometry_sizes.specs.Sizes.{sizesOf}
+use Rattle.geometry.specs.Sizes.{sizesOf}
 use Rattle.geometry.specs.declared.Geometry.{Geometry}
 use Rattle.geometry.specs.declared.Computed.{Computed}
 use Rattle.geometry.specs.Compute.{withGroups, withSizes, chosenOf, refusals, refusalOf, geometryOf, computeDef}

@@ -14,7 +14,7 @@ use Rattle.arith.specs.Numbers.{ceilDiv}
 use Rattle.arith.specs.Powers.{powerIn, powerLog, leastFrom, log2Up}
 use Rattle.endian.specs.Bytes.{beAt, zeros}
 use Rattle.endian.specs.Fields.{part}
-use Rattle.geometry_sizes.specs.Sizes.{defaultSector, sizesOf, sizesRefusals}
+use Rattle.geometry.specs.Sizes.{defaultSector, sizesOf, sizesRefusals}
 use Rattle.geometry.specs.declared.Computed.{Computed}
 use Rattle.geometry.specs.Compute.{withGroups, withSizes, chosenOf, refusals, refusalOf, computeDef, stepAnswer}
 use Rattle.geometry_answers.specs.Named.{namedOptions, namedOn, namedFits, namedAnswer}

@@ -4,7 +4,7 @@ use mathlib.Core.Path.{_≡_, refl, ap, ap₂, sym, _∙_}
 use mathlib.Core.Bool.{Bool, true, false}
 use Prim.Native.Nat.{ℕ, _*_}
 use lib.ListN.{length}
-use Rattle.geometry_sizes.specs.Sizes.{sizesOf}
+use Rattle.geometry.specs.Sizes.{sizesOf}
 use Rattle.geometry.specs.declared.Geometry.{Geometry}
 use Rattle.geometry.specs.declared.Computed.{Computed}
 use Rattle.geometry.specs.Compute.{withGroups, withSizes, chosenOf, geometryOf}

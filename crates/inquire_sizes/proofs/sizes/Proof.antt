@@ -4,7 +4,7 @@ use mathlib.Core.Path.{_≡_, sym, _∙_}
 use Prim.Native.Nat.{_/_, _^_, _<_}
 use native.Mathlib.Omega.{arith}
 use lib.ListN.{length}
-use Rattle.geometry_sizes.specs.Sizes.{sizesOf}
+use Rattle.geometry.specs.Sizes.{sizesOf}
 use Rattle.inquire_sizes.specs.Ranges.{blockBytes, sizesQuestion}
 use Rattle.inquire_sizes.proofs.Asked.{question-refused, in-order, ends-fit, range-found}
 use borrow.Author.Needs.{needs}

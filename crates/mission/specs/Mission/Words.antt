@@ -18,7 +18,7 @@ pub use Rattle.refusals.specs.Numbers.{freeListShort, wrongLength, noPlace, not
 pub use Rattle.refusals.specs.Table.{Refusal, _if_, first}
 pub use Rattle.params.specs.declared.Params.{Params}
 pub use Rattle.params.specs.Params.{noOptions, withRoomy}
-pub use Rattle.geometry_sizes.specs.Limits.{maxSupportedBlock}
+pub use Rattle.geometry.specs.SizeLimits.{maxSupportedBlock}
 pub use Rattle.geometry.specs.Limits.{mib}
 pub use Rattle.geometry.specs.declared.Geometry.{Geometry}
 pub use Rattle.geometry.specs.Compute.{chosenOf, refusals, computeDef}

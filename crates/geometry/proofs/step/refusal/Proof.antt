@@ -1,7 +1,7 @@
 -- `geometry::step::refusal` meets its contract: each call gives what its definition says.
 -- Assumes nothing.
 use borrow.Author.Needs.{needs}
-use Rattle.geometry_sizes.specs.Sizes.{sizesRefusals}
+use Rattle.geometry.specs.Sizes.{sizesRefusals}
 use Rattle.geometry.specs.Groups.{optionsRefusals, groupsRefusals}
 use Rattle.geometry.specs.Log.{lastRefusals}
 use Rattle.geometry.specs.Compute.{refusals, refusalOf}

@@ -1,8 +1,8 @@
--- `geometry_sizes::chosen_sizes` meets its contract: each call gives what its definition says.
+-- `geometry::sizes::chosen_sizes` meets its contract: each call gives what its definition says.
 -- Assumes nothing.
-use Rattle.geometry_sizes.specs.Sizes.{sizesOf}
-use Rattle.geometry_sizes.proofs.chosen_sizes.Statement.{statement}
-use Rattle.geometry_sizes.proofs.chosen_sizes.Tie as tie
+use Rattle.geometry.specs.Sizes.{sizesOf}
+use Rattle.geometry.proofs.sizes.chosen_sizes.Statement.{statement}
+use Rattle.geometry.proofs.sizes.chosen_sizes.Tie as tie
 
 returns : tie.Need-returns
 unfolding sizesOf

@@ -7,11 +7,11 @@ use Rattle.refusals.specs.Numbers.{blockNoPower, blockOf512, blockTooLarge, bad
 use Rattle.arith.specs.Choice.{when}
 use Rattle.arith.specs.Powers.{powerLog}
 use Rattle.refusals.specs.Table.{Refusal, _if_}
-use Rattle.geometry_sizes.specs.Limits.{defaultBlock, minCrcBlock, maxSupportedBlock, minSector, maxSector, defaultInode, maxInode}
+use Rattle.geometry.specs.SizeLimits.{defaultBlock, minCrcBlock, maxSupportedBlock, minSector, maxSector, defaultInode, maxInode}
 use Rattle.params.specs.Options.{or32}
 use Rattle.params.specs.declared.OptU32.{OptU32}
 use Rattle.params.specs.declared.Params.{Params}
-use Rattle.geometry_sizes.specs.declared.Sizes.{Sizes}
+use Rattle.geometry.specs.declared.sizes.Sizes.{Sizes}
 
 abbrev pub blockOf : OptU32 → ℕ
 blockOf option = or32 option defaultBlock

@@ -1,7 +1,7 @@
 // Block, sector and inode size, and the refusals that they meet.
 ghost use mathlib.Core.Path.{_≡_};
 ghost use Rattle.refusals.specs.Table.{first};
-ghost use Rattle.geometry_sizes.specs.Sizes.{blockOf, defaultSector, sectorOf, inodeOf, sizesOf, sizesRefusals};
+ghost use Rattle.geometry.specs.Sizes.{blockOf, defaultSector, sectorOf, inodeOf, sizesOf, sizesRefusals};
 use arith::choice::pick_u32;
 use arith::numbers::max_u32;
 use arith::powers::pow2_log;

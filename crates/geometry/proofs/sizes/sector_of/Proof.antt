@@ -1,8 +1,8 @@
--- `geometry_sizes::sector_of` meets its contract: each call gives what its definition says.
+-- `geometry::sizes::sector_of` meets its contract: each call gives what its definition says.
 -- Assumes nothing.
 use borrow.Author.Needs.{needs}
-use Rattle.geometry_sizes.proofs.sector_of.Statement.{statement}
-use Rattle.geometry_sizes.proofs.sector_of.Tie as tie
+use Rattle.geometry.proofs.sizes.sector_of.Statement.{statement}
+use Rattle.geometry.proofs.sizes.sector_of.Tie as tie
 
 returns-2 : tie.Need-returns-2
 returns-2 c = rw (c .default-sector .ensures, c .before .enum-told .given .1)

@@ -1,8 +1,8 @@
--- `geometry_sizes::sizes_refusal` meets its contract: each call gives what its definition says.
+-- `geometry::sizes::sizes_refusal` meets its contract: each call gives what its definition says.
 -- Assumes nothing.
-use Rattle.geometry_sizes.specs.Sizes.{sizesRefusals}
-use Rattle.geometry_sizes.proofs.sizes_refusal.Statement.{statement}
-use Rattle.geometry_sizes.proofs.sizes_refusal.Tie as tie
+use Rattle.geometry.specs.Sizes.{sizesRefusals}
+use Rattle.geometry.proofs.sizes.sizes_refusal.Statement.{statement}
+use Rattle.geometry.proofs.sizes.sizes_refusal.Tie as tie
 
 returns : tie.Need-returns
 unfolding sizesRefusals

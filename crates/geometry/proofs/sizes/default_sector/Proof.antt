@@ -1,8 +1,8 @@
--- `geometry_sizes::default_sector` meets its contract: each call gives what its definition says.
+-- `geometry::sizes::default_sector` meets its contract: each call gives what its definition says.
 -- Assumes nothing.
-use Rattle.geometry_sizes.specs.Sizes.{defaultSector}
-use Rattle.geometry_sizes.proofs.default_sector.Statement.{statement}
-use Rattle.geometry_sizes.proofs.default_sector.Tie as tie
+use Rattle.geometry.specs.Sizes.{defaultSector}
+use Rattle.geometry.proofs.sizes.default_sector.Statement.{statement}
+use Rattle.geometry.proofs.sizes.default_sector.Tie as tie
 
 returns : tie.Need-returns
 unfolding defaultSector
