@@ -11,6 +11,7 @@ use mir.Syntax.{w64}
 use mir.Val.{SFits, toZ, ofZ}
 use mir.ValLaws.{toZ-pos, toZ-ofZ}
 use borrow.Author.Tests.{lt-ltb, le-ltb, le-leb, lt-leb, ltb-true, ltb-false, leb-true, leb-false}
+use Rattle.refusals.specs.Numbers.{timeOutOfRange}
 use Rattle.structs.specs.Written.{require}
 use Rattle.inode_time.specs.Time.{second, epoch, notEarly, shifted, in32, timeInside, timeRaw, valueIf, StoredAs, storable, ShiftedTime, signed32, decoded}
 use Rattle.params.specs.declared.Timestamp.{Timestamp}
@@ -93,7 +94,7 @@ in32-is (pos k) t h = omega arith
 in32-is (negsuc k) t h = let g = leb-true (suc k) epoch t in omega arith
 
 -- ---- the answers
-pub time-no : (big : Bool) (s : ℤ) (n r v : ℕ) → timeInside big s n ≡ false → r ≡ 26 → v ≡ 0 → StoredAs big s n r v
+pub time-no : (big : Bool) (s : ℤ) (n r v : ℕ) → timeInside big s n ≡ false → r ≡ timeOutOfRange → v ≡ 0 → StoredAs big s n r v
 time-no big s n r v e a b = record { number-is = rw e a; value-is = rw e b }
 
 same-accepted : (b : Bool) (x y : ℕ) → (b ≡ true → x ≡ y) → valueIf b x ≡ valueIf b y
@@ -101,7 +102,7 @@ same-accepted true x y f = f refl
 same-accepted false x y f = refl
 
 pub time-big : (s : ℤ) (n w r v : ℕ) → n < second → storable s ≡ true → w ≡ shifted s
-    → (r ≡ require 26 (ltb (w * 1000000000 + n) (2 ^ 64)) 0) × (v ≡ valueIf (ltb (w * 1000000000 + n) (2 ^ 64)) (w * 1000000000 + n)) → StoredAs true s n r v
+    → (r ≡ require timeOutOfRange (ltb (w * 1000000000 + n) (2 ^ 64)) 0) × (v ≡ valueIf (ltb (w * 1000000000 + n) (2 ^ 64)) (w * 1000000000 + n)) → StoredAs true s n r v
 unfolding timeRaw
 time-big s n w r v h t e p =
     let i = inside-big s n h t in
@@ -109,7 +110,7 @@ time-big s n w r v h t e p =
     record { number-is = rw i (q .0); value-is = rw i (q .1) }
 
 pub time-small : (s : ℤ) (n w r v : ℕ) → n < second → storable s ≡ true → w ≡ shifted s
-    → (r ≡ require 26 (ltb w (2 ^ 32)) 0) × (v ≡ valueIf (ltb w (2 ^ 32)) ((w + 2147483648) % 2 ^ 32 * 2 ^ 32 + n)) → StoredAs false s n r v
+    → (r ≡ require timeOutOfRange (ltb w (2 ^ 32)) 0) × (v ≡ valueIf (ltb w (2 ^ 32)) ((w + 2147483648) % 2 ^ 32 * 2 ^ 32 + n)) → StoredAs false s n r v
 unfolding timeRaw
 time-small s n w r v h t e p =
     let i = inside-small s n h t in
