@@ -1,4 +1,4 @@
--- Each chunk of a sound run's list has the length that `chunk_length` answers.
+-- Each piece of a sound run's list has the length that `piece_length` answers.
 -- Assumes nothing.
 use mathlib.Core.Path.{_≡_, refl}
 use mathlib.Core.Bool.{Bool, true, false, cond}
@@ -17,10 +17,10 @@ use Rattle.list_records.specs.Records.{FL, OneBlock, All, listBytes}
 use Rattle.list_records.proofs.Blocks.{all-append, blocks-whole}
 use Rattle.list_records.proofs.Sums.{bytes-total}
 use Rattle.run.specs.declared.Run.{Run}
-use Rattle.list_spec.specs.Listing.{headBlocks, headerBlocks, chunkBlocks, headWritten, headFinished, opening, headRecords, chunkRecords, headerRecords, closing, listChunk}
+use Rattle.list_spec.specs.Listing.{headBlocks, headerBlocks, chunkBlocks, headWritten, headFinished, opening, headRecords, chunkRecords, headerRecords, closing, listPiece}
 use Rattle.list_spec.specs.Sound.{SoundRun}
 use Rattle.list_spec.proofs.Counts.{opening-total, closing-total}
-use Rattle.list_lengths.specs.Lengths.{blocksLength, chunkListLength}
+use Rattle.list_lengths.specs.Lengths.{blocksLength, pieceListLength}
 use Rattle.list_laws.specs.Long.{Long}
 use Rattle.list_write.proofs.Splitting.{blocks-length}
 
@@ -64,5 +64,5 @@ module _ (run : Run) (device : ℕ) (s : SoundRun run device) where
 
   -- EACH CHUNK HAS ITS LENGTH
   pub chunk-long : (k : ℕ) → Long run device k
-  unfolding listChunk chunkListLength
+  unfolding listPiece pieceListLength
   chunk-long k = long-at k (eqb k 0) (leb k groups) (eqb k (groups + 1)) refl refl

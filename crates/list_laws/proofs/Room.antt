@@ -1,4 +1,4 @@
--- How long the chunks of a list can be, and the parts that they are split from.
+-- How long the pieces of a list can be, and the parts that they are split from.
 -- Assumes nothing.
 use mathlib.Core.Path.{_≡_}
 use mathlib.Core.Bool.{Bool, true, false}
@@ -15,10 +15,10 @@ use Rattle.chunk.specs.Chunk.{chunkLength}
 use Rattle.chunk.proofs.Chunks.{whole-chunk}
 use Rattle.list_spec.specs.Listing.{headBlocks, headerBlocks, chunkBlocks}
 use Rattle.group_bytes.proofs.Accepted.{size-least, size-most, head-most}
-use Rattle.list_lengths.specs.Lengths.{blocksLength, chunkListLength, splitPart}
-use Rattle.list_lengths.specs.Chunks.{listedLength, partLength}
+use Rattle.list_lengths.specs.Lengths.{blocksLength, pieceListLength, splitPart}
+use Rattle.list_lengths.specs.Pieces.{listedLength, partLength}
 use Rattle.list_laws.specs.Whole.{largestHead}
-use Rattle.list_laws.specs.Room.{longestChunk}
+use Rattle.list_laws.specs.Room.{longestPieceBytes}
 
 most-of-3 : (a b : Bool) (m x y z : ℕ) → x ≤ m → y ≤ m → z ≤ m → when a x (when b y z) ≤ m
 unfolding when
@@ -56,7 +56,7 @@ module _ (g : Geometry) (z : Bounds g) where
 
   module _ (n : ℕ) (h : blocksLength (g .blocksize) (headBlocks g) ≤ n) (c : blocksLength (g .blocksize) (chunkBlocks g) ≤ n) where
     pub chunk-within : (k : ℕ) → listedLength g k ≤ n
-    unfolding chunkListLength blocksLength
+    unfolding pieceListLength blocksLength
     chunk-within k =
         let b = size-least g z in
         let m = mul-le-mul-right (18 + g .blocksize) header-less in
@@ -68,13 +68,13 @@ module _ (g : Geometry) (z : Bounds g) where
         let m = mul-le-mul-right (18 + g .blocksize) header-less in
         most-of-3 (eqb k 0) (eqb k (g .agcount + 1)) n _ _ _ (omega arith) (omega arith) (omega arith)
 
-  pub head-within : blocksLength (g .blocksize) (headBlocks g) ≤ longestChunk
+  pub head-within : blocksLength (g .blocksize) (headBlocks g) ≤ longestPieceBytes
   unfolding blocksLength
   head-within =
       let b : 18 + g .blocksize ≤ 18 + 16384 = let m = size-most g z in omega arith in
       let w : headBlocks g * (18 + g .blocksize) ≤ 10 * (18 + 16384) = mul-le-mul (z .places .head-most) b in
       omega arith
 
-  pub root-within : blocksLength (g .blocksize) (chunkBlocks g) ≤ longestChunk
+  pub root-within : blocksLength (g .blocksize) (chunkBlocks g) ≤ longestPieceBytes
   unfolding blocksLength
   root-within = let r = root-most in let c = z .places .chunk-room in omega arith

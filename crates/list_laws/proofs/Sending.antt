@@ -15,17 +15,17 @@ use Rattle.request.specs.Parse.{parseDef}
 use Rattle.run.specs.declared.Run.{Run}
 use Rattle.run.specs.Runs.{runOf, accepted}
 use Rattle.list_records.specs.Records.{listBytes}
-use Rattle.list_spec.specs.Listing.{listOf, chunkCount}
+use Rattle.list_spec.specs.Listing.{listOf, pieceCount}
 use Rattle.list_accepted.specs.Accepted.{AcceptedRun}
 use Rattle.list_accepted.proofs.Runs.{run-bounds}
 use Rattle.list_accepted.proofs.Parsed.{accepted-run}
 use Rattle.list_lengths.specs.declared.Counted.{Counted}
-use Rattle.list_lengths.specs.Chunks.{writeNumber, countAnswer, lengthAnswer, partAnswer}
+use Rattle.list_lengths.specs.Pieces.{writeNumber, countAnswer, lengthAnswer, partAnswer}
 use Rattle.list_send.specs.declared.Sending.{Sending as State}
 use Rattle.list_send.specs.declared.Sent.{Sent}
-use Rattle.list_send.specs.Sending.{sending, sendingBegun, nextChunk, sendingStepped, chunkPiece, sendingWanted, longestPiece, sendNumber, unsent, sentDef, bufferAfter, workAfter, sentOn, handed}
+use Rattle.list_send.specs.Sending.{sending, sendingBegun, nextPiece, sendingStepped, pieceBytes, sendingWanted, longestPiece, sendNumber, unsent, sentDef, bufferAfter, workAfter, sentOn, handed}
 use Rattle.list_laws.specs.Whole.{sent, sentTo, sentAll, WrittenWhole}
-use Rattle.list_laws.specs.Room.{longestChunk, HoldsChunk, Sufficient}
+use Rattle.list_laws.specs.Room.{longestPieceBytes, HoldsPiece, Sufficient}
 use Rattle.list_laws.specs.Sending.{SendsAll, SendsNone}
 use Rattle.list_laws.proofs.Whole.{written-whole, write-is}
 use Rattle.list_laws.proofs.Lent.{room-enough}
@@ -34,7 +34,7 @@ use Rattle.list_laws.proofs.Lent.{room-enough}
 first-put : (bs xs : List ℕ) → length bs ≤ length xs → take (length bs) (patch 0 bs xs) ≡ bs
 first-put bs xs h = ap (take (length bs)) (patch-split 0 bs xs (omega arith)) ∙ take-at bs (drop (0 + length bs) xs) (length bs) refl
 
--- ---- an accepted run, m of its chunks still to come
+-- ---- an accepted run, m of its pieces still to come
 module _ (r : Request) (a : AcceptedRun r) (accepts : runOf r .number ≡ 0) where
   abbrev run : Run
   run = runOf r
@@ -43,7 +43,7 @@ module _ (r : Request) (a : AcceptedRun r) (accepts : runOf r .number ≡ 0) whe
   device = r .device
 
   abbrev count : ℕ
-  count = chunkCount run
+  count = pieceCount run
 
   abbrev at : ℕ → State
   at m = sending run device count m
@@ -59,7 +59,7 @@ module _ (r : Request) (a : AcceptedRun r) (accepts : runOf r .number ≡ 0) whe
     there : count - m < count
     there = omega arith
 
-    enough : (n : ℕ) → longest ≤ n → HoldsChunk run n (count - m)
+    enough : (n : ℕ) → longest ≤ n → HoldsPiece run n (count - m)
     enough n h = room-enough r a .few n (count - m) there (omega arith) (omega arith)
 
     wanted : sendingWanted (at m) ≡ record { number = 0; value = length piece }
@@ -77,7 +77,7 @@ module _ (r : Request) (a : AcceptedRun r) (accepts : runOf r .number ≡ 0) whe
     unfolding sentDef
     answer = rw (number, wanted) refl
 
-  -- ---- a turn hands out the next chunk
+  -- ---- a turn hands out the next piece
   module _ (work : ℕ) (p : longest ≤ work) where
     handed-on : (m : ℕ) (xs : List ℕ) → suc m ≤ count → longest ≤ length xs
         → handed (suc m) (at (suc m)) work xs ≡ sent run device (count - suc m) ++ handed m (at m) work (patch 0 (sent run device (count - suc m)) xs)
@@ -124,8 +124,8 @@ module _ (r : Request) (a : AcceptedRun r) (accepts : runOf r .number ≡ 0) whe
     no-more : (len : ℕ) → longest ≤ len → sentOn count (at count) work len .left ≡ 0
     no-more len q = rw (after-turns count len (omega arith) q) (omega arith)
 
-  longest-most : longest ≤ longestChunk
-  unfolding chunkCount
+  longest-most : longest ≤ longestPieceBytes
+  unfolding pieceCount
   longest-most =
       let s = room-enough r a .most in
       let c = run-bounds r a .groups .count-least in
@@ -144,7 +144,7 @@ module _ (xs : List ℕ) (bytes : (i : ℕ) → getD xs i 0 < 256) where
     unfolding accepted
     zero-is = e
 
-    begun-is : sendingBegun xs ≡ at request taken zero-is (chunkCount (runOf request))
+    begun-is : sendingBegun xs ≡ at request taken zero-is (pieceCount (runOf request))
     unfolding sendingBegun accepted
     begun-is = rw (eq-eqb (runOf request .number) 0 zero-is, written-whole request taken .counted) refl
 

@@ -1,4 +1,4 @@
--- What is written for an accepted run, chunk by chunk, and read again is the run's list.
+-- What is written for an accepted run, piece by piece, and read again is the run's list.
 -- Assumes nothing.
 use mathlib.Core.Path.{_≡_, refl, sym, ap, _∙_}
 use mathlib.Core.List.{List, [], _∷_, _++_}
@@ -18,8 +18,8 @@ use Rattle.request.specs.declared.Request.{Request}
 use Rattle.request.specs.Parse.{parseDef}
 use Rattle.run.specs.declared.Run.{Run}
 use Rattle.run.specs.Runs.{runOf, accepted}
-use Rattle.list_spec.specs.Listing.{listOf, chunkCount, listChunk, chunksTo, listLength}
-use Rattle.list_spec.proofs.Chunks.{by-chunks}
+use Rattle.list_spec.specs.Listing.{listOf, pieceCount, listPiece, piecesTo, listLength}
+use Rattle.list_spec.proofs.Pieces.{by-chunks}
 use Rattle.list_spec.proofs.Parts.{butLast, list-last}
 use Rattle.list_spec.proofs.Cut.{told}
 use Rattle.list_accepted.specs.Accepted.{AcceptedRun}
@@ -29,7 +29,7 @@ use Rattle.list_accepted.proofs.Heads.{run-ordered}
 use Rattle.list_accepted.proofs.Parsed.{accepted-run}
 use Rattle.group_bytes.proofs.Accepted.{or-second}
 use Rattle.list_lengths.specs.declared.Counted.{Counted}
-use Rattle.list_lengths.specs.Chunks.{formatNumber, listChunkNumber, writeNumber, countAnswer, lengthAnswer, partAnswer}
+use Rattle.list_lengths.specs.Pieces.{formatNumber, pieceNumber, writeNumber, countAnswer, lengthAnswer, partAnswer}
 use Rattle.list_lengths.proofs.Numbers.{place-there, place-none, write-fits}
 use Rattle.list_write.proofs.Splitting.{list-append}
 use Rattle.list_laws.specs.Whole.{largestHead, sent, sentTo, sentAll, WrittenWhole}
@@ -47,15 +47,15 @@ all-fit : (bs device : ℕ) → device < 2 ^ 64 → (ws : List Record) → All (
 all-fit bs device h [] f = tt
 all-fit bs device h (w ∷ ws) f = (record-fits bs device h w (f .0), all-fit bs device h ws (f .1))
 
--- ---- the chunks one after the other
+-- ---- the pieces one after the other
 
-sent-is : (run : Run) (device n : ℕ) → sentTo run device n ≡ listBytes (chunksTo run device n)
-unfolding sentTo chunksTo listBytes
+sent-is : (run : Run) (device n : ℕ) → sentTo run device n ≡ listBytes (piecesTo run device n)
+unfolding sentTo piecesTo listBytes
 sent-is run device zero = refl
-sent-is run device (suc n) = ap (λ (l : List ℕ). l ++ sent run device n) (sent-is run device n) ∙ sym (list-append (chunksTo run device n) (listChunk run device n))
+sent-is run device (suc n) = ap (λ (l : List ℕ). l ++ sent run device n) (sent-is run device n) ∙ sym (list-append (piecesTo run device n) (listPiece run device n))
 
 sent-whole : (run : Run) (device : ℕ) → sentAll run device ≡ listBytes (listOf run device)
-sent-whole run device = sent-is run device (chunkCount run) ∙ ap listBytes (by-chunks run device)
+sent-whole run device = sent-is run device (pieceCount run) ∙ ap listBytes (by-chunks run device)
 
 -- ---- where it ends: its second flush is its last record
 
@@ -72,44 +72,44 @@ module _ (r : Request) (a : AcceptedRun r) where
   unfolding formatNumber
   format = sym (or-second _ _ 0 (run-plans r a) (sym (run-timely r a)))
 
-  -- chunk k is there, or not
-  pub there : (k : ℕ) → k < chunkCount run → listChunkNumber run k ≡ 0
-  unfolding chunkCount
+  -- piece k is there, or not
+  pub there : (k : ℕ) → k < pieceCount run → pieceNumber run k ≡ 0
+  unfolding pieceCount
   there k h = sym (place-there run k format (omega arith))
 
-  not-there : (k : ℕ) → chunkCount run ≤ k → listChunkNumber run k ≡ noPlace
-  unfolding chunkCount
+  not-there : (k : ℕ) → pieceCount run ≤ k → pieceNumber run k ≡ noPlace
+  unfolding pieceCount
   not-there k h = sym (place-none run k format (omega arith))
 
   -- ---- what the functions answer
 
-  count-is : countAnswer run ≡ record { number = 0; value = chunkCount run }
+  count-is : countAnswer run ≡ record { number = 0; value = pieceCount run }
   unfolding countAnswer
   count-is = rw format refl
 
-  length-is : (k : ℕ) → k < chunkCount run → lengthAnswer run k ≡ record { number = 0; value = length (sent run (r .device) k) }
+  length-is : (k : ℕ) → k < pieceCount run → lengthAnswer run k ≡ record { number = 0; value = length (sent run (r .device) k) }
   unfolding lengthAnswer
   length-is k h = rw (there k h, chunk-long run (r .device) (sound r a) k) refl
 
-  part-is : (k : ℕ) → k < chunkCount run → (partAnswer run k .number ≡ 0) × (partAnswer run k .value ≤ largestHead)
+  part-is : (k : ℕ) → k < pieceCount run → (partAnswer run k .number ≡ 0) × (partAnswer run k .value ≤ largestHead)
   unfolding partAnswer
   part-is k h = rw (there k h) (refl, part-most (run .geometry) (run-bounds r a) k)
 
-  pub write-is : (k work : ℕ) → k < chunkCount run → partAnswer run k .value ≤ work → writeNumber run k (length (sent run (r .device) k)) work ≡ 0
+  pub write-is : (k work : ℕ) → k < pieceCount run → partAnswer run k .value ≤ work → writeNumber run k (length (sent run (r .device) k)) work ≡ 0
   unfolding partAnswer
   write-is k work h m = sym (write-fits run k _ work (there k h) (chunk-long run (r .device) (sound r a) k) (rw (there k h) at m))
 
-  accept-is : (k work : ℕ) → k < chunkCount run → largestHead ≤ work → writeNumber run k (length (sent run (r .device) k)) work ≡ 0
+  accept-is : (k work : ℕ) → k < pieceCount run → largestHead ≤ work → writeNumber run k (length (sent run (r .device) k)) work ≡ 0
   accept-is k work h m = let p = part-is k h .1 in write-is k work h (omega arith)
 
-  left-is : (k work n : ℕ) (old left : List ℕ) → k < chunkCount run → partAnswer run k .value ≤ work → length old ≡ lengthAnswer run k .value
+  left-is : (k work n : ℕ) (old left : List ℕ) → k < pieceCount run → partAnswer run k .value ≤ work → length old ≡ lengthAnswer run k .value
       → Written (writeNumber run k (length old) work) (sent run (r .device) k) old n left → (n ≡ 0) × (left ≡ sent run (r .device) k)
   left-is k work n old left h m e w =
       let l : length old ≡ length (sent run (r .device) k) = e ∙ ap (λ (c : Counted). c .value) (length-is k h) in
       let z : writeNumber run k (length old) work ≡ 0 = rw l (write-is k work h m) in
       (w .number ∙ z, written-in w z)
 
-  none-is : (k len work : ℕ) → chunkCount run ≤ k → (listChunkNumber run k ≡ noPlace) × (writeNumber run k len work ≡ noPlace)
+  none-is : (k len work : ℕ) → pieceCount run ≤ k → (pieceNumber run k ≡ noPlace) × (writeNumber run k len work ≡ noPlace)
   unfolding writeNumber
   none-is k len work h = let n = not-there k h in (n, rw n refl)
 

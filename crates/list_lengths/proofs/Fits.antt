@@ -1,4 +1,4 @@
--- Any sizes of 32 bits: the bytes of a chunk fit 64 bits.
+-- Any sizes of 32 bits: the bytes of a piece fit 64 bits.
 -- Assumes nothing.
 use mathlib.Core.Bool.{not}
 use Prim.Native.Nat.{ℕ, _+_, _*_, _/_, _%_, _<_, _≤_, _^_}

@@ -15,10 +15,10 @@ use Rattle.geometry_layout.specs.Bounds.{Bounds}
 use Rattle.plan_totals.specs.Totals.{plansNumber}
 use Rattle.run.specs.declared.Run.{Run}
 use Rattle.run.specs.Runs.{timeRefusal}
-use Rattle.list_spec.specs.Listing.{chunkCount}
+use Rattle.list_spec.specs.Listing.{pieceCount}
 use Rattle.group_bytes.proofs.Accepted.{or-second, or-zero}
 use Rattle.list_lengths.specs.declared.Counted.{Counted}
-use Rattle.list_lengths.specs.Chunks.{listedLength, partLength, formatNumber, listChunkNumber, writeNumber, countedAs}
+use Rattle.list_lengths.specs.Pieces.{listedLength, partLength, formatNumber, pieceNumber, writeNumber, countedAs}
 
 -- ---- the numbers of a run
 
@@ -32,43 +32,43 @@ module _ (run : Run) where
   below-at n k true e z = absurd (omega arith)
   below-at n k false e z = leb-false n k e
 
-  pub place-zero : (k : ℕ) → listChunkNumber run k ≡ 0 → (formatNumber run ≡ 0) × (k < run .geometry .agcount + 3)
-  unfolding listChunkNumber chunkCount
+  pub place-zero : (k : ℕ) → pieceNumber run k ≡ 0 → (formatNumber run ≡ 0) × (k < run .geometry .agcount + 3)
+  unfolding pieceNumber pieceCount
   place-zero k z =
       let o = or-zero (formatNumber run) _ z in
       (o .0, below-at (run .geometry .agcount + 3) k (leb (run .geometry .agcount + 3) k) refl (o .1))
 
-  pub write-zero : (k len work : ℕ) → writeNumber run k len work ≡ 0 → (listChunkNumber run k ≡ 0) × (len ≡ listedLength (run .geometry) k) × (partLength (run .geometry) k ≤ work)
+  pub write-zero : (k len work : ℕ) → writeNumber run k len work ≡ 0 → (pieceNumber run k ≡ 0) × (len ≡ listedLength (run .geometry) k) × (partLength (run .geometry) k ≤ work)
   unfolding writeNumber
   write-zero k len work z =
-      let o = or-zero (listChunkNumber run k) _ z in
+      let o = or-zero (pieceNumber run k) _ z in
       let p = passed 27 (require 27 (leb (partLength (run .geometry) k) work) 0) (eqb len (listedLength (run .geometry) k)) (omega arith) (o .1) in
       let q = passed 27 0 (leb (partLength (run .geometry) k) work) (omega arith) (p .1) in
       (o .0, eqb-true len (listedLength (run .geometry) k) (p .0), leb-true (partLength (run .geometry) k) work (q .0))
 
-  -- chunk k is there, or not
-  pub place-there : (k : ℕ) → formatNumber run ≡ 0 → k - 2 ≤ run .geometry .agcount → 0 ≡ listChunkNumber run k
-  unfolding listChunkNumber chunkCount when
+  -- piece k is there, or not
+  pub place-there : (k : ℕ) → formatNumber run ≡ 0 → k - 2 ≤ run .geometry .agcount → 0 ≡ pieceNumber run k
+  unfolding pieceNumber pieceCount when
   place-there k f h = or-second (formatNumber run) _ 0 f (rw (lt-leb (run .geometry .agcount + 3) k (omega arith)) refl)
 
-  pub place-none : (k : ℕ) → formatNumber run ≡ 0 → run .geometry .agcount < k - 2 → 29 ≡ listChunkNumber run k
-  unfolding listChunkNumber chunkCount when
+  pub place-none : (k : ℕ) → formatNumber run ≡ 0 → run .geometry .agcount < k - 2 → 29 ≡ pieceNumber run k
+  unfolding pieceNumber pieceCount when
   place-none k f h = or-second (formatNumber run) _ 29 f (rw (le-leb (run .geometry .agcount + 3) k (omega arith)) refl)
 
-  -- the buffer has the chunk's length and the work buffer is long enough, or not
-  pub write-fits : (k len work : ℕ) → listChunkNumber run k ≡ 0 → len ≡ listedLength (run .geometry) k → partLength (run .geometry) k ≤ work → 0 ≡ writeNumber run k len work
+  -- the buffer has the piece's length and the work buffer is long enough, or not
+  pub write-fits : (k len work : ℕ) → pieceNumber run k ≡ 0 → len ≡ listedLength (run .geometry) k → partLength (run .geometry) k ≤ work → 0 ≡ writeNumber run k len work
   unfolding writeNumber
-  write-fits k len work z e h = or-second (listChunkNumber run k) _ 0 z (rw (eq-eqb len (listedLength (run .geometry) k) e, le-leb (partLength (run .geometry) k) work h) refl)
+  write-fits k len work z e h = or-second (pieceNumber run k) _ 0 z (rw (eq-eqb len (listedLength (run .geometry) k) e, le-leb (partLength (run .geometry) k) work h) refl)
 
-  pub write-other : (k len work : ℕ) → listChunkNumber run k ≡ 0 → (len ≡ listedLength (run .geometry) k → ⊥) → 27 ≡ writeNumber run k len work
+  pub write-other : (k len work : ℕ) → pieceNumber run k ≡ 0 → (len ≡ listedLength (run .geometry) k → ⊥) → 27 ≡ writeNumber run k len work
   unfolding writeNumber
-  write-other k len work z h = or-second (listChunkNumber run k) _ 27 z (rw (ne-eqb len (listedLength (run .geometry) k) h) refl)
+  write-other k len work z h = or-second (pieceNumber run k) _ 27 z (rw (ne-eqb len (listedLength (run .geometry) k) h) refl)
 
-  pub write-narrow : (k len work : ℕ) → listChunkNumber run k ≡ 0 → len ≡ listedLength (run .geometry) k → work < partLength (run .geometry) k → 27 ≡ writeNumber run k len work
+  pub write-narrow : (k len work : ℕ) → pieceNumber run k ≡ 0 → len ≡ listedLength (run .geometry) k → work < partLength (run .geometry) k → 27 ≡ writeNumber run k len work
   unfolding writeNumber
-  write-narrow k len work z e h = or-second (listChunkNumber run k) _ 27 z (rw (eq-eqb len (listedLength (run .geometry) k) e, lt-leb (partLength (run .geometry) k) work h) refl)
+  write-narrow k len work z e h = or-second (pieceNumber run k) _ 27 z (rw (eq-eqb len (listedLength (run .geometry) k) e, lt-leb (partLength (run .geometry) k) work h) refl)
 
--- what the lengths of a chunk's buffer and of the work buffer say
+-- what the lengths of a piece's buffer and of the work buffer say
 pub record Filling (run : Run) (k len work : ℕ) : Type 0 where
   pub format : formatNumber run ≡ 0
   pub there : k < run .geometry .agcount + 3
@@ -83,7 +83,7 @@ filling run k len work z =
 
 -- ---- counts
 
--- what `chunk_count`, `chunk_length` and `part_length` answer
+-- what `piece_count`, `piece_length` and `part_length` answer
 pub count-refused : (n v : ℕ) (r : Counted) → (n ≡ 0 → ⊥) → r ≡ record { number = n; value = 0 } → r ≡ countedAs n v
 count-refused n v r h e = e ∙ rw (ne-eqb n 0 h) refl
 

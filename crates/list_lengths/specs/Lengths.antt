@@ -1,4 +1,4 @@
--- How many blocks the parts of a run have, and how many bytes each chunk of its list and the part that it is split from.
+-- How many blocks the parts of a run have, and how many bytes each piece of its list and the part that it is split from.
 -- Assumes nothing.
 use Prim.Native.Nat.{ℕ, _+_, _*_}
 use lib.Dec.{leb, eqb}
@@ -30,13 +30,13 @@ recordHeadSize = 18
 unfoldable pub blocksLength : ℕ → ℕ → ℕ
 blocksLength bs n = n * (recordHeadSize + bs)
 
--- chunk k of so many groups: three records of zeros and the log's first block; a head; the root chunk; two flushes and the header blocks
-unfoldable pub chunkListLength : Sizes → ℕ → ℕ → ℕ
-chunkListLength s groups k =
+-- piece k of so many groups: three records of zeros and the log's first block; a head; the root chunk; two flushes and the header blocks
+unfoldable pub pieceListLength : Sizes → ℕ → ℕ → ℕ
+pieceListLength s groups k =
     when (eqb k 0) (3 * recordHeadSize + blocksLength (s .block) 1)
     (when (leb k groups) (blocksLength (s .block) (s .head))
     (when (eqb k (groups + 1)) (blocksLength (s .block) (s .chunk)) (flushSize + blocksLength (s .block) (s .header) + flushSize)))
 
--- the part that chunk k is split from: the log's first block, the root chunk, or a head
+-- the part that piece k is split from: the log's first block, the root chunk, or a head
 unfoldable pub splitPart : Sizes → ℕ → ℕ → ℕ
 splitPart s groups k = when (eqb k 0) (s .block) (when (eqb k (groups + 1)) (s .chunk * s .block) (s .head * s .block))

@@ -1,8 +1,8 @@
-// How many chunks the list of a run has, how long each is, and which number refuses one.
+// How many pieces the list of a run has, how long each is, and which number refuses one.
 ghost use mathlib.Core.Path.{_≡_};
-ghost use Rattle.list_lengths.specs.Chunks.{listedLength, partLength, formatNumber, listChunkNumber, writeNumber, countAnswer, lengthAnswer, partAnswer};
+ghost use Rattle.list_lengths.specs.Pieces.{listedLength, partLength, formatNumber, pieceNumber, writeNumber, countAnswer, lengthAnswer, partAnswer};
 
-pub mod parts; // parts.rt: how long the chunks and their parts are
+pub mod parts; // parts.rt: how long the pieces and their parts are
 
 use arith::numbers::minus;
 use geometry::Geometry;
@@ -12,13 +12,13 @@ use parts::part_of;
 use plan_summary::plans_number;
 use run::Run;
 
-// A count of chunks or bytes; a refusal has 0 beside its number.
+// A count of pieces or bytes; a refusal has 0 beside its number.
 pub struct Counted {
     pub number: u32,
     pub value: u64,
 }
 
-// Bytes of chunk k.
+// Bytes of piece k.
 fn listed_length(g: Geometry, k: u64) -> usize
     ensures { λ r. ⌜ r ≡ listedLength g k ⌝ }
 {
@@ -63,7 +63,7 @@ fn format_number(run: Run) -> u32
 
 // The same, 29, or 0.
 fn place_number(run: Run, k: u64) -> u32
-    ensures { λ r. ⌜ r ≡ listChunkNumber run k ⌝ }
+    ensures { λ r. ⌜ r ≡ pieceNumber run k ⌝ }
 {
     let n = format_number(run);
     if n != 0 {
@@ -76,7 +76,7 @@ fn place_number(run: Run, k: u64) -> u32
     refusals::NO_PLACE
 }
 
-// Whether chunk k can be made in a buffer of `len` bytes with a work buffer of `work`: 31, 25, 26, 29, 27, or 0.
+// Whether piece k can be made in a buffer of `len` bytes with a work buffer of `work`: 31, 25, 26, 29, 27, or 0.
 pub fn write_number(run: Run, k: u64, len: usize, work: usize) -> u32
     ensures { λ r. ⌜ r ≡ writeNumber run k len work ⌝ }
 {
@@ -100,8 +100,8 @@ fn refused(number: u32) -> Counted
     Counted { number, value: 0 }
 }
 
-// How many chunks the list has: 31, 25, 26.
-pub fn chunk_count(run: Run) -> Counted
+// How many pieces the list has: 31, 25, 26.
+pub fn piece_count(run: Run) -> Counted
     ensures { λ r. ⌜ r ≡ countAnswer run ⌝ }
 {
     let n = format_number(run);
@@ -113,8 +113,8 @@ pub fn chunk_count(run: Run) -> Counted
     Counted { number: 0, value }
 }
 
-// How many bytes chunk k has: 31, 25, 26, 29.
-pub fn chunk_length(run: Run, k: u64) -> Counted
+// How many bytes piece k has: 31, 25, 26, 29.
+pub fn piece_length(run: Run, k: u64) -> Counted
     ensures { λ r. ⌜ r ≡ lengthAnswer run k ⌝ }
 {
     let n = place_number(run, k);
@@ -125,7 +125,7 @@ pub fn chunk_length(run: Run, k: u64) -> Counted
     Counted { number: 0, value }
 }
 
-// How long a work buffer chunk k needs: 31, 25, 26, 29. No chunk needs more than group_bytes::LARGEST_HEAD.
+// How long a work buffer piece k needs: 31, 25, 26, 29. No piece needs more than group_bytes::LARGEST_HEAD.
 pub fn part_length(run: Run, k: u64) -> Counted
     ensures { λ r. ⌜ r ≡ partAnswer run k ⌝ }
 {

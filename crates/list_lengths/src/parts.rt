@@ -1,7 +1,7 @@
-// How many blocks the parts of a run have, and how many bytes each chunk of its list and the part that it is split from.
+// How many blocks the parts of a run have, and how many bytes each piece of its list and the part that it is split from.
 ghost use mathlib.Core.Path.{_≡_};
 ghost use Prim.Native.Nat.{_<_, _^_};
-ghost use Rattle.list_lengths.specs.Lengths.{listSizes, blocksLength, chunkListLength, splitPart};
+ghost use Rattle.list_lengths.specs.Lengths.{listSizes, blocksLength, pieceListLength, splitPart};
 use geometry::log_size::header_of;
 use geometry::log_size::prealloc_of;
 use geometry_counts::inodes::chunk_of;
@@ -40,9 +40,9 @@ fn blocks_length(bs: usize, n: usize) -> usize
     n * (HEAD_SIZE + bs)
 }
 
-// Bytes of chunk k of a disk of so many groups.
+// Bytes of piece k of a disk of so many groups.
 pub fn length_of(f: Features, sector: u32, inode: u32, bs: u32, groups: u64, k: u64) -> usize
-    ensures { λ r. ⌜ r ≡ chunkListLength (listSizes f sector inode bs) groups k ⌝ }
+    ensures { λ r. ⌜ r ≡ pieceListLength (listSizes f sector inode bs) groups k ⌝ }
 {
     let s = sizes_of(f, sector, inode, bs);
     if k == 0 {
@@ -57,7 +57,7 @@ pub fn length_of(f: Features, sector: u32, inode: u32, bs: u32, groups: u64, k: 
     MARK_SIZE + blocks_length(s.block, s.header) + MARK_SIZE
 }
 
-// Bytes of the part that chunk k is split from.
+// Bytes of the part that piece k is split from.
 pub fn part_of(f: Features, sector: u32, inode: u32, bs: u32, groups: u64, k: u64) -> usize
     ensures { λ r. ⌜ r ≡ splitPart (listSizes f sector inode bs) groups k ⌝ }
 {

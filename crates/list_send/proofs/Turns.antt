@@ -14,9 +14,9 @@ use Rattle.request.specs.Parse.{parseDef}
 use Rattle.run.specs.declared.Run.{Run}
 use Rattle.run.specs.Runs.{runOf, accepted}
 use Rattle.list_lengths.specs.declared.Counted.{Counted}
-use Rattle.list_lengths.specs.Chunks.{writeNumber, countAnswer, lengthAnswer}
+use Rattle.list_lengths.specs.Pieces.{writeNumber, countAnswer, lengthAnswer}
 use Rattle.list_records.specs.Records.{listBytes}
-use Rattle.list_spec.specs.Listing.{listChunk}
+use Rattle.list_spec.specs.Listing.{listPiece}
 use Rattle.head_bytes.proofs.Lending.{part-length}
 use Rattle.list_write.specs.Writing.{partBytes}
 use Rattle.list_write.proofs.Lent.{lent-part}
@@ -24,9 +24,9 @@ use Rattle.structs.specs.Written.{Written}
 use Rattle.structs.proofs.Written.{written-in}
 use Rattle.list_send.specs.declared.Sending.{Sending as State}
 use Rattle.list_send.specs.declared.Sent.{Sent}
-use Rattle.list_send.specs.Sending.{sending, sendingBegun, nextChunk, sendingStepped, chunkPiece, sendingRefused, sendingWanted, sendNumber, unsent, sentDef, sentOn, Turn}
+use Rattle.list_send.specs.Sending.{sending, sendingBegun, nextPiece, sendingStepped, pieceBytes, sendingRefused, sendingWanted, sendNumber, unsent, sentDef, sentOn, Turn}
 
--- ---- before the first chunk
+-- ---- before the first piece
 module _ (xs : List ℕ) (r : Request) (run : Run) (e : r ≡ parseDef xs) (f : run ≡ runOf r) where
   asked : accepted xs ≡ run
   unfolding accepted
@@ -50,7 +50,7 @@ module _ (s : State) where
   unfolding sendingWanted
   wants-none z l = rw (z, l) refl
 
-  pub wants-chunk : (k : ℕ) (c : Counted) → s .run .number ≡ 0 → (s .left ≡ 0 → ⊥) → k ≡ nextChunk s → c ≡ lengthAnswer (s .run) k → c ≡ sendingWanted s
+  pub wants-chunk : (k : ℕ) (c : Counted) → s .run .number ≡ 0 → (s .left ≡ 0 → ⊥) → k ≡ nextPiece s → c ≡ lengthAnswer (s .run) k → c ≡ sendingWanted s
   unfolding sendingWanted
   wants-chunk k c z l e f = f ∙ rw (z, ne-eqb (s .left) 0 l, e) refl
 
@@ -64,7 +64,7 @@ module _ (s : State) (work len : ℕ) (w : Counted) (is : w ≡ sendingWanted s)
   unfolding sendNumber
   too-short z h = rw (← is, z, lt-leb (w .value) len h) refl
 
-  pub as-written : w .number ≡ 0 → w .value ≤ len → sendNumber s work len ≡ writeNumber (s .run) (nextChunk s) (w .value) work
+  pub as-written : w .number ≡ 0 → w .value ≤ len → sendNumber s work len ≡ writeNumber (s .run) (nextPiece s) (w .value) work
   unfolding sendNumber
   as-written z h = rw (← is, z, le-leb (w .value) len h) refl
 
@@ -83,8 +83,8 @@ module _ (s : State) (work buf : List ℕ) where
         inside = rw e (omega arith);
       }
 
-  pub sent-turn : (n : ℕ) (t : State) (workLeft left : List ℕ) → t ≡ sendingStepped s → number ≡ 0 → n ≡ sendingWanted s .value → left ≡ patch 0 (chunkPiece s) buf
-      → workLeft ≡ patch 0 (partBytes (s .run) (nextChunk s)) work → n ≤ length left → Turn s (record { number = 0; length = n; sending = t }) work buf workLeft left
+  pub sent-turn : (n : ℕ) (t : State) (workLeft left : List ℕ) → t ≡ sendingStepped s → number ≡ 0 → n ≡ sendingWanted s .value → left ≡ patch 0 (pieceBytes s) buf
+      → workLeft ≡ patch 0 (partBytes (s .run) (nextPiece s)) work → n ≤ length left → Turn s (record { number = 0; length = n; sending = t }) work buf workLeft left
   unfolding sentDef
   sent-turn n t workLeft left e f v b w i = record { answered = rw (f, e, v) refl; buffer = rw f b; part = rw f w; inside = i }
 
@@ -92,8 +92,8 @@ module _ (s : State) (work buf : List ℕ) where
 unwritten : (n r : ℕ) (new old left : List ℕ) → Written n new old r left → (r ≡ 0 → ⊥) → left ≡ old
 unwritten n r new old left w h = w .bytes ∙ rw (← w .number, ne-eqb r 0 h) refl
 
--- A turn whose chunk is written into the first n bytes of the buffer.
-module _ (s : State) (work buf : List ℕ) (w : Counted) (is : w ≡ sendingWanted s) (z : w .number ≡ 0) (h : w .value ≤ length buf) (k r : ℕ) (at : k ≡ nextChunk s)
+-- A turn whose piece is written into the first n bytes of the buffer.
+module _ (s : State) (work buf : List ℕ) (w : Counted) (is : w ≡ sendingWanted s) (z : w .number ≡ 0) (h : w .value ≤ length buf) (k r : ℕ) (at : k ≡ nextPiece s)
     (workLeft left : List ℕ) where
   abbrev n : ℕ
   n = w .value
@@ -109,7 +109,7 @@ module _ (s : State) (work buf : List ℕ) (w : Counted) (is : w ≡ sendingWant
       ap₂ (λ (j m : ℕ). writeNumber (s .run) j m (length work)) at (part-length 0 n buf (omega arith))
       ∙ sym (as-written s (length work) (length buf) w is z h)
 
-  module _ (b : Written written (listBytes (listChunk (s .run) (s .device) k)) lent r left) (p : Written written (patch 0 (partBytes (s .run) k) work) work r workLeft) where
+  module _ (b : Written written (listBytes (listPiece (s .run) (s .device) k)) lent r left) (p : Written written (patch 0 (partBytes (s .run) k) work) work r workLeft) where
     pub chunk-refused : (a : Sent) → a ≡ unsent s r → (r ≡ 0 → ⊥) → Turn s a work buf workLeft (putMid 0 (0 + n - 0) buf left)
     chunk-refused a e f =
         refused-turn s work buf r a workLeft (putMid 0 (0 + n - 0) buf left) e (sym (b .number ∙ number-is)) f (unwritten _ _ _ _ _ p f)
@@ -120,7 +120,7 @@ module _ (s : State) (work buf : List ℕ) (w : Counted) (is : w ≡ sendingWant
         let q = sym (b .number) ∙ f in
         let m = same-len-mid 0 (0 + n - 0) buf left l in
         sent-turn s work buf n t workLeft (putMid 0 (0 + n - 0) buf left) e (sym number-is ∙ q) (ap (λ (c : Counted). c .value) is)
-        (lent-part n (listBytes (listChunk (s .run) (s .device) k)) buf left h l (written-in b q) ∙ ap (λ (j : ℕ). patch 0 (listBytes (listChunk (s .run) (s .device) j)) buf) at)
+        (lent-part n (listBytes (listPiece (s .run) (s .device) k)) buf left h l (written-in b q) ∙ ap (λ (j : ℕ). patch 0 (listBytes (listPiece (s .run) (s .device) j)) buf) at)
         (written-in p q ∙ ap (λ (j : ℕ). patch 0 (partBytes (s .run) j) work) at) (omega arith)
 
 -- ---- one turn more, where `left` of n turns are still to come

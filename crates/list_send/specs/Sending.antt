@@ -13,29 +13,29 @@ use Rattle.request.specs.Parse.{parseDef}
 use Rattle.run.specs.declared.Run.{Run}
 use Rattle.run.specs.Runs.{orNext, accepted}
 use Rattle.list_records.specs.Records.{listBytes}
-use Rattle.list_spec.specs.Listing.{listChunk}
+use Rattle.list_spec.specs.Listing.{listPiece}
 use Rattle.list_lengths.specs.declared.Counted.{Counted}
-use Rattle.list_lengths.specs.Chunks.{writeNumber, countAnswer, lengthAnswer}
+use Rattle.list_lengths.specs.Pieces.{writeNumber, countAnswer, lengthAnswer}
 use Rattle.list_write.specs.Writing.{partBytes}
 use Rattle.list_send.specs.declared.Sending.{Sending as State}
 use Rattle.list_send.specs.declared.Sent.{Sent}
 
 -- ---- the state
 
--- `left` of `count` chunks are to come
+-- `left` of `count` pieces are to come
 abbrev pub sending : Run → ℕ → ℕ → ℕ → State
 sending run device count left = record { run = run; device = device; count = count; left = left }
 
--- before the first chunk; of a refused run there is none
+-- before the first piece; of a refused run there is none
 unfoldable pub sendingBegun : List ℕ → State
 sendingBegun xs =
     let run = accepted xs in
     let n = cond (eqb (run .number) 0) (countAnswer run .value) 0 in
     sending run (parseDef xs .device) n n
 
--- the number of the chunk that comes next
-abbrev pub nextChunk : State → ℕ
-nextChunk s = s .count - s .left
+-- the number of the piece that comes next
+abbrev pub nextPiece : State → ℕ
+nextPiece s = s .count - s .left
 
 -- with one fewer to come
 abbrev pub sendingStepped : State → State
@@ -43,9 +43,9 @@ sendingStepped s = sending (s .run) (s .device) (s .count) (s .left - 1)
 
 -- ---- a turn
 
--- the bytes of the next chunk
-abbrev pub chunkPiece : State → List ℕ
-chunkPiece s = listBytes (listChunk (s .run) (s .device) (nextChunk s))
+-- the bytes of the next piece
+abbrev pub pieceBytes : State → List ℕ
+pieceBytes s = listBytes (listPiece (s .run) (s .device) (nextPiece s))
 
 abbrev pub sendingRefused : ℕ → Counted
 sendingRefused n = record { number = n; value = 0 }
@@ -54,19 +54,19 @@ sendingRefused n = record { number = n; value = 0 }
 unfoldable pub sendingWanted : State → Counted
 sendingWanted s =
     cond (eqb (s .run .number) 0)
-    (cond (eqb (s .left) 0) (sendingRefused noPlace) (lengthAnswer (s .run) (nextChunk s)))
+    (cond (eqb (s .left) 0) (sendingRefused noPlace) (lengthAnswer (s .run) (nextPiece s)))
     (sendingRefused (s .run .number))
 
 -- as many as the first head and the root chunk have, whichever has more
 unfoldable pub longestPiece : State → ℕ
 longestPiece s = max (lengthAnswer (s .run) 1 .value) (lengthAnswer (s .run) (s .count - 2) .value)
 
--- with a work buffer of `work` bytes and a buffer of `len`: 27 where the chunk is longer than the buffer, and then what `write_chunk`
--- answers in as many bytes as the chunk has
+-- with a work buffer of `work` bytes and a buffer of `len`: 27 where the piece is longer than the buffer, and then what `write_piece`
+-- answers in as many bytes as the piece has
 unfoldable pub sendNumber : State → ℕ → ℕ → ℕ
 sendNumber s work len =
     orNext (sendingWanted s .number)
-    (require wrongLength (leb (sendingWanted s .value) len) (writeNumber (s .run) (nextChunk s) (sendingWanted s .value) work))
+    (require wrongLength (leb (sendingWanted s .value) len) (writeNumber (s .run) (nextPiece s) (sendingWanted s .value) work))
 
 -- refused, and everything as it was
 abbrev pub unsent : State → ℕ → Sent
@@ -78,13 +78,13 @@ sentDef s work len =
     let n = sendNumber s work len in
     cond (eqb n 0) (record { number = 0; length = sendingWanted s .value; sending = sendingStepped s }) (unsent s n)
 
--- and leaves in a buffer that held xs: the chunk at its start, or what stood there
+-- and leaves in a buffer that held xs: the piece at its start, or what stood there
 abbrev pub bufferAfter : State → ℕ → List ℕ → List ℕ
-bufferAfter s work xs = cond (eqb (sendNumber s work (length xs)) 0) (patch 0 (chunkPiece s) xs) xs
+bufferAfter s work xs = cond (eqb (sendNumber s work (length xs)) 0) (patch 0 (pieceBytes s) xs) xs
 
--- and in a work buffer that held ws: the part that the chunk is split from
+-- and in a work buffer that held ws: the part that the piece is split from
 abbrev pub workAfter : State → ℕ → List ℕ → List ℕ
-workAfter s len ws = cond (eqb (sendNumber s (length ws) len) 0) (patch 0 (partBytes (s .run) (nextChunk s)) ws) ws
+workAfter s len ws = cond (eqb (sendNumber s (length ws) len) 0) (patch 0 (partBytes (s .run) (nextPiece s)) ws) ws
 
 -- All of a turn: what it answers, and what it leaves in both buffers. The bytes that it hands out lie inside the buffer.
 pub record Turn (s : State) (r : Sent) (work buf workLeft left : List ℕ) : Type 0 where

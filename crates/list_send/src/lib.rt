@@ -1,20 +1,20 @@
 // Sending the list of the run that input records ask for, as a state by value: a program lends buffers, writes what it is handed, and
-// counts nothing itself. Each turn puts the next chunk of the list at the start of a lent buffer.
+// counts nothing itself. Each turn puts the next piece of the list at the start of a lent buffer.
 ghost use mathlib.Core.Path.{_≡_};
-ghost use Rattle.list_send.specs.Sending.{sendingBegun, nextChunk, sendingWanted, longestPiece, unsent, sendingStepped, Turn};
+ghost use Rattle.list_send.specs.Sending.{sendingBegun, nextPiece, sendingWanted, longestPiece, unsent, sendingStepped, Turn};
 use arith::numbers::max_u64;
 use arith::numbers::minus;
 use list_lengths::Counted;
-use list_lengths::chunk_count;
-use list_lengths::chunk_length;
-use list_write::write_chunk;
+use list_lengths::piece_count;
+use list_lengths::piece_length;
+use list_write::write_piece;
 use refusals::NO_PLACE;
 use refusals::WRONG_LENGTH;
 use request::parse;
 use run::Run;
 use run::run_of;
 
-// The run whose list is sent, its device's size, how many chunks the list has, and how many of them are still to come. Only `begin` and
+// The run whose list is sent, its device's size, how many pieces the list has, and how many of them are still to come. Only `begin` and
 // `send` make one.
 pub struct Sending {
     run: Run,
@@ -23,14 +23,14 @@ pub struct Sending {
     left: u64,
 }
 
-// How many bytes at the start of the buffer are the chunk's, and what is left to send; or a refusal's number, and what was left before.
+// How many bytes at the start of the buffer are the piece's, and what is left to send; or a refusal's number, and what was left before.
 pub struct Sent {
     pub number: u32,
     pub length: usize,
     pub sending: Sending,
 }
 
-// The list of what the input records ask for, before its first chunk. Of a refused run nothing is sent.
+// The list of what the input records ask for, before its first piece. Of a refused run nothing is sent.
 pub fn begin(input: &[u8]) -> Sending
     ensures { λ r. ⌜ r ≡ sendingBegun (now (input .entry)) ⌝ }
 {
@@ -45,7 +45,7 @@ pub fn begin(input: &[u8]) -> Sending
             left: 0,
         };
     }
-    let count = chunk_count(run);
+    let count = piece_count(run);
     Sending {
         run,
         device,
@@ -54,9 +54,9 @@ pub fn begin(input: &[u8]) -> Sending
     }
 }
 
-// The chunk that comes next.
+// The piece that comes next.
 fn next_of(s: Sending) -> u64
-    ensures { λ r. ⌜ r ≡ nextChunk s ⌝ }
+    ensures { λ r. ⌜ r ≡ nextPiece s ⌝ }
 {
     minus(s.count, s.left)
 }
@@ -69,14 +69,14 @@ pub fn number_of(s: Sending) -> u32
     run.number
 }
 
-// How many chunks are still to come.
+// How many pieces are still to come.
 pub fn left_of(s: Sending) -> u64
     ensures { λ r. ⌜ r ≡ s .left ⌝ }
 {
     s.left
 }
 
-// How many bytes the next chunk has: the run's number, 29 where all are sent.
+// How many bytes the next piece has: the run's number, 29 where all are sent.
 fn wants(s: Sending) -> Counted
     ensures { λ r. ⌜ r ≡ sendingWanted s ⌝ }
 {
@@ -93,20 +93,20 @@ fn wants(s: Sending) -> Counted
             value: 0,
         };
     }
-    chunk_length(run, next_of(s))
+    piece_length(run, next_of(s))
 }
 
-// Bytes that are enough for every chunk, and for every part that a chunk is split from: those of the first head or of the root chunk, which
-// is the chunk before the last.
+// Bytes that are enough for every piece, and for every part that a piece is split from: those of the first head or of the root chunk, which
+// is the piece before the last.
 pub fn longest(s: Sending) -> u64
     ensures { λ r. ⌜ r ≡ longestPiece s ⌝ }
 {
-    let head = chunk_length(s.run, 1);
-    let root = chunk_length(s.run, minus(s.count, 2));
+    let head = piece_length(s.run, 1);
+    let root = piece_length(s.run, minus(s.count, 2));
     max_u64(head.value, root.value)
 }
 
-// With one chunk fewer to come.
+// With one piece fewer to come.
 fn stepped_on(s: Sending) -> Sending
     ensures { λ r. ⌜ r ≡ sendingStepped s ⌝ }
 {
@@ -130,7 +130,7 @@ fn unsent_by(s: Sending, number: u32) -> Sent
     }
 }
 
-// Puts the next chunk into the first bytes of the buffer. The part that it is split from is made in the first bytes of `work`. The run's
+// Puts the next piece into the first bytes of the buffer. The part that it is split from is made in the first bytes of `work`. The run's
 // number, 29 where all are sent, 27 where a buffer is too short.
 pub fn send(s: Sending, work: &mut [u8], buf: &mut [u8]) -> Sent
     ensures { λ r. ⌜ Turn s r (now (work .entry)) (now (buf .entry)) (now (work .exit)) (now (buf .exit)) ⌝ }
@@ -143,7 +143,7 @@ pub fn send(s: Sending, work: &mut [u8], buf: &mut [u8]) -> Sent
     if buf.len() < n {
         return unsent_by(s, WRONG_LENGTH);
     }
-    let number = write_chunk(s.run, s.device, next_of(s), work, &mut buf[0..0 + n]);
+    let number = write_piece(s.run, s.device, next_of(s), work, &mut buf[0..0 + n]);
     if number != 0 {
         return unsent_by(s, number);
     }

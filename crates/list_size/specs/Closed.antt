@@ -5,7 +5,7 @@ use Rattle.geometry.specs.declared.Geometry.{Geometry}
 use Rattle.list_spec.specs.Listing.{blockCount}
 use Rattle.list_size.specs.declared.ListSize.{ListSize}
 
--- no list has more blocks: 2^32 − 2 groups with heads of 10, a chunk of 32, 4 header blocks, and the log's first
+-- no list has more blocks: 2^32 − 2 groups with heads of 10, a piece of 32, 4 header blocks, and the log's first
 abbrev pub mostBlocks : ℕ
 mostBlocks = 42949672977
 
@@ -13,6 +13,6 @@ mostBlocks = 42949672977
 abbrev pub closedOf : ℕ → ℕ → ListSize
 closedOf w bs = record { number = 0; records = w + 5; bytes = 58 + w * (18 + bs); payload = w * bs }
 
--- w is 1 + groups × head + chunk + header blocks
+-- w is 1 + groups × head + piece + header blocks
 abbrev pub closedSize : Geometry → ListSize
 closedSize g = closedOf (blockCount g) (g .blocksize)

@@ -17,7 +17,7 @@ use Rattle.list_size.specs.Closed.{closedSize}
 abbrev pub sentFor : List ℕ → ℕ → List ℕ → List ℕ
 sentFor xs work ys = handed (sendingBegun xs .left) (sendingBegun xs) work ys
 
--- both are long enough for the longest chunk
+-- both are long enough for the longest piece
 abbrev pub Enough : List ℕ → ℕ → List ℕ → Type 0
 Enough xs work ys = (longestPiece (sendingBegun xs) ≤ work) × (longestPiece (sendingBegun xs) ≤ length ys)
 
@@ -29,9 +29,9 @@ pub record Announced (xs : List ℕ) : Type 0 where
   pub whole : (work : ℕ) (ys : List ℕ) → Enough xs work ys → readList (sentFor xs work ys) .number ≡ 0
   pub records : (work : ℕ) (ys : List ℕ) → Enough xs work ys → inputSize xs .records ≡ length (readList (sentFor xs work ys) .records)
   pub payload : (work : ℕ) (ys : List ℕ) → Enough xs work ys → inputSize xs .payload ≡ carriedBy (readList (sentFor xs work ys) .records)
-  -- the chunks that `write_chunk` makes have as many bytes together
+  -- the pieces that `write_piece` makes have as many bytes together
   pub chunks : inputSize xs .bytes ≡ length (sentAll (accepted xs) (parseDef xs .device))
-  -- the three in closed form: w + 5, 58 + w × (18 + block size), w × block size, for 1 + groups × head + chunk + header blocks; below 2^50
+  -- the three in closed form: w + 5, 58 + w × (18 + block size), w × block size, for 1 + groups × head + piece + header blocks; below 2^50
   pub closed : inputSize xs ≡ closedSize (accepted xs .geometry)
   pub small : inputSize xs .bytes < 2 ^ 50
 

@@ -1,5 +1,5 @@
 pub mod Counts
-pub mod Chunks
+pub mod Pieces
 pub mod Whole
 pub mod Example
 pub mod Spans

@@ -114,19 +114,19 @@ listOf run device = opening run device ++ (headsTo run (run .geometry .agcount) 
 
 -- ---- the same by its chunks: opening, one head for each group, root chunk, closing
 
-unfoldable pub chunkCount : Run → ℕ
-chunkCount run = run .geometry .agcount + 3
+unfoldable pub pieceCount : Run → ℕ
+pieceCount run = run .geometry .agcount + 3
 
-unfoldable pub listChunk : Run → ℕ → ℕ → List Record
-listChunk run device k =
+unfoldable pub listPiece : Run → ℕ → ℕ → List Record
+listPiece run device k =
     cond (eqb k 0) (opening run device)
     (cond (leb k (run .geometry .agcount)) (headRecords run (k - 1))
     (cond (eqb k (run .geometry .agcount + 1)) (chunkRecords run) (closing run)))
 
 -- the first n chunks, one after the other
-unfoldable pub chunksTo : Run → ℕ → ℕ → List Record
-chunksTo run device zero = []
-chunksTo run device (suc n) = chunksTo run device n ++ listChunk run device n
+unfoldable pub piecesTo : Run → ℕ → ℕ → List Record
+piecesTo run device zero = []
+piecesTo run device (suc n) = piecesTo run device n ++ listPiece run device n
 
 -- ---- how many records
 

@@ -1,4 +1,4 @@
--- The part that a chunk is split from, in the first bytes of the work buffer.
+-- The part that a piece is split from, in the first bytes of the work buffer.
 -- Assumes nothing.
 use mathlib.Core.Path.{_≡_, ap, _∙_}
 use mathlib.Core.List.{List}

@@ -1,4 +1,4 @@
--- A run's list written chunk by chunk: the bytes that each chunk is split from, and the code's parts.
+-- A run's list written piece by piece: the bytes that each piece is split from, and the code's parts.
 -- Assumes nothing.
 use mathlib.Core.Bool.{cond}
 use mathlib.Core.List.{List, _++_}
@@ -11,7 +11,7 @@ use Rattle.geometry_places.specs.Answers.{rootChunk}
 use Rattle.chunk.specs.Chunk.{chunkBytes}
 use Rattle.list_spec.specs.Listing.{whackSize, blocksEnd, tailStart, logBlock, headWritten, headFinished}
 
--- the part that chunk k is split from: the log's first block, a head, the root chunk, and the head of group 0 with the finished superblock
+-- the part that piece k is split from: the log's first block, a head, the root chunk, and the head of group 0 with the finished superblock
 unfoldable pub partBytes : Run → ℕ → List ℕ
 partBytes run k =
     cond (eqb k 0) (logBlock (run .geometry) (run .uuid))

@@ -1,11 +1,11 @@
-// The part that each chunk is split from.
+// The part that each piece is split from.
 ghost use mathlib.Core.Path.{_≡_};
 ghost use Prim.Native.Nat.{_+_, _*_, _<_};
 ghost use lib.ListN.{length};
 ghost use Rattle.geometry_places.specs.Answers.{rootChunk};
 ghost use Rattle.chunk.specs.Chunk.{chunkBytes};
 ghost use Rattle.list_spec.specs.Listing.{chunkBlocks};
-ghost use Rattle.list_lengths.specs.Chunks.{partLength, formatNumber};
+ghost use Rattle.list_lengths.specs.Pieces.{partLength, formatNumber};
 ghost use Rattle.list_write.specs.Writing.{partBytes};
 use chunk::root_chunk;
 use geometry_counts::inodes::root_chunk_of;
@@ -25,7 +25,7 @@ fn make_root(run: Run, work: &mut [u8])
     root_chunk(g, at, &uuid, run.time, run.seed, work);
 }
 
-// The part of chunk k: the log's first block, a head, the root chunk, or group 0's head with the finished superblock.
+// The part of piece k: the log's first block, a head, the root chunk, or group 0's head with the finished superblock.
 pub(crate) fn make_part(run: Run, k: u64, work: &mut [u8])
     requires { ⌜ (formatNumber run ≡ 0) × (k < run .geometry .agcount + 3) × (length (now work) ≡ partLength (run .geometry) k) ⌝ }
     ensures { λ _. ⌜ now (work .exit) ≡ partBytes run k ⌝ }

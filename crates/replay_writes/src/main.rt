@@ -27,7 +27,7 @@ struct Sum {
     register: u32,
 }
 
-// Room for the longest chunk: a head of 10 blocks of 16,384 bytes, each with the 18 bytes before it.
+// Room for the longest piece: a head of 10 blocks of 16,384 bytes, each with the 18 bytes before it.
 fn chunk_buffer() -> [u8; 164020]
     ensures { λ r. ⌜ 164020 ≡ length r ⌝ }
 {
@@ -41,10 +41,10 @@ fn work_room() -> [u8; 163840]
     [0; 163840]
 }
 
-// Chunk k in a buffer of its length, added to what was written.
+// Piece k in a buffer of its length, added to what was written.
 fn add_chunk(run: Run, device: u64, k: u64, whole: bool, s: Sum, part: &mut [u8]) -> Sum {
     let mut work = work_room();
-    let number = list_write::write_chunk(run, device, k, &mut work, part);
+    let number = list_write::write_piece(run, device, k, &mut work, part);
     if whole {
         io::write_all(STDOUT_FILENO, part);
     }
@@ -55,9 +55,9 @@ fn add_chunk(run: Run, device: u64, k: u64, whole: bool, s: Sum, part: &mut [u8]
     }
 }
 
-// The next chunk; a chunk that has no room is refused.
+// The next piece; a piece that has no room is refused.
 fn next_chunk(run: Run, device: u64, k: u64, whole: bool, s: Sum, buf: &mut [u8]) -> Sum {
-    let length = list_lengths::chunk_length(run, k);
+    let length = list_lengths::piece_length(run, k);
     let n = length.value as usize;
     if n <= buf.len() {
         return add_chunk(run, device, k, whole, s, &mut buf[0..n]);
@@ -69,9 +69,9 @@ fn next_chunk(run: Run, device: u64, k: u64, whole: bool, s: Sum, buf: &mut [u8]
     }
 }
 
-// All chunks, or those before the first that is refused.
+// All pieces, or those before the first that is refused.
 fn all_chunks(run: Run, device: u64, whole: bool, buf: &mut [u8]) -> Sum {
-    let count = list_lengths::chunk_count(run);
+    let count = list_lengths::piece_count(run);
     let n = count.value;
     let mut s = Sum {
         number: 0,

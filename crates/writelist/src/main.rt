@@ -15,7 +15,7 @@ use list_send::longest;
 use list_send::number_of;
 use list_send::send;
 
-// Bytes of ten blocks of 4096 bytes, each with the 18 bytes before it: enough for the chunks and parts of most disks.
+// Bytes of ten blocks of 4096 bytes, each with the 18 bytes before it: enough for the pieces and parts of most disks.
 const FEW: usize = 41140;
 
 fn few_bytes() -> [u8; 41140]
@@ -24,7 +24,7 @@ fn few_bytes() -> [u8; 41140]
     [0; 41140]
 }
 
-// Enough for the longest chunk: a head of 10 blocks of 16,384 bytes, each with the 18 bytes before it.
+// Enough for the longest piece: a head of 10 blocks of 16,384 bytes, each with the 18 bytes before it.
 fn most_bytes() -> [u8; 164020]
     ensures { λ r. ⌜ 164020 ≡ length r ⌝ }
 {
@@ -45,7 +45,7 @@ struct Turn {
     written: bool,
 }
 
-// Takes the next chunk and writes it.
+// Takes the next piece and writes it.
 fn take_turn(s: Sending, work: &mut [u8], buf: &mut [u8]) -> Turn
     ensures { λ r. ⌜ r .sending ≡ sentDef s (length (now (work .entry))) (length (now (buf .entry))) .sending ⌝ }
 {
@@ -61,7 +61,7 @@ fn take_turn(s: Sending, work: &mut [u8], buf: &mut [u8]) -> Turn
     Turn { sending, written }
 }
 
-// Writes all chunks; where a write fails, nothing more is written. Where none fails, as many turns were taken as there are chunks.
+// Writes all pieces; where a write fails, nothing more is written. Where none fails, as many turns were taken as there are pieces.
 fn write_list(first: Sending, work: &mut [u8], buf: &mut [u8]) -> Turn
     ensures { λ r. ⌜ (r .written ≡ true → r .sending ≡ allSent first (now (work .entry)) (now (buf .entry))) ⌝ }
 {

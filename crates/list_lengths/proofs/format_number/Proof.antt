@@ -1,7 +1,7 @@
 -- `list_lengths::format_number` meets its contract.
 -- Assumes nothing.
 use Rattle.group_bytes.proofs.Accepted.{or-first, or-second}
-use Rattle.list_lengths.specs.Chunks.{formatNumber}
+use Rattle.list_lengths.specs.Pieces.{formatNumber}
 use Rattle.run.specs.Runs.{timeRefusal}
 use mathlib.Core.Path.{sym, _∙_}
 use borrow.Author.Needs.{needs}

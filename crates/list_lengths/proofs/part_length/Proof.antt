@@ -1,7 +1,7 @@
 -- `list_lengths::part_length` meets its contract.
 -- Assumes nothing.
 use Rattle.list_lengths.proofs.Numbers.{count-refused, count-given}
-use Rattle.list_lengths.specs.Chunks.{partLength, partAnswer, countedAs}
+use Rattle.list_lengths.specs.Pieces.{partLength, partAnswer, countedAs}
 use Prim.Native.Nat.{ℕ}
 use mathlib.Core.Path.{ap, _∙_}
 use borrow.Author.Needs.{needs}

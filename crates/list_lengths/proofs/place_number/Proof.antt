@@ -2,14 +2,14 @@
 -- Assumes nothing.
 use Rattle.group_bytes.proofs.Accepted.{or-first}
 use Rattle.list_lengths.proofs.Numbers.{place-there, place-none}
-use Rattle.list_lengths.specs.Chunks.{listChunkNumber}
+use Rattle.list_lengths.specs.Pieces.{pieceNumber}
 use mathlib.Core.Path.{sym, _∙_}
 use borrow.Author.Needs.{needs}
 use Rattle.list_lengths.proofs.place_number.Statement.{statement}
 use Rattle.list_lengths.proofs.place_number.Tie as tie
 
 returns : tie.Need-returns
-unfolding listChunkNumber
+unfolding pieceNumber
 returns c = or-first _ _ _ (c .before .format-number .ensures) (c .if1 .taken)
 
 returns-2 : tie.Need-returns-2

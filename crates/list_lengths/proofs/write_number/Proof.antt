@@ -2,7 +2,7 @@
 -- Assumes nothing.
 use Rattle.group_bytes.proofs.Accepted.{or-first}
 use Rattle.list_lengths.proofs.Numbers.{write-fits, write-other, write-narrow}
-use Rattle.list_lengths.specs.Chunks.{writeNumber}
+use Rattle.list_lengths.specs.Pieces.{writeNumber}
 use mathlib.Core.Path.{sym, _∙_}
 use native.Mathlib.Omega.{arith}
 use borrow.Author.Needs.{needs}

@@ -9,7 +9,7 @@ returns : tie.Need-returns
 returns c = let r = c .before .before in begin-refused _ _ _ (r .before .parse .ensures) (r .run-of .ensures) (c .if1 .taken)
 
 returns-2 : tie.Need-returns-2
-returns-2 c = let r = c .before .before .before in begin-ready _ _ _ (r .before .parse .ensures) (r .run-of .ensures) _ (c .before .if1 .left) (c .chunk-count .ensures)
+returns-2 c = let r = c .before .before .before in begin-ready _ _ _ (r .before .parse .ensures) (r .run-of .ensures) _ (c .before .if1 .left) (c .piece-count .ensures)
 
 pub begin-spec : {M : Type 1} → statement M
 begin-spec =

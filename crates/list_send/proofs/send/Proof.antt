@@ -23,14 +23,14 @@ returns-3 c =
     let k = c .before .before .before .before .before .before in
     let n = k .before .before .before in
     let w = n .before .before .before .before in
-    chunk-refused _ _ _ _ (w .wants .ensures) (n .before .before .if1 .left) (omega arith) _ _ (n .next-of .ensures) _ _ (k .write-chunk .ensures .0) (k .write-chunk .ensures .1) _ (c .unsent-by3 .ensures) (c .before .if3 .taken)
+    chunk-refused _ _ _ _ (w .wants .ensures) (n .before .before .if1 .left) (omega arith) _ _ (n .next-of .ensures) _ _ (k .write-piece .ensures .0) (k .write-piece .ensures .1) _ (c .unsent-by3 .ensures) (c .before .if3 .taken)
 
 returns-4 : tie.Need-returns-4
 returns-4 c =
     let k = c .before .before .before .before .before .before in
     let n = k .before .before .before in
     let w = n .before .before .before .before in
-    chunk-sent _ _ _ _ (w .wants .ensures) (n .before .before .if1 .left) (omega arith) _ _ (n .next-of .ensures) _ _ (k .write-chunk .ensures .0) (k .write-chunk .ensures .1) _ (c .stepped-on .ensures) (c .before .if3 .left) (k .write-chunk .kept .1 .1 .1 .1 .0)
+    chunk-sent _ _ _ _ (w .wants .ensures) (n .before .before .if1 .left) (omega arith) _ _ (n .next-of .ensures) _ _ (k .write-piece .ensures .0) (k .write-piece .ensures .1) _ (c .stepped-on .ensures) (c .before .if3 .left) (k .write-piece .kept .1 .1 .1 .1 .0)
 
 pub send-spec : {M : Type 1} → statement M
 send-spec =

@@ -14,7 +14,7 @@ returns-2 c = wants-none _ (c .before .before .if1 .left) (c .if2 .taken)
 returns-3 : tie.Need-returns-3
 returns-3 c =
     let e = c .before .before in
-    wants-chunk _ _ _ (e .before .before .if1 .left) (e .if2 .left) (c .before .next-of .ensures) (c .chunk-length .ensures)
+    wants-chunk _ _ _ (e .before .before .if1 .left) (e .if2 .left) (c .before .next-of .ensures) (c .piece-length .ensures)
 
 pub wants-spec : {M : Type 1} → statement M
 wants-spec =

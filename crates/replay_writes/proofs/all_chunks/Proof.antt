@@ -1,4 +1,4 @@
--- `replay_writes::all_chunks` meets its contract. Invariant: at most n chunks are left, and the buffer keeps its length.
+-- `replay_writes::all_chunks` meets its contract. Invariant: at most n pieces are left, and the buffer keeps its length.
 -- Assumes nothing.
 use borrow.Author.Needs.{needs}
 use mathlib.Core.Path.{_≡_, refl}

@@ -6,7 +6,7 @@ use native.Mathlib.Omega.{arith}
 use lib.ListN.{length}
 use Rattle.list_lengths.proofs.Which.{opening-size, root-size, head-size}
 use Rattle.plan_totals.specs.Totals.{plansNumber}
-use Rattle.list_lengths.specs.Chunks.{sizesIn}
+use Rattle.list_lengths.specs.Pieces.{sizesIn}
 use Rattle.list_lengths.proofs.Numbers.{format-zero}
 use Rattle.list_write.proofs.Accepted.{log-made, group-made, finished-made}
 use Rattle.list_write.proofs.Which.{one-less, opening-part, group-part, root-part, closing-part}

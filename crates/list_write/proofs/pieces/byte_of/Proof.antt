@@ -1,10 +1,10 @@
--- `list_write::chunks::byte_of` meets its contract.
+-- `list_write::pieces::byte_of` meets its contract.
 -- Assumes nothing.
 use Rattle.geometry_layout.specs.Places.{byteOf, diskBlocksBefore}
 use mathlib.Core.Path.{refl}
 use borrow.Author.Needs.{needs}
-use Rattle.list_write.proofs.chunks.byte_of.Statement.{statement}
-use Rattle.list_write.proofs.chunks.byte_of.Tie as tie
+use Rattle.list_write.proofs.pieces.byte_of.Statement.{statement}
+use Rattle.list_write.proofs.pieces.byte_of.Tie as tie
 
 returns : tie.Need-returns
 unfolding byteOf diskBlocksBefore

@@ -1,4 +1,4 @@
-// The records of each chunk.
+// The records of each piece.
 ghost use mathlib.Core.Path.{_≡_};
 ghost use mathlib.Core.List.{_++_};
 ghost use Prim.Native.Nat.{_+_, _*_, _<_, _≤_, _^_};
@@ -6,9 +6,9 @@ ghost use lib.ListN.{length};
 ghost use Rattle.endian.specs.Bytes.{patch};
 ghost use Rattle.geometry_layout.specs.Places.{byteOf};
 ghost use Rattle.list_records.specs.Records.{WB, FL, recordBytes, listBytes, blockRecords};
-ghost use Rattle.list_spec.specs.Listing.{listChunk};
+ghost use Rattle.list_spec.specs.Listing.{listPiece};
 ghost use Rattle.list_lengths.specs.Lengths.{flushSize, recordHeadSize, blocksLength};
-ghost use Rattle.list_lengths.specs.Chunks.{listedLength, partLength, formatNumber};
+ghost use Rattle.list_lengths.specs.Pieces.{listedLength, partLength, formatNumber};
 ghost use Rattle.list_write.specs.Writing.{partBytes, zeroHeads};
 use crate::split::put_block;
 use crate::split::put_blocks;
@@ -68,11 +68,11 @@ fn put_closing(bs: usize, n: usize, part: &[u8], buf: &mut [u8])
     endian::put16(buf, 0, FLUSH_MARK);
 }
 
-// The records of chunk k, from its part.
-pub(crate) fn put_chunk(run: Run, device: u64, k: u64, part: &[u8], buf: &mut [u8])
+// The records of piece k, from its part.
+pub(crate) fn put_piece(run: Run, device: u64, k: u64, part: &[u8], buf: &mut [u8])
     requires { ⌜ (formatNumber run ≡ 0) × (k < run .geometry .agcount + 3) × (now part ≡ partBytes run k)
         × (length (now part) ≡ partLength (run .geometry) k) × (length (now buf) ≡ listedLength (run .geometry) k) ⌝ }
-    ensures { λ _. ⌜ now (buf .exit) ≡ listBytes (listChunk run device k) ⌝ }
+    ensures { λ _. ⌜ now (buf .exit) ≡ listBytes (listPiece run device k) ⌝ }
 {
     let g = run.geometry;
     let s = sizes_of(g.features, g.sectsize, g.inodesize, g.blocksize);

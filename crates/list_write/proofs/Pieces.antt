@@ -1,4 +1,4 @@
--- The records of each chunk, one after the other over a buffer of the chunk's length.
+-- The records of each piece, one after the other over a buffer of the piece's length.
 -- Assumes nothing.
 use mathlib.Core.Path.{_≡_, refl, sym, ap, _∙_}
 use mathlib.Core.List.{List, [], _∷_, _++_, append-assoc, append-nil}
@@ -17,10 +17,10 @@ use Rattle.geometry_layout.specs.Places.{byteOf, diskBlocksBefore}
 use Rattle.geometry_places.specs.Answers.{rootChunk}
 use Rattle.list_records.specs.Records.{Record, WZ, WB, FL, recordBytes, listBytes, blockRecords}
 use Rattle.run.specs.declared.Run.{Run}
-use Rattle.list_spec.specs.Listing.{blocksEnd, tailStart, logOffset, logBlock, headBlocks, headerBlocks, chunkBlocks, headFinished, opening, headRecords, chunkRecords, closing, listChunk}
+use Rattle.list_spec.specs.Listing.{blocksEnd, tailStart, logOffset, logBlock, headBlocks, headerBlocks, chunkBlocks, headFinished, opening, headRecords, chunkRecords, closing, listPiece}
 use Rattle.list_lengths.specs.Lengths.{blocksLength}
 use Rattle.list_lengths.proofs.Which.{group-length, root-length, head-size, root-size}
-use Rattle.list_lengths.specs.Chunks.{sizesIn, listedLength, partLength}
+use Rattle.list_lengths.specs.Pieces.{sizesIn, listedLength, partLength}
 use Rattle.list_write.specs.Writing.{partBytes, recordHead, zeroHeads}
 use Rattle.group_bytes.proofs.Accepted.{size-least, size-most}
 use Rattle.list_write.proofs.Which.{opening-chunk, group-chunk, root-chunk, closing-chunk, opening-part, group-part, root-part, closing-part}
@@ -85,7 +85,7 @@ module _ (run : Run) (device : ℕ) where
   opening-is = simp (append-assoc, append-nil) refl
 
   pub opening-done : (bs at n k : ℕ) (block zs : List ℕ) → k ≡ 0 → bs ≡ run .geometry .blocksize → at ≡ byteOf bs (run .geometry .agsize) (run .geometry .logagno) (run .geometry .«log_agbno») → n ≡ run .geometry .logblocks * bs
-      → block ≡ partBytes run k → zs ≡ zeroHeads bs device at n ++ recordBytes (WB at block) → zs ≡ listBytes (listChunk run device k)
+      → block ≡ partBytes run k → zs ≡ zeroHeads bs device at n ++ recordBytes (WB at block) → zs ≡ listBytes (listPiece run device k)
   unfolding logOffset
   opening-done bs at n k block zs h b a m p e =
       e ∙ rw (m, p, opening-part run k h, a, b) (sym opening-is) ∙ ap (λ (r : List Record). listBytes r) (sym (opening-chunk run device k h))
@@ -98,7 +98,7 @@ blocks-done bs offset n src xs ys h l e = e ∙ patch-whole (listBytes (blockRec
 module _ (run : Run) (device : ℕ) where
   pub group-done : (bs at n k : ℕ) (src xs ys : List ℕ) → (k ≡ 0 → ⊥) → k ≤ run .geometry .agcount → bs ≡ run .geometry .blocksize → n ≡ headBlocks (run .geometry) → at ≡ byteOf bs (run .geometry .agsize) (k - 1) 0
       → src ≡ partBytes run k → length src ≡ partLength (run .geometry) k → length xs ≡ listedLength (run .geometry) k
-      → ys ≡ patch 0 (listBytes (blockRecords bs at n src)) xs → ys ≡ listBytes (listChunk run device k)
+      → ys ≡ patch 0 (listBytes (blockRecords bs at n src)) xs → ys ≡ listBytes (listPiece run device k)
   unfolding headRecords
   group-done bs at n k src xs ys z h b m a s l lx e =
       let g = run .geometry in
@@ -109,7 +109,7 @@ module _ (run : Run) (device : ℕ) where
 
   pub root-done : (bs at block n k : ℕ) (src xs ys : List ℕ) → run .geometry .agcount < k → k - 1 ≡ run .geometry .agcount → bs ≡ run .geometry .blocksize → n ≡ chunkBlocks (run .geometry) → block ≡ rootChunk (run .geometry)
       → at ≡ byteOf bs (run .geometry .agsize) 0 block → src ≡ partBytes run k → length src ≡ partLength (run .geometry) k → length xs ≡ listedLength (run .geometry) k
-      → ys ≡ patch 0 (listBytes (blockRecords bs at n src)) xs → ys ≡ listBytes (listChunk run device k)
+      → ys ≡ patch 0 (listBytes (blockRecords bs at n src)) xs → ys ≡ listBytes (listPiece run device k)
   unfolding chunkRecords
   root-done bs at block n k src xs ys z h b m r a s l lx e =
       let g = run .geometry in
@@ -125,7 +125,7 @@ module _ (run : Run) (device : ℕ) where
   closing-is = ap (λ (l : List ℕ). recordBytes FL ++ l) (list-append (blockRecords (run .geometry .blocksize) 0 (headerBlocks (run .geometry)) (headFinished (run .geometry) (run .uuid))) (FL ∷ []) ∙ rw append-nil refl)
 
   pub closing-done : (bs n k : ℕ) (src ws : List ℕ) → run .geometry .agcount < k → (k - 1 ≡ run .geometry .agcount → ⊥) → bs ≡ run .geometry .blocksize → n ≡ headerBlocks (run .geometry) → src ≡ partBytes run k
-      → ws ≡ recordBytes FL ++ (listBytes (blockRecords bs 0 n src) ++ recordBytes FL) → ws ≡ listBytes (listChunk run device k)
+      → ws ≡ recordBytes FL ++ (listBytes (blockRecords bs 0 n src) ++ recordBytes FL) → ws ≡ listBytes (listPiece run device k)
   closing-done bs n k src ws z h b m s e =
       e ∙ rw (s, closing-part run k z h, m, b) (sym closing-is) ∙ ap (λ (r : List Record). listBytes r) (sym (closing-chunk run device k z h))
 

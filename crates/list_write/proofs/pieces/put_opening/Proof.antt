@@ -1,10 +1,10 @@
--- `list_write::chunks::put_opening` meets its contract.
+-- `list_write::pieces::put_opening` meets its contract.
 -- Assumes nothing.
-use Rattle.list_write.proofs.Chunking.{opening-whole}
+use Rattle.list_write.proofs.Pieces.{opening-whole}
 use native.Mathlib.Omega.{arith}
 use borrow.Author.Needs.{needs}
-use Rattle.list_write.proofs.chunks.put_opening.Statement.{statement}
-use Rattle.list_write.proofs.chunks.put_opening.Tie as tie
+use Rattle.list_write.proofs.pieces.put_opening.Statement.{statement}
+use Rattle.list_write.proofs.pieces.put_opening.Tie as tie
 
 put-zeros-requires : tie.Need-put-zeros-requires
 put-zeros-requires c κs = omega (arith, c .before .before .before .before .before .before .before .pre, c .before .before .before .put-block .kept .1 .1 .1 .0)

@@ -1,4 +1,4 @@
--- `list_write::chunks::put_chunk` meets its contract.
+-- `list_write::pieces::put_piece` meets its contract.
 -- Assumes nothing.
 use Prim.Native.Nat.{_+_, _-_}
 use mathlib.Core.Path.{_≡_, refl, ap, _∙_}
@@ -10,15 +10,15 @@ use Rattle.list_spec.specs.Listing.{headBlocks, headerBlocks, chunkBlocks}
 use Rattle.list_lengths.specs.declared.parts.Sizes.{Sizes}
 use Rattle.list_lengths.specs.Lengths.{blocksLength}
 use Rattle.list_lengths.proofs.Which.{opening-length, group-length, root-length, closing-length, opening-size, root-size, head-size}
-use Rattle.list_lengths.specs.Chunks.{sizesIn}
+use Rattle.list_lengths.specs.Pieces.{sizesIn}
 use Rattle.list_lengths.proofs.Numbers.{format-zero}
 use Rattle.group_bytes.proofs.Accepted.{bounded}
 use Rattle.list_write.proofs.Which.{one-less}
 use Rattle.list_write.proofs.Accepted.{group-room}
-use Rattle.list_write.proofs.Chunking.{log-place, log-bytes, root-few, blocks-room, closing-room, opening-done, group-done, root-done, closing-done}
+use Rattle.list_write.proofs.Pieces.{log-place, log-bytes, root-few, blocks-room, closing-room, opening-done, group-done, root-done, closing-done}
 use borrow.Author.Needs.{needs}
-use Rattle.list_write.proofs.chunks.put_chunk.Statement.{statement}
-use Rattle.list_write.proofs.chunks.put_chunk.Tie as tie
+use Rattle.list_write.proofs.pieces.put_piece.Statement.{statement}
+use Rattle.list_write.proofs.pieces.put_piece.Tie as tie
 
 label : (s : tie.Start) → length (s .args .run .geometry .label) ≡ 12
 label s = search needs
@@ -135,8 +135,8 @@ returns-4 c =
     let e = c .before .before .before .before .before .before .before .before .before .sizes-of .ensures in
     closing-done (s .args .run) (s .args .device) _ _ (s .args .k) _ _ (c .before .before .before .before .before .before .if2 .left) (c .before .before .before .before .if3 .left) (block-is s e) (header-is s e) (s .pre .2) (c .before .before .put-closing .ensures)
 
-pub put-chunk-spec : {M : Type 1} → statement M
-put-chunk-spec =
+pub put-piece-spec : {M : Type 1} → statement M
+put-piece-spec =
     tie.close
     (tie.spec
     (λ c κs. tt) byte-of-requires mul-put-opening put-opening-requires (λ c. search needs) returns

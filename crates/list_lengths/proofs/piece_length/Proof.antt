@@ -1,12 +1,12 @@
--- `list_lengths::chunk_length` meets its contract.
+-- `list_lengths::piece_length` meets its contract.
 -- Assumes nothing.
 use Rattle.list_lengths.proofs.Numbers.{count-refused, count-given}
-use Rattle.list_lengths.specs.Chunks.{listedLength, lengthAnswer, countedAs}
+use Rattle.list_lengths.specs.Pieces.{listedLength, lengthAnswer, countedAs}
 use Prim.Native.Nat.{ℕ}
 use mathlib.Core.Path.{ap, _∙_}
 use borrow.Author.Needs.{needs}
-use Rattle.list_lengths.proofs.chunk_length.Statement.{statement}
-use Rattle.list_lengths.proofs.chunk_length.Tie as tie
+use Rattle.list_lengths.proofs.piece_length.Statement.{statement}
+use Rattle.list_lengths.proofs.piece_length.Tie as tie
 
 returns : tie.Need-returns
 unfolding lengthAnswer
@@ -19,8 +19,8 @@ returns-2 : tie.Need-returns-2
 unfolding lengthAnswer
 returns-2 c = count-given _ _ _ _ (c .before .before .place-number .ensures) (c .before .if1 .left) (c .listed-length .ensures)
 
-pub chunk-length-spec : {M : Type 1} → statement M
-chunk-length-spec =
+pub piece-length-spec : {M : Type 1} → statement M
+piece-length-spec =
     tie.close
     (tie.spec
     (λ c κs. search needs) (λ c κs. search needs) returns (λ c κs. tt) returns-2)

@@ -1,12 +1,12 @@
--- `list_write::chunks::put_closing` meets its contract.
+-- `list_write::pieces::put_closing` meets its contract.
 -- Assumes nothing.
 use Rattle.list_lengths.specs.Lengths.{blocksLength}
-use Rattle.list_write.proofs.Chunking.{closing-whole}
+use Rattle.list_write.proofs.Pieces.{closing-whole}
 use mathlib.Core.Path.{refl}
 use native.Mathlib.Omega.{arith}
 use borrow.Author.Needs.{needs}
-use Rattle.list_write.proofs.chunks.put_closing.Statement.{statement}
-use Rattle.list_write.proofs.chunks.put_closing.Tie as tie
+use Rattle.list_write.proofs.pieces.put_closing.Statement.{statement}
+use Rattle.list_write.proofs.pieces.put_closing.Tie as tie
 
 sub-end : tie.Need-sub-end
 sub-end c = omega (arith, c .before .before .pre .3)

@@ -1,9 +1,9 @@
--- `list_write::chunks::put_zeros` meets its contract.
+-- `list_write::pieces::put_zeros` meets its contract.
 -- Assumes nothing.
-use Rattle.list_write.proofs.Chunking.{zeros-done}
+use Rattle.list_write.proofs.Pieces.{zeros-done}
 use borrow.Author.Needs.{needs}
-use Rattle.list_write.proofs.chunks.put_zeros.Statement.{statement}
-use Rattle.list_write.proofs.chunks.put_zeros.Tie as tie
+use Rattle.list_write.proofs.pieces.put_zeros.Statement.{statement}
+use Rattle.list_write.proofs.pieces.put_zeros.Tie as tie
 
 returns : tie.Need-returns
 returns c = zeros-done _ _ _ _ _ _ _ _ _ _ _ _ _ (c .before .before .before .before .before .before .before .before .before .before .before .before .before .before .before .before .round-down .ensures) (c .before .before .before .before .before .before .before .before .before .before .before .before .before .before .before .minus .ensures) (c .before .before .before .before .before .before .before .before .before .before .before .before .before .before .round-down2 .ensures) (c .before .before .before .before .before .before .before .before .before .minus2 .ensures) (c .before .before .before .before .min-u64 .ensures) (c .before .before .before .before .before .before .before .before .before .before .before .before .put-head .ensures) (c .before .before .before .before .before .before .before .put-head2 .ensures) (c .before .before .put-head3 .ensures)
