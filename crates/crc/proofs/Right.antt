@@ -12,7 +12,7 @@ use lib.ListN.{length, getD, take, drop, length-drop}
 use lib.Seq.{length-take-le, ext-getD, getD-take, getD-drop}
 use borrow.Author.Tests.{le-leb, eq-eqb, eqb-true, leb-true}
 use Rattle.endian.specs.Answer.{room, valued, Put}
-use Rattle.endian.specs.Bytes.{patch}
+use Rattle.endian.specs.Bytes.{patch, Octets}
 use Rattle.endian.specs.Fields.{Field, Span, writeFields, part, spans, clear}
 use Rattle.endian.proofs.Fields.{write-clear, write-length}
 use Rattle.endian.proofs.Laws.{refused-by, done-by, put-in}
@@ -20,7 +20,7 @@ use Rattle.endian_little.specs.Bytes.{leBytes, leAt}
 use Rattle.endian_little.proofs.Laws.{le-part}
 use Rattle.crc.specs.Crc.{cksumOf, stamped, verified}
 use Rattle.crc.specs.Right.{storedAt, alreadyRight, spaced}
-use Rattle.crc.specs.Means.{SameSums, Inside, Bytes}
+use Rattle.crc.specs.Means.{SameSums, Inside}
 use Rattle.crc.proofs.Laws.{length-stamped, sum-stands}
 
 pub and-true : (b : Bool) → b && true ≡ b
@@ -97,7 +97,7 @@ same-digits (suc n) off xs ys h k e (suc i) l =
 part-size : (off : ℕ) (xs : List ℕ) → off + 4 ≤ length xs → length (part off 4 xs) ≡ 4
 part-size off xs h = length-take-le 4 (drop off xs) (omega (arith, length-drop off xs))
 
-same-part : (off : ℕ) (xs ys : List ℕ) → Bytes xs → Bytes ys → off + 4 ≤ length xs → off + 4 ≤ length ys → storedAt off xs ≡ storedAt off ys → part off 4 xs ≡ part off 4 ys
+same-part : (off : ℕ) (xs ys : List ℕ) → Octets xs → Octets ys → off + 4 ≤ length xs → off + 4 ≤ length ys → storedAt off xs ≡ storedAt off ys → part off 4 xs ≡ part off 4 ys
 same-part off xs ys bx by lx ly e =
     let d = same-digits 4 off xs ys bx by (sym (stored-in off xs lx) ∙ e ∙ stored-in off ys ly) in
     let sx = part-size off xs lx in
@@ -110,7 +110,7 @@ and-both true b e = (refl, e)
 and-both false b e = absurd (let z : _≡_ {A = ℕ} 0 1 = cc in omega arith)
 
 -- Yes exactly where the checksum bytes before are those after, at every place.
-pub right-bytes : (places before after : List ℕ) → Bytes before → Bytes after → length after ≡ length before → Inside places (length before)
+pub right-bytes : (places before after : List ℕ) → Octets before → Octets after → length after ≡ length before → Inside places (length before)
     → alreadyRight places before after ≡ true → SameSums places before after
 unfolding alreadyRight
 right-bytes [] before after b c l i e = tt

@@ -3,14 +3,9 @@
 use mathlib.Core.Path.{_≡_}
 use mathlib.Core.Bool.{Bool, true, _&&_}
 use mathlib.Core.List.{List, [], _∷_}
-use Prim.Native.Nat.{ℕ, zero, suc, _+_, _≤_, _<_}
-use lib.ListN.{getD}
+use Prim.Native.Nat.{ℕ, zero, suc, _+_, _≤_}
 use Rattle.endian.specs.Fields.{part}
 use Rattle.crc.specs.Right.{alreadyRight}
-
--- every element is a byte, as in a lent buffer
-abbrev pub Bytes : List ℕ → Type 0
-Bytes xs = (i : ℕ) → getD xs i 0 < 256
 
 -- the four bytes at each of the places lie inside `len` bytes
 abbrev pub Inside : List ℕ → ℕ → Type 0

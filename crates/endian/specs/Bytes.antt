@@ -4,6 +4,10 @@ use mathlib.Core.List.{List, [], _∷_, _++_}
 use Prim.Native.Nat.{ℕ, zero, suc, _+_, _*_, _/_, _%_, _^_, _<_}
 use lib.ListN.{getD, set, replicate}
 
+-- every number is a byte, as in a lent buffer
+abbrev pub Octets : List ℕ → Type 0
+Octets xs = (i : ℕ) → getD xs i 0 < 256
+
 -- `n` bytes of zero
 abbrev pub zeros : ℕ → List ℕ
 zeros n = replicate n 0

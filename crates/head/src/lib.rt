@@ -10,7 +10,7 @@ ghost use Rattle.structs.specs.Encoded.{Encoded};
 ghost use Rattle.geometry_answers.specs.Named.{isAnswer};
 ghost use Rattle.sb.specs.Superblock.{sbBytes};
 ghost use Rattle.plan_same.specs.Same.{isPlan};
-ghost use Rattle.head_frame.specs.Frames.{frameOf, Fine, Few, Counted};
+ghost use Rattle.head_frame.specs.Frames.{frameOf, FrameBounds, FewRecords, Counted};
 ghost use Rattle.head_bytes.specs.Head.{frameBlocks, headBytes, headLength, headNumber};
 ghost use Rattle.head_bytes.specs.Parts.{sectorOn, sectorsOn, rootsOn, moreOn};
 ghost use Rattle.head_bytes.specs.Places.{placesOf, headPlaces};
@@ -31,7 +31,7 @@ use sb::SbState;
 
 // Zeros in the header blocks, and the four sectors over them.
 fn put_headers(g: Geometry, s: SbState, w: Frame, p: AgPlan, uuid: &[u8; 16], buf: &mut [u8])
-    requires { ⌜ (isAnswer g ≡ true) × (w .sector ≡ g .sectsize) × (Fine w) × (Few p) × (w .header * w .block ≤ length (now buf))
+    requires { ⌜ (isAnswer g ≡ true) × (w .sector ≡ g .sectsize) × (FrameBounds w) × (FewRecords p) × (w .header * w .block ≤ length (now buf))
         × (Counted w p) ⌝ }
     ensures { λ _. ⌜ now (buf .exit) ≡ sectorsOn w p (now (uuid .entry))
         (sectorOn 0 (w .sector) (sbBytes g s) (patch 0 (replicate (w .header * w .block) 0) (now (buf .entry)))) ⌝ }
@@ -44,7 +44,7 @@ fn put_headers(g: Geometry, s: SbState, w: Frame, p: AgPlan, uuid: &[u8; 16], bu
 
 // The root blocks.
 fn put_trees(w: Frame, p: AgPlan, uuid: &[u8; 16], buf: &mut [u8])
-    requires { ⌜ (Fine w) × (Few p) × (frameBlocks w * w .block ≤ length (now buf)) ⌝ }
+    requires { ⌜ (FrameBounds w) × (FewRecords p) × (frameBlocks w * w .block ≤ length (now buf)) ⌝ }
     ensures { λ _. ⌜ now (buf .exit) ≡ moreOn w p (now (uuid .entry)) (rootsOn w p (now (uuid .entry)) (now (buf .entry))) ⌝ }
 {
     roots::put_roots(w, p, uuid, buf);
@@ -67,7 +67,7 @@ struct Places {
 }
 
 fn places_of(w: Frame) -> Places
-    requires { ⌜ Fine w ⌝ }
+    requires { ⌜ FrameBounds w ⌝ }
     ensures { λ r. ⌜ (take (r .len) (r .at) ≡ placesOf (w .header) (w .sector) (w .block) (w .features)) × (r .len ≤ 10)
         × (length (r .at) ≡ 10) ⌝ }
 {

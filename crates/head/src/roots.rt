@@ -8,7 +8,7 @@ ghost use Rattle.geometry_layout.specs.Places.{fibtBlock, rmapBlock, refcBlock,
 ghost use Rattle.btree.specs.Records.{recordsBytes, allocBytes, rmapBytes};
 ghost use Rattle.plan_free.specs.Free.{freeOf, smaller};
 ghost use Rattle.plan_rmap.specs.Rmap.{rmapOf};
-ghost use Rattle.head_frame.specs.Frames.{Fine, Few};
+ghost use Rattle.head_frame.specs.Frames.{FrameBounds, FewRecords};
 ghost use Rattle.head_bytes.specs.Sorting.{bySize};
 ghost use Rattle.head_bytes.specs.Head.{finoMagic, rootBytes, inodeRoot, rmapRoot, refcRoot, frameBlocks};
 ghost use Rattle.head_bytes.specs.Parts.{blockIf, rootsOn, moreOn};
@@ -22,7 +22,7 @@ use plan_rmap::RmapList;
 
 // The address of block b of the group, in units of 512 bytes.
 fn address(w: Frame, b: u32) -> u64
-    requires { ⌜ (Fine w) × (b ≤ 10) ⌝ }
+    requires { ⌜ (FrameBounds w) × (b ≤ 10) ⌝ }
     ensures { λ r. ⌜ r ≡ daddrOf (w .block) (w .agsize) (w .agno) b ⌝ }
 {
     ((w.agno as u64) * w.agsize + (b as u64)) * ((w.block / 512) as u64)
@@ -58,7 +58,7 @@ fn by_size(l: FreeList) -> FreeList
 
 // Free extents into block b.
 fn put_free(w: Frame, magic: u32, b: u32, uuid: &[u8; 16], l: FreeList, buf: &mut [u8])
-    requires { ⌜ (Fine w) × (l .len ≤ 2) × (b ≤ 10) × (b * w .block + w .block ≤ length (now buf)) ⌝ }
+    requires { ⌜ (FrameBounds w) × (l .len ≤ 2) × (b ≤ 10) × (b * w .block + w .block ≤ length (now buf)) ⌝ }
     ensures { λ _. ⌜ now (buf .exit) ≡ patch (b * w .block)
         (rootBytes w (now (uuid .entry)) magic b (recordsBytes allocBytes (freeOf l)) (l .len)) (now (buf .entry)) ⌝ }
 {
@@ -70,7 +70,7 @@ fn put_free(w: Frame, magic: u32, b: u32, uuid: &[u8; 16], l: FreeList, buf: &mu
 
 // The root chunk into block b, where the group has it.
 fn put_chunk(w: Frame, magic: u32, b: u32, uuid: &[u8; 16], buf: &mut [u8])
-    requires { ⌜ (Fine w) × (b ≤ 10) × (b * w .block + w .block ≤ length (now buf)) ⌝ }
+    requires { ⌜ (FrameBounds w) × (b ≤ 10) × (b * w .block + w .block ≤ length (now buf)) ⌝ }
     ensures { λ _. ⌜ now (buf .exit) ≡ patch (b * w .block) (inodeRoot w (now (uuid .entry)) magic b) (now (buf .entry)) ⌝ }
 {
     let f = w.features;
@@ -91,7 +91,7 @@ fn put_chunk(w: Frame, magic: u32, b: u32, uuid: &[u8; 16], buf: &mut [u8])
 
 // Reverse mappings into block b.
 fn put_maps(w: Frame, magic: u32, b: u32, uuid: &[u8; 16], l: RmapList, buf: &mut [u8])
-    requires { ⌜ (Fine w) × (l .len ≤ 8) × (b ≤ 10) × (b * w .block + w .block ≤ length (now buf)) ⌝ }
+    requires { ⌜ (FrameBounds w) × (l .len ≤ 8) × (b ≤ 10) × (b * w .block + w .block ≤ length (now buf)) ⌝ }
     ensures { λ _. ⌜ now (buf .exit) ≡ patch (b * w .block)
         (rootBytes w (now (uuid .entry)) magic b (recordsBytes rmapBytes (rmapOf l)) (l .len)) (now (buf .entry)) ⌝ }
 {
@@ -103,7 +103,7 @@ fn put_maps(w: Frame, magic: u32, b: u32, uuid: &[u8; 16], l: RmapList, buf: &mu
 
 // The three roots of every group: free extents by block and by size, and inodes.
 pub(crate) fn put_roots(w: Frame, p: AgPlan, uuid: &[u8; 16], buf: &mut [u8])
-    requires { ⌜ (Fine w) × (Few p) × ((w .header + 3) * w .block ≤ length (now buf)) ⌝ }
+    requires { ⌜ (FrameBounds w) × (FewRecords p) × ((w .header + 3) * w .block ≤ length (now buf)) ⌝ }
     ensures { λ _. ⌜ now (buf .exit) ≡ rootsOn w p (now (uuid .entry)) (now (buf .entry)) ⌝ }
 {
     let free = p.free;
@@ -114,7 +114,7 @@ pub(crate) fn put_roots(w: Frame, p: AgPlan, uuid: &[u8; 16], buf: &mut [u8])
 }
 
 fn put_fibt(w: Frame, uuid: &[u8; 16], buf: &mut [u8])
-    requires { ⌜ (Fine w) × (w .features .finobt ≡ true → fibtBlock (w .header) * w .block + w .block ≤ length (now buf)) ⌝ }
+    requires { ⌜ (FrameBounds w) × (w .features .finobt ≡ true → fibtBlock (w .header) * w .block + w .block ≤ length (now buf)) ⌝ }
     ensures { λ _. ⌜ now (buf .exit) ≡ blockIf (w .features .finobt) (fibtBlock (w .header) * w .block)
         (inodeRoot w (now (uuid .entry)) finoMagic (fibtBlock (w .header))) (now (buf .entry)) ⌝ }
 {
@@ -125,7 +125,7 @@ fn put_fibt(w: Frame, uuid: &[u8; 16], buf: &mut [u8])
 }
 
 fn put_rmap(w: Frame, l: RmapList, uuid: &[u8; 16], buf: &mut [u8])
-    requires { ⌜ (Fine w) × (l .len ≤ 8) × (w .features .rmapbt ≡ true
+    requires { ⌜ (FrameBounds w) × (l .len ≤ 8) × (w .features .rmapbt ≡ true
         → rmapBlock (w .features) (w .header) * w .block + w .block ≤ length (now buf)) ⌝ }
     ensures { λ _. ⌜ now (buf .exit) ≡ blockIf (w .features .rmapbt) (rmapBlock (w .features) (w .header) * w .block)
         (rmapRoot w (now (uuid .entry)) l) (now (buf .entry)) ⌝ }
@@ -139,7 +139,7 @@ fn put_rmap(w: Frame, l: RmapList, uuid: &[u8; 16], buf: &mut [u8])
 
 // Reference counts: a leaf without records.
 fn put_refc(w: Frame, uuid: &[u8; 16], buf: &mut [u8])
-    requires { ⌜ (Fine w) × (w .features .reflink ≡ true → refcBlock (w .features) (w .header) * w .block + w .block ≤ length (now buf)) ⌝ }
+    requires { ⌜ (FrameBounds w) × (w .features .reflink ≡ true → refcBlock (w .features) (w .header) * w .block + w .block ≤ length (now buf)) ⌝ }
     ensures { λ _. ⌜ now (buf .exit) ≡ blockIf (w .features .reflink) (refcBlock (w .features) (w .header) * w .block)
         (refcRoot w (now (uuid .entry))) (now (buf .entry)) ⌝ }
 {
@@ -153,7 +153,7 @@ fn put_refc(w: Frame, uuid: &[u8; 16], buf: &mut [u8])
 
 // The roots of finobt, rmapbt and reflink, where these are on.
 pub(crate) fn put_more(w: Frame, p: AgPlan, uuid: &[u8; 16], buf: &mut [u8])
-    requires { ⌜ (Fine w) × (Few p) × (frameBlocks w * w .block ≤ length (now buf)) ⌝ }
+    requires { ⌜ (FrameBounds w) × (FewRecords p) × (frameBlocks w * w .block ≤ length (now buf)) ⌝ }
     ensures { λ _. ⌜ now (buf .exit) ≡ moreOn w p (now (uuid .entry)) (now (buf .entry)) ⌝ }
 {
     let maps = p.rmap;

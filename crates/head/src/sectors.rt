@@ -6,7 +6,7 @@ ghost use lib.ListN.{length, take};
 ghost use Rattle.arith.specs.Choice.{bit};
 ghost use Rattle.structs.specs.Sizes.{isSector};
 ghost use Rattle.geometry_layout.specs.Places.{rmapBlock, refcBlock};
-ghost use Rattle.head_frame.specs.Frames.{Fine, Few, Counted};
+ghost use Rattle.head_frame.specs.Frames.{FrameBounds, FewRecords, Counted};
 ghost use Rattle.ag.specs.Agf.{agfBytes};
 ghost use Rattle.ag.specs.Agi.{agiBytes};
 ghost use Rattle.ag.specs.Agfl.{agflBytes};
@@ -49,7 +49,7 @@ pub(crate) fn refc_at(f: Features, header: u32) -> u32
 
 // The AGF, whose totals the frame has.
 fn agf_of(w: Frame) -> Agf
-    requires { ⌜ Fine w ⌝ }
+    requires { ⌜ FrameBounds w ⌝ }
     ensures { λ r. ⌜ r ≡ agfWith w (w .list) (w .freeblks) (w .longest) ⌝ }
 {
     let f = w.features;
@@ -81,7 +81,7 @@ fn agf_of(w: Frame) -> Agf
 }
 
 fn agi_of(w: Frame) -> Agi
-    requires { ⌜ Fine w ⌝ }
+    requires { ⌜ FrameBounds w ⌝ }
     ensures { λ r. ⌜ r ≡ agiFor w ⌝ }
 {
     let f = w.features;
@@ -136,7 +136,7 @@ fn put_agfl(agno: u32, l: Agfl, uuid: &[u8; 16], ss: usize, buf: &mut [u8])
 
 // The three sectors behind it: AGF, AGI and free list.
 pub(crate) fn put_sectors(w: Frame, p: AgPlan, uuid: &[u8; 16], buf: &mut [u8])
-    requires { ⌜ (Fine w) × (Few p) × (4 * w .sector ≤ length (now buf)) × (Counted w p) ⌝ }
+    requires { ⌜ (FrameBounds w) × (FewRecords p) × (4 * w .sector ≤ length (now buf)) × (Counted w p) ⌝ }
     ensures { λ _. ⌜ now (buf .exit) ≡ sectorsOn w p (now (uuid .entry)) (now (buf .entry)) ⌝ }
 {
     let ss = w.sector as usize;

@@ -13,7 +13,7 @@ use Rattle.crc.specs.Right.{spaced}
 use Rattle.geometry.specs.declared.Geometry.{Geometry}
 use Rattle.plan.specs.declared.AgPlan.{AgPlan}
 use Rattle.head_frame.specs.declared.Frame.{Frame}
-use Rattle.head_frame.specs.Frames.{frameOf, Fine}
+use Rattle.head_frame.specs.Frames.{frameOf, FrameBounds}
 use Rattle.head_bytes.specs.Places.{placesOf, headPlaces}
 
 -- the first of ten places
@@ -48,5 +48,5 @@ pub few-places : (n : ℕ) (at ps : List ℕ) → take n at ≡ ps → n ≤ 10 
 few-places n at ps e h = omega (arith, ap (λ (l : List ℕ). length l) e, length-take n at)
 
 -- the header blocks are at most four
-pub header-bytes : (w : Frame) → Fine w → w .header * w .block ≤ 65536
+pub header-bytes : (w : Frame) → FrameBounds w → w .header * w .block ≤ 65536
 header-bytes w f = let m : w .header * w .block ≤ 4 * 16384 = mul-le-mul (f .header-most) (f .block-most) in omega arith

@@ -21,7 +21,7 @@ use Rattle.sb.specs.Superblock.{sbNumber, sbBytes}
 use Rattle.plan.specs.declared.AgPlan.{AgPlan}
 use Rattle.plan_same.specs.Same.{isPlan}
 use Rattle.head_frame.specs.declared.Frame.{Frame}
-use Rattle.head_frame.specs.Frames.{frameOf, framed, Fine, Few, Counted}
+use Rattle.head_frame.specs.Frames.{frameOf, framed, FrameBounds, FewRecords, Counted}
 use Rattle.plan_summary.proofs.Narrow.{plan-answer}
 use Rattle.head_frame.proofs.Fitting.{plan-few, plan-fine, framed-number}
 use Rattle.head_bytes.specs.Head.{frameBlocks, behindBytes, headBytes, headLength, headNumber}
@@ -39,8 +39,8 @@ blocks-are g p = refl
 pub record Ready (g : Geometry) (p : AgPlan) (w : Frame) (len : ℕ) : Type 0 where
   pub answer : isAnswer g ≡ true
   pub sector : w .sector ≡ g .sectsize
-  pub fine : Fine w
-  pub few : Few p
+  pub fine : FrameBounds w
+  pub few : FewRecords p
   pub counted : Counted w p
   pub headers : w .header * w .block ≤ len
   pub exact : len ≡ frameBlocks w * w .block

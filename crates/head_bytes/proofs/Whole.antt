@@ -23,7 +23,7 @@ use Rattle.plan_free.specs.declared.FreeList.{FreeList}
 use Rattle.plan_rmap.specs.declared.RmapList.{RmapList}
 use Rattle.plan.specs.declared.AgPlan.{AgPlan}
 use Rattle.head_frame.specs.declared.Frame.{Frame}
-use Rattle.head_frame.specs.Frames.{Fine}
+use Rattle.head_frame.specs.Frames.{FrameBounds}
 use Rattle.head_bytes.specs.Head.{frameBlocks, agfFor, agiFor, inoMagic, finoMagic, rootBytes, bnoRoot, cntRoot, inodeRoot, rmapRoot, refcRoot, sectorsBytes, rootsBytes, behindBytes}
 use Rattle.head_bytes.specs.Parts.{sectorOn, blockIf, sectorsOn, rootsOn, moreOn}
 use Rattle.head_bytes.proofs.Lending.{sb-length, agf-length, agi-length, agfl-length, leaf-length}
@@ -119,7 +119,7 @@ block-off on a new xs e = rw e refl
 
 -- ---- part by part over the lent bytes
 
-module _ (w : Frame) (p : AgPlan) (g : Geometry) (s : SbState) (uuid xs : List ℕ) (ok : Fine w) (fits : length xs ≡ frameBlocks w * w .block) where
+module _ (w : Frame) (p : AgPlan) (g : Geometry) (s : SbState) (uuid xs : List ℕ) (ok : FrameBounds w) (fits : length xs ≡ frameBlocks w * w .block) where
   abbrev ss : ℕ
   ss = w .sector
 

@@ -38,7 +38,7 @@ use Rattle.plan_same.specs.Same.{isPlan}
 use Rattle.plan_summary.proofs.Narrow.{free-few, free-least, longest-least, plan-answer, plan-closed}
 use Rattle.head_frame.specs.declared.Frame.{Frame}
 use Rattle.head_frame.specs.declared.Framed.{Framed}
-use Rattle.head_frame.specs.Frames.{frameOf, noFrame, framed, Fine, Few, chunkIno}
+use Rattle.head_frame.specs.Frames.{frameOf, noFrame, framed, FrameBounds, FewRecords, chunkIno}
 
 -- ---- powers of two in a range
 
@@ -129,7 +129,7 @@ module _ (g : Geometry) (p : AgPlan) (l : length (g .label) ≡ 12) (h : isPlan 
       }
 
   -- THE LISTS ARE SHORT
-  pub plan-few : Few p
+  pub plan-few : FewRecords p
   plan-few =
       let n = sound .need-most in
       record {
@@ -141,7 +141,7 @@ module _ (g : Geometry) (p : AgPlan) (l : length (g .label) ≡ 12) (h : isPlan 
       }
 
   -- THE FRAME IS FINE
-  pub plan-fine : Fine (frameOf g p)
+  pub plan-fine : FrameBounds (frameOf g p)
   unfolding frameOf isSector isBlock headerOf
   plan-fine =
       let s = bounds .sizes in

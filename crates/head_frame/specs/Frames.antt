@@ -76,7 +76,7 @@ unfoldable pub framed : Geometry → AgPlan → Framed
 framed g p = cond (isPlan g p) (record { number = 0; frame = frameOf g p }) (record { number = noAnswer; frame = noFrame })
 
 -- what holds of the frame of every plan of the planner
-pub record Fine (w : Frame) : Type 0 where
+pub record FrameBounds (w : Frame) : Type 0 where
   pub header-least : 0 < w .header
   pub header-most : w .header ≤ 4
   pub sector-is : isSector (w .sector) ≡ true
@@ -89,7 +89,7 @@ pub record Fine (w : Frame) : Type 0 where
   pub addresses : (b : ℕ) → b ≤ 10 → (w .agno * w .agsize + b < 2 ^ 64) × ((w .agno * w .agsize + b) * (w .block / 512) < 2 ^ 64)
 
 -- and of the plan's lists: few records, and few blocks
-pub record Few (p : AgPlan) : Type 0 where
+pub record FewRecords (p : AgPlan) : Type 0 where
   pub free-most : p .free .len ≤ 2
   pub list-most : p .agfl .len ≤ 6
   pub rmap-most : p .rmap .len ≤ 8

@@ -7,9 +7,10 @@ use Prim.Native.Nat.{ℕ, _+_, _*_, _≤_}
 use native.Mathlib.Nat.{add-mul}
 use native.Mathlib.Omega.{arith}
 use lib.ListN.{length}
+use Rattle.endian.specs.Bytes.{Octets}
 use Rattle.arith.specs.Choice.{bit}
 use Rattle.crc.specs.Right.{spaced}
-use Rattle.crc.specs.Means.{Bytes, Inside, SameSums}
+use Rattle.crc.specs.Means.{Inside, SameSums}
 use Rattle.crc.proofs.Right.{spaced-inside}
 use Rattle.structs.specs.Encoded.{Encoded}
 use Rattle.structs.specs.Sizes.{isInode}
@@ -20,7 +21,7 @@ use Rattle.plan.specs.declared.AgPlan.{AgPlan}
 use Rattle.plan_same.specs.Same.{isPlan}
 use Rattle.sb.specs.declared.SbState.{SbState}
 use Rattle.head_frame.specs.declared.Frame.{Frame}
-use Rattle.head_frame.specs.Frames.{frameOf, Fine}
+use Rattle.head_frame.specs.Frames.{frameOf, FrameBounds}
 use Rattle.head_bytes.specs.Head.{frameBlocks, headBytes, headLength, headNumber}
 use Rattle.head_bytes.specs.Places.{placesOf, headPlaces}
 use Rattle.head_bytes.proofs.Asked.{frame-places}
@@ -35,7 +36,7 @@ roots-fit w =
     let e : w .header + 3 + bit (w .features .finobt) + bit (w .features .rmapbt) + bit (w .features .reflink) ≡ w .header + n = omega arith in
     rw e (omega (arith, add-mul (w .header) n (w .block)))
 
-module _ (w : Frame) (f : Fine w) where
+module _ (w : Frame) (f : FrameBounds w) where
   pub frame-inside : Inside (placesOf (w .header) (w .sector) (w .block) (w .features)) (frameBlocks w * w .block)
   unfolding placesOf
   frame-inside =
@@ -54,7 +55,7 @@ module _ (g : Geometry) (p : AgPlan) (l : length (g .label) ≡ 12) (h : isPlan 
 
   -- A YES OF A HEAD: each of its sectors and roots had the same checksum bytes before as after.
   pub head-means : {n r : ℕ} {right : Bool} {new old left : List ℕ} → Encoded n (headPlaces g) new old r right left → right ≡ true → length old ≡ headLength g → length left ≡ length old
-      → Bytes old → Bytes left → SameSums (headPlaces g) old left
+      → Octets old → Octets left → SameSums (headPlaces g) old left
   head-means w y e d b c = right-means w y b c d (rw e head-inside) .1
 
 pub chunk-inside : (size : ℕ) → isInode size ≡ true → Inside (chunkPlaces size) (64 * size)
@@ -63,5 +64,5 @@ chunk-inside size i = spaced-inside 100 0 size 64 (64 * size) (let s = inode-lea
 
 -- A YES OF A ROOT CHUNK: each of its 64 inodes had the same checksum bytes before as after.
 pub chunk-means : {n r : ℕ} {right : Bool} {new old left : List ℕ} (size : ℕ) → isInode size ≡ true → Encoded n (chunkPlaces size) new old r right left → right ≡ true
-    → length old ≡ 64 * size → length left ≡ length old → Bytes old → Bytes left → SameSums (chunkPlaces size) old left
+    → length old ≡ 64 * size → length left ≡ length old → Octets old → Octets left → SameSums (chunkPlaces size) old left
 chunk-means size i w y e d b c = right-means w y b c d (rw e (chunk-inside size i)) .1

@@ -16,7 +16,7 @@ use Rattle.geometry.specs.declared.Geometry.{Geometry}
 use Rattle.plan.specs.declared.AgPlan.{AgPlan}
 use Rattle.plan_same.specs.Same.{isPlan}
 use Rattle.head_frame.specs.declared.Frame.{Frame}
-use Rattle.head_frame.specs.Frames.{frameOf, Fine}
+use Rattle.head_frame.specs.Frames.{frameOf, FrameBounds}
 use Rattle.head_bytes.specs.Head.{frameBlocks, headLength}
 use Rattle.head_bytes.specs.Places.{placesOf, headPlaces}
 use Rattle.head_bytes.proofs.Asked.{frame-places}
@@ -25,7 +25,7 @@ use Rattle.chunk.specs.Chunk.{chunkPlaces}
 use Rattle.head_right.specs.Parts.{headRight, inodesRight}
 use Rattle.head_right.proofs.Inside.{roots-fit}
 
-module _ (w : Frame) (f : Fine w) (xs ys : List ℕ) (lx : length xs ≡ frameBlocks w * w .block) (ly : length ys ≡ frameBlocks w * w .block) where
+module _ (w : Frame) (f : FrameBounds w) (xs ys : List ℕ) (lx : length xs ≡ frameBlocks w * w .block) (ly : length ys ≡ frameBlocks w * w .block) where
   pub frame-parts : alreadyRight (placesOf (w .header) (w .sector) (w .block) (w .features)) xs ys ≡ headRight (w .header) (w .sector) (w .block) (w .features) xs ys
   unfolding placesOf headRight
   frame-parts =

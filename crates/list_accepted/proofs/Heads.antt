@@ -12,7 +12,7 @@ use Rattle.list_records.specs.Device.{Device, applied}
 use Rattle.request.specs.declared.Request.{Request}
 use Rattle.run.specs.Runs.{runOf}
 use Rattle.list_spec.specs.Listing.{headLeft, listOf}
-use Rattle.list_spec.specs.Left.{unfinished, DeviceLeft, OwnRecords, Early}
+use Rattle.list_spec.specs.Left.{unfinished, DeviceLeft, OwnRecords, FirstBlockUnfinished}
 use Rattle.list_spec.specs.Order.{Ordered}
 use Rattle.list_spec.proofs.Left.{left}
 use Rattle.list_spec.proofs.Alone.{alone}
@@ -43,7 +43,7 @@ module _ (r : Request) (a : AcceptedRun r) where
   run-ordered = ordered (runOf r) (r .device) (sound r a)
 
   -- after every cut up to the first flush, and from the finished superblock's block on
-  pub run-early : (cut rest : List Record) → cut ++ rest ≡ unfinished (runOf r) (r .device) ++ (FL ∷ []) → 0 < length cut → (d : Device) → Early (runOf r) (applied cut d)
+  pub run-early : (cut rest : List Record) → cut ++ rest ≡ unfinished (runOf r) (r .device) ++ (FL ∷ []) → 0 < length cut → (d : Device) → FirstBlockUnfinished (runOf r) (applied cut d)
   run-early cut rest e h d = early (runOf r) (r .device) (sound r a) cut rest e h d
 
   pub run-finished : (cut rest : List Record) → cut ++ rest ≡ listOf (runOf r) (r .device) → length (unfinished (runOf r) (r .device)) + 1 < length cut → (d : Device) → applied cut d ≡ after r d

@@ -10,7 +10,7 @@ use Rattle.seqs.proofs.Laws.{total-append}
 use Rattle.run.specs.declared.Run.{Run}
 use Rattle.list_records.specs.Records.{Record, FL, byKind, flushes}
 use Rattle.list_spec.specs.Listing.{listOf}
-use Rattle.list_spec.specs.Cut.{Told}
+use Rattle.list_spec.specs.Cut.{FlushesTellWhole}
 use Rattle.list_spec.proofs.Counts.{list-flushes}
 use Rattle.list_spec.proofs.Parts.{cut-behind, butLast, list-last}
 
@@ -27,5 +27,5 @@ module _ (run : Run) (device : ℕ) where
       omega (arith, before-last, ap flushes (c .0), total-append (byKind 0 0 1) cut (drop (length cut) whole))
 
   -- A CUT LIST IS NOTICED
-  pub told : Told run device
+  pub told : FlushesTellWhole run device
   told = record { whole-flushes = list-flushes run device; cut-noticed = noticed }

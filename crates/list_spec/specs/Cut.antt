@@ -7,7 +7,7 @@ use Rattle.run.specs.declared.Run.{Run}
 use Rattle.list_records.specs.Records.{Record, flushes}
 use Rattle.list_spec.specs.Listing.{listOf}
 
-pub record Told (run : Run) (device : ℕ) : Type 0 where
+pub record FlushesTellWhole (run : Run) (device : ℕ) : Type 0 where
   -- the whole list has two
   pub whole-flushes : flushes (listOf run device) ≡ 2
   -- one that lacks a record and all behind it has fewer

@@ -71,7 +71,7 @@ abbrev pub finishingRecord : Run → Record
 finishingRecord run = WB 0 (take (run .geometry .blocksize) (headFinished (run .geometry) (run .uuid)))
 
 -- group 0's first block is zeros, or the unfinished one
-abbrev pub Early : Run → Device → Type 0
-Early run d =
+abbrev pub FirstBlockUnfinished : Run → Device → Type 0
+FirstBlockUnfinished run d =
     (read d 0 (run .geometry .blocksize) ≡ zeros (run .geometry .blocksize))
     ⊎ (read d 0 (run .geometry .blocksize) ≡ take (run .geometry .blocksize) (headWritten (run .geometry) (run .uuid) 0))

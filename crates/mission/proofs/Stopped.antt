@@ -22,7 +22,7 @@ use Rattle.list_records.specs.Records.{Record, FL, Among, byKind, blockRecords}
 use Rattle.list_records.proofs.Sums.{count-total}
 use Rattle.list_records.specs.Device.{Device, applied}
 use Rattle.list_spec.specs.Listing.{headerBlocks, headFinished, headerRecords, closing, listOf, recordCount}
-use Rattle.list_spec.specs.Left.{unfinished, finishingRecord, Early}
+use Rattle.list_spec.specs.Left.{unfinished, finishingRecord, FirstBlockUnfinished}
 use Rattle.list_spec.proofs.Counts.{list-count, list-flushes, closing-total}
 use Rattle.list_spec.proofs.Parts.{list-parts}
 use Rattle.list_spec.proofs.Early.{early-any}
@@ -103,17 +103,17 @@ module _ (r : Request) (a : AcceptedRun r) (old : Device) where
   run = runOf r
 
   -- up to the finishing record group 0's first block is zeros, or the unfinished one
-  its-early : (n : ℕ) → 0 < n → n ≤ beforeFinished (run .geometry) → Early run (stoppedAfter r n old)
+  its-early : (n : ℕ) → 0 < n → n ≤ beforeFinished (run .geometry) → FirstBlockUnfinished run (stoppedAfter r n old)
   unfolding prefix
   its-early n o h =
       let l = prefix-length run (r .device) in
       let cut = take n (prefix run (r .device)) in
-      subst (λ (rs : List Record). Early run (applied rs old))
+      subst (λ (rs : List Record). FirstBlockUnfinished run (applied rs old))
       (sym (ap (take n) (list-prefix run (r .device)) ∙ take-append-le n (prefix run (r .device)) _ (omega arith)))
       (run-early r a cut (drop n (prefix run (r .device))) (take-append-drop n (prefix run (r .device))) (omega (arith, length-take n (prefix run (r .device)))) old)
 
   -- and the reader refuses it, whether or not it is told to admit profile disks only
-  early-number : (d : Device) → Early run d → (told : Bool) → firstNumber told r d ≡ notLeft
+  early-number : (d : Device) → FirstBlockUnfinished run d → (told : Bool) → firstNumber told r d ≡ notLeft
   early-number d e told =
       let f = readGroup0 (headOn (run .geometry) d 0) in
       let n : f .number ≡ notLeft = early-refused r a d e in
@@ -166,16 +166,16 @@ module _ (r : Request) (a : AcceptedRun r) (old : Device) where
   flushed : stoppedAfter r least old ≡ applied (prefix run (r .device)) old
   flushed = ap (λ (rs : List Record). applied rs old) (prefix-taken run (r .device))
 
-  its-subset : (n : ℕ) → 0 < n → n ≤ least → (rs : List Record) → Among (drop 1 (take least (runRecords r))) rs → Early run (applied rs (stoppedAfter r n old))
+  its-subset : (n : ℕ) → 0 < n → n ≤ least → (rs : List Record) → Among (drop 1 (take least (runRecords r))) rs → FirstBlockUnfinished run (applied rs (stoppedAfter r n old))
   unfolding prefix
   its-subset n o h rs m =
       early-any run (r .device) (sound r a) rs (subst (λ (ws : List Record). Among (drop 1 ws) rs) (prefix-taken run (r .device)) m) (stoppedAfter r n old) (its-early n o h)
 
-  its-lost : (rs : List Record) → Among (drop (least + 1) (runRecords r)) rs → Early run (applied rs (stoppedAfter r least old))
+  its-lost : (rs : List Record) → Among (drop (least + 1) (runRecords r)) rs → FirstBlockUnfinished run (applied rs (stoppedAfter r least old))
   unfolding prefix beforeFinished
   its-lost rs m =
       let i = idle-any run (r .device) (sound r a) rs (subst (λ (ws : List Record). Among ws rs) (behind-left run (r .device)) m) old in
-      subst (Early run) (sym (ap (applied rs) flushed ∙ i ∙ sym flushed)) (its-early least (omega arith) (omega arith))
+      subst (FirstBlockUnfinished run) (sym (ap (applied rs) flushed ∙ i ∙ sym flushed)) (its-early least (omega arith) (omega arith))
 
   its-closing : (rs : List Record) → Among (drop least (runRecords r)) rs → Among (headerRecords run ++ (FL ∷ [])) rs
   its-closing rs m = subst (λ (ws : List Record). Among ws rs) (closing-left run (r .device)) m

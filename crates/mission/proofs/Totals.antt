@@ -4,12 +4,13 @@ use mathlib.Core.Path.{_≡_, subst}
 use mathlib.Core.List.{List}
 use Prim.Native.Nat.{ℕ, _+_, _*_, _<_}
 use native.Mathlib.Omega.{arith}
+use Rattle.endian.specs.Bytes.{Octets}
 use Rattle.geometry.specs.declared.Geometry.{Geometry}
 use Rattle.geometry_layout.specs.Places.{groupBlocks}
 use Rattle.list_spec.specs.Listing.{headBlocks}
 use Rattle.list_accepted.proofs.Runs.{source-plans, source-label, source-uuid}
 use Rattle.reader_exact.specs.Read.{readGroup0}
-use Rattle.reader_exact.specs.Left.{Octets, ReadWhole}
+use Rattle.reader_exact.specs.Left.{ReadWhole}
 use Rattle.reader_exact.proofs.Whole.{whole-source, whole-heads}
 use Rattle.reader_decoded.specs.Decoded.{logRunIn, countIn}
 use Rattle.reader_uses.specs.ByUse.{usesIn, Once, freeTotal, listTotal, chunkTotal, LeftHeads}

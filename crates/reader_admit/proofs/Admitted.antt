@@ -8,6 +8,7 @@ use mathlib.Core.Logic.{_↔_}
 use Prim.Native.Nat.{ℕ, _<_}
 use borrow.Author.Tests.{eqb-true, ne-eqb}
 use lib.Dec.{eqb}
+use Rattle.endian.specs.Bytes.{Octets}
 use Rattle.refusals.specs.Numbers.{notInProfile}
 use Rattle.arith.specs.Choice.{when}
 use Rattle.geometry.specs.declared.Geometry.{Geometry}
@@ -21,7 +22,7 @@ use Rattle.list_spec.specs.Listing.{logBlock, headLeft}
 use Rattle.list_accepted.specs.Accepted.{Source}
 use Rattle.reader_exact.specs.declared.Found.{Found}
 use Rattle.reader_exact.specs.Read.{found, readGroup0, readGroup, readLog}
-use Rattle.reader_exact.specs.Left.{Octets, Handed, HeadLeftBy, LeftLog}
+use Rattle.reader_exact.specs.Left.{Handed, HeadLeftBy, LeftLog}
 use Rattle.reader_exact.specs.Disk.{headOn, logOn, formatted}
 use Rattle.reader_exact.proofs.Disk.{head-formatted, log-formatted}
 use Rattle.reader_exact.proofs.First.{complete-first, exact-first}

@@ -9,11 +9,12 @@ use Prim.Native.Nat.{ℕ}
 use native.Mathlib.Omega.{arith}
 use borrow.Author.Tests.{eqb-true}
 use lib.Dec.{T, eqb}
+use Rattle.endian.specs.Bytes.{Octets}
 use Rattle.refusals.specs.Numbers.{notInProfile}
 use Rattle.geometry.specs.declared.Geometry.{Geometry}
 use Rattle.profile.specs.Rules.{profileNumber, labelOn}
 use Rattle.reader_exact.specs.Read.{readGroup0, readGroup, readLog}
-use Rattle.reader_exact.specs.Left.{Octets, Handed, HeadLeftBy, LeftLog}
+use Rattle.reader_exact.specs.Left.{Handed, HeadLeftBy, LeftLog}
 use Rattle.reader_exact.proofs.Others.{group-sound, exact-log}
 use Rattle.reader_exact.proofs.Numbers.{oneOf, firstNumbers, groupNumbers, logNumbers, first-numbers, group-numbers, log-numbers}
 use Rattle.reader_admit.specs.Admit.{admitted}

@@ -6,6 +6,7 @@ use mathlib.Core.Bool.{Bool, true, false}
 use mathlib.Core.List.{List}
 use mathlib.Core.Logic.{_↔_}
 use Prim.Native.Nat.{ℕ, _+_, _<_, _≤_}
+use Rattle.endian.specs.Bytes.{Octets}
 use Rattle.refusals.specs.Numbers.{notInProfile}
 use Rattle.geometry.specs.declared.Geometry.{Geometry}
 use Rattle.profile.specs.Rules.{inProfile, labelOn}
@@ -15,7 +16,7 @@ use Rattle.list_records.specs.Device.{Device}
 use Rattle.list_spec.specs.Listing.{logBlock, headLeft}
 use Rattle.list_accepted.specs.Accepted.{AcceptedRun}
 use Rattle.reader_exact.specs.Read.{readGroup0}
-use Rattle.reader_exact.specs.Left.{Octets, ReadWhole}
+use Rattle.reader_exact.specs.Left.{ReadWhole}
 use Rattle.reader_exact.specs.Disk.{ByRecords, headOn, logOn}
 use Rattle.reader_exact.proofs.Disk.{head-formatted, log-formatted}
 use Rattle.reader_exact.proofs.Heads.{source-handed}

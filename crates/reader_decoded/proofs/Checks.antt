@@ -27,7 +27,7 @@ use Rattle.sb.specs.Superblock.{sbBytes, sbFields}
 use Rattle.plan.specs.declared.AgPlan.{AgPlan}
 use Rattle.plan_same.specs.Same.{isPlan}
 use Rattle.head_frame.specs.declared.Frame.{Frame}
-use Rattle.head_frame.specs.Frames.{frameOf, Fine}
+use Rattle.head_frame.specs.Frames.{frameOf, FrameBounds}
 use Rattle.head_bytes.specs.Head.{agfFor, agiFor, inoMagic, finoMagic, rootBytes, bnoRoot, cntRoot, inodeRoot, rmapRoot, refcRoot, sectorsBytes, rootsBytes, behindBytes, headBytes}
 use Rattle.head_bytes.proofs.Lending.{sb-length, agf-length, agi-length, agfl-length}
 use Rattle.head_bytes.proofs.Whole.{root-length}
@@ -72,7 +72,7 @@ opt-length false x ps = (let e : length ps ≡ 0 + length ps = omega arith in e)
 
 -- ---- a frame's structures
 
-module _ (w : Frame) (p : AgPlan) (g : Geometry) (s : SbState) (uuid : List ℕ) (ok : Fine w) where
+module _ (w : Frame) (p : AgPlan) (g : Geometry) (s : SbState) (uuid : List ℕ) (ok : FrameBounds w) where
   abbrev sector : List ℕ
   sector = zeros (w .sector)
 
@@ -204,7 +204,7 @@ module _ (g : Geometry) (p : AgPlan) (uuid : List ℕ) (s : SbState) (l : length
   abbrev w : Frame
   w = frameOf g p
 
-  ok : Fine w
+  ok : FrameBounds w
   ok = fine g p uuid s l h u
 
   at-sector : (off i : ℕ) (ys : List ℕ) → part (i * w .sector) (w .sector) (whole w p g s uuid ok) ≡ ys → verified off ys ≡ true

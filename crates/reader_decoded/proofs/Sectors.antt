@@ -26,7 +26,7 @@ use Rattle.sb.specs.Superblock.{sbBytes}
 use Rattle.plan.specs.declared.AgPlan.{AgPlan}
 use Rattle.plan_same.specs.Same.{isPlan}
 use Rattle.head_frame.specs.declared.Frame.{Frame}
-use Rattle.head_frame.specs.Frames.{frameOf, Fine}
+use Rattle.head_frame.specs.Frames.{frameOf, FrameBounds}
 use Rattle.head_frame.proofs.Fitting.{plan-narrow, plan-few, plan-fine}
 use Rattle.head_bytes.specs.Head.{agfFor, agiFor, inoMagic, finoMagic, bnoRoot, cntRoot, inodeRoot, rmapRoot, refcRoot, sectorsBytes, rootsBytes, behindBytes, headBytes}
 use Rattle.head_bytes.proofs.Lending.{sb-length, agf-length, agi-length, agfl-length}
@@ -39,7 +39,7 @@ use Rattle.reader_decoded.proofs.Numbers.{agf-fits, agi-fits, entriesOf
 
 -- ---- the parts one after the other
 
-module _ (w : Frame) (p : AgPlan) (g : Geometry) (s : SbState) (uuid : List ℕ) (ok : Fine w) where
+module _ (w : Frame) (p : AgPlan) (g : Geometry) (s : SbState) (uuid : List ℕ) (ok : FrameBounds w) where
   abbrev ss : ℕ
   ss = w .sector
 
@@ -146,7 +146,7 @@ module _ (g : Geometry) (p : AgPlan) (uuid : List ℕ) (s : SbState) (l : length
   abbrev xs : List ℕ
   xs = headBytes g p uuid s
 
-  pub fine : Fine w
+  pub fine : FrameBounds w
   fine = plan-fine g p l h
 
   head-is : whole w p g s uuid fine ≡ xs

@@ -33,7 +33,7 @@ use Rattle.plan_free.specs.Free.{freeOf}
 use Rattle.plan.specs.declared.AgPlan.{AgPlan}
 use Rattle.plan_same.specs.Same.{isPlan}
 use Rattle.head_frame.specs.declared.Frame.{Frame}
-use Rattle.head_frame.specs.Frames.{frameOf, hasChunk, chunkIno, Fine}
+use Rattle.head_frame.specs.Frames.{frameOf, hasChunk, chunkIno, FrameBounds}
 use Rattle.plan_summary.proofs.Narrow.{plan-answer}
 use Rattle.head_frame.proofs.Fitting.{plan-narrow, plan-few}
 use Rattle.head_bytes.specs.Head.{agfFor, agiFor, bnoMagic, inoMagic, rootBytes, bnoRoot, inodeRoot, headBytes}
@@ -64,7 +64,7 @@ module _ (g : Geometry) (p : AgPlan) (uuid : List ℕ) (s : SbState) (l : length
   abbrev xs : List ℕ
   xs = headBytes g p uuid s
 
-  ok : Fine w
+  ok : FrameBounds w
   ok = fine g p uuid s l h u
 
   block-long : 1024 ≤ w .block

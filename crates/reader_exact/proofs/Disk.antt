@@ -16,7 +16,7 @@ use Rattle.list_records.specs.Records.{Record, FL}
 use Rattle.list_records.specs.Device.{Device, applied, read}
 use Rattle.list_records.proofs.Reading.{length-read, read-first}
 use Rattle.list_spec.specs.Listing.{logBlock, headWritten, headLeft}
-use Rattle.list_spec.specs.Left.{unfinished, Early}
+use Rattle.list_spec.specs.Left.{unfinished, FirstBlockUnfinished}
 use Rattle.list_spec.proofs.Early.{early}
 use Rattle.list_accepted.specs.Accepted.{AcceptedRun}
 use Rattle.list_accepted.proofs.Runs.{run-bounds, source-of}
@@ -41,7 +41,7 @@ module _ (r : Request) (a : AcceptedRun r) where
       ap (λ (off : ℕ). take (g .blocksize) (read d off (headLength g))) z ∙ sym (read-first d 0 (g .blocksize) (headLength g) (head-block g))
 
   -- where group 0's first block is zeros or the unfinished one, its head is refused
-  pub early-refused : (d : Device) → Early (runOf r) d → readGroup0 (headOn (runOf r .geometry) d 0) .number ≡ notLeft
+  pub early-refused : (d : Device) → FirstBlockUnfinished (runOf r) d → readGroup0 (headOn (runOf r .geometry) d 0) .number ≡ notLeft
   unfolding headOn
   early-refused d (inl e) =
       let g = runOf r .geometry in

@@ -8,7 +8,7 @@ use native.Mathlib.Omega.{arith}
 use borrow.Author.Tests.{eqb-true, eq-eqb, ltb-false, lt-ltb, le-ltb, not-false}
 use lib.Dec.{eqb, ltb, lit<}
 use lib.ListN.{length}
-use Rattle.endian.specs.Bytes.{beAt}
+use Rattle.endian.specs.Bytes.{beAt, Octets}
 use Rattle.endian.specs.Fields.{part}
 use Rattle.refusals.specs.Table.{first}
 use Rattle.refusals.proofs.Clear.{clear, passed, passes}
@@ -35,7 +35,7 @@ use Rattle.reader_names.proofs.Inside.{part-length, part-below}
 use Rattle.reader_names.proofs.Answer.{named-answered, named-label}
 use Rattle.reader_exact.specs.declared.Found.{Found}
 use Rattle.reader_exact.specs.Read.{found, firstTests, foundAs, readSized, readGroup0}
-use Rattle.reader_exact.specs.Left.{Octets, Handed, HeadLeftBy, LeftFirst, reported}
+use Rattle.reader_exact.specs.Left.{Handed, HeadLeftBy, LeftFirst, reported}
 use Rattle.reader_exact.proofs.Lists.{same-bytes, own-bytes}
 use Rattle.reader_exact.proofs.Sources.{source}
 use Rattle.reader_exact.proofs.Heads.{typed, head-least, source-bounds, some-group, left-length, left-named, left-uuid, left-log, left-names}

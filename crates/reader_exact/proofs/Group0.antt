@@ -9,6 +9,7 @@ use native.Mathlib.Omega.{arith}
 use borrow.Author.Tests.{eqb-true, eqb-false, eq-eqb, ne-eqb, le-ltb}
 use lib.Dec.{eqb}
 use lib.ListN.{length}
+use Rattle.endian.specs.Bytes.{Octets}
 use Rattle.refusals.specs.Numbers.{notLeft, wrongLength}
 use Rattle.arith.specs.Choice.{when}
 use Rattle.refusals.specs.Table.{first}
@@ -23,7 +24,7 @@ use Rattle.reader_names.specs.Named.{namesAt, namedBy, uuidAt}
 use Rattle.reader_names.proofs.Sizings.{same-sizes}
 use Rattle.reader_exact.specs.declared.Found.{Found}
 use Rattle.reader_exact.specs.Read.{firstTests, readSized, readGroup0}
-use Rattle.reader_exact.specs.Left.{Octets, LeftFirst}
+use Rattle.reader_exact.specs.Left.{LeftFirst}
 use Rattle.reader_exact.proofs.First.{number-as, one-of, sound}
 
 -- what is accepted under either sizing is accepted under plain sizing

@@ -10,7 +10,7 @@ use native.Mathlib.Omega.{arith}
 use lib.Dec.{eqb, lit<}
 use lib.ListN.{length}
 use Rattle.arith.specs.Choice.{bit}
-use Rattle.endian.specs.Bytes.{beAt}
+use Rattle.endian.specs.Bytes.{beAt, Octets}
 use Rattle.seqs.proofs.Laws.{choose-elim}
 use Rattle.geometry.specs.declared.Geometry.{Geometry}
 use Rattle.geometry_answers.specs.Answers.{TypedGeometry}
@@ -33,7 +33,7 @@ use Rattle.list_accepted.proofs.Runs.{source-plans, source-answer, source-label
 use Rattle.list_accepted.proofs.Sound.{sound}
 use Rattle.reader_names.specs.Named.{namesAt, namedBy, uuidAt}
 use Rattle.reader_names.proofs.Back.{names-back, named-back, uuid-back, log-back, progress-back}
-use Rattle.reader_exact.specs.Left.{Octets, Handed}
+use Rattle.reader_exact.specs.Left.{Handed}
 
 -- a sector is at most a block
 pub sector-most : (g : Geometry) → Bounds g → g .sectsize ≤ g .blocksize

@@ -8,6 +8,7 @@ use Prim.Native.Nat.{ℕ, _<_}
 use native.Mathlib.Omega.{arith}
 use borrow.Author.Tests.{eqb-true, eqb-false}
 use lib.Dec.{eqb}
+use Rattle.endian.specs.Bytes.{Octets}
 use Rattle.geometry.specs.declared.Geometry.{Geometry}
 use Rattle.plan.specs.declared.Planned.{Planned}
 use Rattle.plan.specs.Plan.{planned}
@@ -19,7 +20,7 @@ use Rattle.list_accepted.specs.Accepted.{AcceptedRun, Source}
 use Rattle.list_accepted.proofs.Runs.{source-of}
 use Rattle.reader_exact.specs.declared.Found.{Found}
 use Rattle.reader_exact.specs.Read.{found, readGroup0, readGroup, readLog}
-use Rattle.reader_exact.specs.Left.{Octets, HeadLeftBy, ReadWhole, reported}
+use Rattle.reader_exact.specs.Left.{HeadLeftBy, ReadWhole, reported}
 use Rattle.reader_exact.specs.Disk.{headOn, logOn, formatted, ByRecords}
 use Rattle.reader_exact.proofs.Heads.{source-handed, some-group}
 use Rattle.reader_exact.proofs.Sizings.{reported-plain, reported-source, reported-log, reported-here}

@@ -4,7 +4,8 @@ use mathlib.Core.Bool.{cond}
 use mathlib.Core.Path.{_≡_}
 use mathlib.Core.List.{List}
 use Prim.Native.Nat.{ℕ, _<_}
-use lib.ListN.{length, getD}
+use lib.ListN.{length}
+use Rattle.endian.specs.Bytes.{Octets}
 use Rattle.geometry.specs.declared.Geometry.{Geometry}
 use Rattle.geometry_answers.specs.Named.{isAnswer}
 use Rattle.geometry_answers.specs.Answers.{TypedGeometry}
@@ -12,10 +13,6 @@ use Rattle.list_spec.specs.Listing.{logBlock, headLeft}
 use Rattle.list_accepted.specs.Accepted.{Source}
 use Rattle.reader_names.specs.Sizings.{plain}
 use Rattle.reader_exact.specs.Read.{readGroup0, readGroup, readLog}
-
--- every number is a byte
-abbrev pub Octets : List ℕ → Type 0
-Octets xs = (i : ℕ) → getD xs i 0 < 256
 
 -- a geometry and a UUID of their types
 pub record Handed (g : Geometry) (u : List ℕ) : Type 0 where

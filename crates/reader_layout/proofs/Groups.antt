@@ -38,7 +38,7 @@ use Rattle.plan_closed.specs.Closed.{closedAgPlan}
 use Rattle.plan_summary.proofs.Narrow.{plan-closed}
 use Rattle.sb.specs.declared.SbState.{SbState}
 use Rattle.head_frame.specs.declared.Frame.{Frame}
-use Rattle.head_frame.specs.Frames.{frameOf, hasChunk, chunkIno, Fine}
+use Rattle.head_frame.specs.Frames.{frameOf, hasChunk, chunkIno, FrameBounds}
 use Rattle.head_frame.proofs.Fitting.{plan-narrow, plan-few}
 use Rattle.head_bytes.specs.Head.{agfFor, agiFor, headBytes}
 use Rattle.list_spec.proofs.Whole.{group-planned}
@@ -121,7 +121,7 @@ module _ (g : Geometry) (u : List ℕ) (z : Source g u) (k : ℕ) (h : k < g .ag
   unfolding siteOf rootChunk
   newino-is = ap (λ (q : AgPlan). chunkIno (g .inopblog) (q .chunk)) closed ∙ chunk-first (eqb k 0) _ (g .inopblog)
 
-  pub ok : Fine (frameOf g (planned g k .plan))
+  pub ok : FrameBounds (frameOf g (planned g k .plan))
   ok = fine g p u s label is-plan u16
 
   sector-long : 512 ≤ length (zeros (w .sector))

@@ -29,7 +29,7 @@ use Rattle.plan.specs.Plan.{planned}
 use Rattle.sb.specs.declared.SbState.{SbState}
 use Rattle.head_leaves.specs.Leaves.{chunkRec, few}
 use Rattle.head_frame.specs.declared.Frame.{Frame}
-use Rattle.head_frame.specs.Frames.{frameOf, Fine}
+use Rattle.head_frame.specs.Frames.{frameOf, FrameBounds}
 use Rattle.head_frame.proofs.Fitting.{plan-narrow, plan-few}
 use Rattle.head_bytes.specs.Head.{bnoMagic, cntMagic, inoMagic, finoMagic, rmapMagic, refcMagic, rootBytes, bnoRoot, cntRoot, inodeRoot, rmapRoot, refcRoot, headBytes}
 use Rattle.head_bytes.specs.Sorting.{bySize}
@@ -86,7 +86,7 @@ module _ (g : Geometry) (u : List ℕ) (z : Source g u) (k : ℕ) (h : k < g .ag
   abbrev head : List ℕ
   head = headBytes g p u s
 
-  fine : Fine w
+  fine : FrameBounds w
   fine = ok g u z k h s
 
   id16 : length u ≡ 16

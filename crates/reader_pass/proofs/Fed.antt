@@ -10,6 +10,7 @@ use native.Mathlib.Omega.{arith}
 use borrow.Author.Tests.{eqb-true, eqb-false, ltb-true, ltb-false, not-false}
 use lib.Dec.{eqb, ltb}
 use lib.ListN.{length, take, length-take}
+use Rattle.endian.specs.Bytes.{Octets}
 use Rattle.refusals.specs.Numbers.{wrongLength, notLeft}
 use Rattle.refusals.specs.Table.{first}
 use Rattle.refusals.proofs.Clear.{clear, passed}
@@ -26,7 +27,7 @@ use Rattle.reader_names.specs.Sizings.{sized, plain}
 use Rattle.reader_names.proofs.Laws.{full-name}
 use Rattle.reader_exact.specs.declared.Found.{Found}
 use Rattle.reader_exact.specs.Read.{placeTests, readGroup0, groupNumber, readLog}
-use Rattle.reader_exact.specs.Left.{Octets, ReadWhole}
+use Rattle.reader_exact.specs.Left.{ReadWhole}
 use Rattle.reader_exact.specs.Disk.{ByRecords}
 use Rattle.reader_exact.proofs.Heads.{head-least, source-bounds, some-group, left-length, left-named}
 use Rattle.reader_exact.proofs.Group0.{either-named}

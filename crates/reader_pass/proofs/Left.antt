@@ -6,6 +6,7 @@ use mathlib.Core.List.{List}
 use Prim.Native.Nat.{ℕ, zero, suc, _-_, _<_, _≤_}
 use lib.Dec.{lit<}
 use lib.ListN.{getD}
+use Rattle.endian.specs.Bytes.{Octets}
 use Rattle.geometry.specs.declared.Geometry.{Geometry}
 use Rattle.head_bytes.specs.Head.{headLength}
 use Rattle.run.specs.Runs.{runOf}
@@ -16,7 +17,7 @@ use Rattle.list_spec.specs.Listing.{headLeft}
 use Rattle.list_accepted.proofs.Runs.{source-of}
 use Rattle.reader_exact.specs.declared.Found.{Found}
 use Rattle.reader_exact.specs.Read.{readGroup0}
-use Rattle.reader_exact.specs.Left.{Octets, reported}
+use Rattle.reader_exact.specs.Left.{reported}
 use Rattle.reader_exact.specs.Disk.{headOn, logOn, ByRecords}
 use Rattle.reader_exact.proofs.Sizings.{reported-plain}
 use Rattle.reader_exact.proofs.Heads.{head-least, source-bounds, some-group, left-named}

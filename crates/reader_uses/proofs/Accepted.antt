@@ -3,6 +3,7 @@
 use mathlib.Core.Path.{_≡_, refl, sym, ap, _∙_}
 use mathlib.Core.List.{List}
 use Prim.Native.Nat.{ℕ, _<_}
+use Rattle.endian.specs.Bytes.{Octets}
 use Rattle.geometry.specs.declared.Geometry.{Geometry}
 use Rattle.request.specs.declared.Request.{Request}
 use Rattle.plan_summary.specs.declared.Summary.{Summary}
@@ -18,7 +19,7 @@ use Rattle.list_accepted.specs.Accepted.{AcceptedRun, Source}
 use Rattle.list_accepted.proofs.Runs.{source-plans, source-label, source-uuid, source-of}
 use Rattle.list_accepted.proofs.Sound.{sound}
 use Rattle.reader_exact.specs.Read.{readGroup0}
-use Rattle.reader_exact.specs.Left.{Octets, ReadWhole}
+use Rattle.reader_exact.specs.Left.{ReadWhole}
 use Rattle.reader_exact.proofs.Example.{disk, disk-accepted}
 use Rattle.reader_exact.proofs.Whole.{whole-source, whole-heads}
 use Rattle.reader_uses.specs.ByUse.{LeftHeads, Used, Printed}

@@ -7,6 +7,7 @@ use mathlib.Core.Logic.{_↔_}
 use Prim.Native.Nat.{ℕ, _<_}
 use borrow.Author.Tests.{eqb-true, eq-eqb}
 use lib.Dec.{eqb}
+use Rattle.endian.specs.Bytes.{Octets}
 use Rattle.geometry.specs.declared.Geometry.{Geometry}
 use Rattle.plan.specs.declared.Planned.{Planned}
 use Rattle.list_records.specs.Device.{Device}
@@ -14,7 +15,7 @@ use Rattle.list_spec.specs.Listing.{logBlock, headLeft}
 use Rattle.list_accepted.specs.Accepted.{Source}
 use Rattle.reader_exact.specs.declared.Found.{Found}
 use Rattle.reader_exact.specs.Read.{readGroup0, readGroup, readLog}
-use Rattle.reader_exact.specs.Left.{Octets, Handed, HeadLeftBy, LeftLog}
+use Rattle.reader_exact.specs.Left.{Handed, HeadLeftBy, LeftLog}
 use Rattle.reader_exact.specs.Disk.{headOn, logOn, formatted}
 use Rattle.reader_exact.proofs.Disk.{head-formatted, log-formatted}
 use Rattle.reader_exact.proofs.First.{accepts-first}

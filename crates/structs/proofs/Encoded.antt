@@ -9,7 +9,7 @@ use lib.ListN.{length}
 use borrow.Author.Tests.{le-leb, ne-eqb, eqb-true}
 use native.Mathlib.Omega.{arith}
 use Rattle.endian.specs.Answer.{room, Put}
-use Rattle.endian.specs.Bytes.{patch}
+use Rattle.endian.specs.Bytes.{patch, Octets}
 use Rattle.endian.specs.Fields.{Field, Span, byteRun, writeFields, spans, clear, tidy}
 use Rattle.endian.proofs.Fields.{write-length, and-left, and-right}
 use Rattle.endian.proofs.Order.{trade, patch-over}
@@ -17,7 +17,7 @@ use Rattle.endian_little.specs.Bytes.{leBytes}
 use Rattle.endian_little.proofs.Laws.{length-le}
 use Rattle.crc.specs.Crc.{cksumOf, stamped}
 use Rattle.crc.specs.Right.{alreadyRight}
-use Rattle.crc.specs.Means.{Bytes, Inside, SameSums}
+use Rattle.crc.specs.Means.{Inside, SameSums}
 use Rattle.crc.proofs.Laws.{stamped-twice}
 use Rattle.crc.proofs.Right.{stored-kept, right-kept, right-bytes, bytes-right, right-again}
 use Rattle.structs.specs.Written.{Written}
@@ -57,7 +57,7 @@ said n true b e w = (eqb-true n 0 e, w)
 said n false b e w = absurd (let z : _≡_ {A = ℕ} 0 1 = cc in omega arith)
 
 -- A YES MEANS that the call wasn't refused, and that the lent buffer had the same checksum bytes before as after.
-pub right-means : {n r : ℕ} {right : Bool} {sums new old left : List ℕ} → Encoded n sums new old r right left → right ≡ true → Bytes old → Bytes left → length left ≡ length old
+pub right-means : {n r : ℕ} {right : Bool} {sums new old left : List ℕ} → Encoded n sums new old r right left → right ≡ true → Octets old → Octets left → length left ≡ length old
     → Inside sums (length old) → (r ≡ 0) × SameSums sums old left
 right-means {n} {r} {right} {sums} {new} {old} {left} w y b c l i =
     let s = said n (eqb n 0) (alreadyRight sums old new) refl (sym (w .right-is) ∙ y) in

@@ -10,7 +10,7 @@ use lib.Dec.{eqb}
 use lib.ListN.{length, take}
 pub use Rattle.arith.specs.Choice.{when}
 use Rattle.endian.specs.Answer.{room, answer, Put}
-use Rattle.endian.specs.Bytes.{patch}
+use Rattle.endian.specs.Bytes.{patch, Octets}
 use Rattle.endian.specs.Fields.{writeFields, table, tableFits, PutAll}
 use Rattle.table_lines.specs.Lines.{PutLine}
 use Rattle.chunk.specs.Chunk.{ChunkMade}
@@ -57,7 +57,7 @@ pub use Rattle.reader_exact.specs.Read.{readGroup0, readGroup, readLog}
 use Rattle.reader_exact.specs.Read.{found}
 pub use Rattle.reader_names.specs.Sizings.{plain}
 pub use Rattle.reader_exact.specs.Asked.{AskedFor}
-pub use Rattle.reader_exact.specs.Left.{Octets, Handed, ReadWhole, reported}
+pub use Rattle.reader_exact.specs.Left.{Handed, ReadWhole, reported}
 pub use Rattle.reader_exact.specs.Disk.{headOn, formatted, ByRecords}
 use Rattle.reader_exact.specs.Disk.{logOn}
 pub use Rattle.reader_vouch.specs.Leaving.{Leaves, LeavesLog, SomeLeaves}
