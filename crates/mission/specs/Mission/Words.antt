@@ -10,7 +10,8 @@ use lib.Dec.{eqb}
 use lib.ListN.{length, take}
 pub use Rattle.arith.specs.Choice.{when}
 use Rattle.endian.specs.Answer.{room, answer, Put}
-use Rattle.endian.specs.Bytes.{patch, Octets}
+use Rattle.endian.specs.Bytes.{patch}
+pub use Rattle.endian.specs.Bytes.{Octets}
 use Rattle.endian.specs.Fields.{writeFields, table, tableFits, PutAll}
 use Rattle.table_lines.specs.Lines.{PutLine}
 use Rattle.chunk.specs.Chunk.{ChunkMade}
