@@ -35,6 +35,17 @@ unfolding storable
 between x (pos n) e t u = le-leb n 16299260425 (ltb-false 16299260425 n (rw e at u))
 between x (negsuc n) e t u = le-leb (suc n) epoch (let h = ltb-false 2147483647 n (rw e at t) in omega arith)
 
+-- without bigtime the last second is 2,147,483,647
+pub late-small : (x s : ℤ) → x ≡ s → ltZ (pos 2147483647) x ≡ true → ltb (shifted s) (2 ^ 32) ≡ false
+unfolding shifted
+late-small x (pos n) e t = le-ltb (n + epoch) (2 ^ 32) (let h = ltb-true 2147483647 n (rw e at t) in omega arith)
+late-small x (negsuc n) e t = never (rw e at t)
+
+pub not-late-small : (x s : ℤ) → x ≡ s → ltZ (pos 2147483647) x ≡ false → shifted s ≤ 4294967295
+unfolding shifted
+not-late-small x (pos n) e t = let h = ltb-false 2147483647 n (rw e at t) in omega arith
+not-late-small x (negsuc n) e t = omega arith
+
 -- ---- the shift
 pub shifted-most : (s : ℤ) → storable s ≡ true → shifted s ≤ 18446744073
 unfolding storable shifted
@@ -97,10 +108,6 @@ in32-is (negsuc k) t h = let g = leb-true (suc k) epoch t in omega arith
 pub time-no : (big : Bool) (s : ℤ) (n r v : ℕ) → timeInside big s n ≡ false → r ≡ timeOutOfRange → v ≡ 0 → StoredAs big s n r v
 time-no big s n r v e a b = record { number-is = rw e a; value-is = rw e b }
 
-same-accepted : (b : Bool) (x y : ℕ) → (b ≡ true → x ≡ y) → valueIf b x ≡ valueIf b y
-same-accepted true x y f = f refl
-same-accepted false x y f = refl
-
 pub time-big : (s : ℤ) (n w r v : ℕ) → n < second → storable s ≡ true → w ≡ shifted s
     → (r ≡ require timeOutOfRange (ltb (w * 1000000000 + n) (2 ^ 64)) 0) × (v ≡ valueIf (ltb (w * 1000000000 + n) (2 ^ 64)) (w * 1000000000 + n)) → StoredAs true s n r v
 unfolding timeRaw
@@ -109,17 +116,13 @@ time-big s n w r v h t e p =
     let q = rw e at p in
     record { number-is = rw i (q .0); value-is = rw i (q .1) }
 
-pub time-small : (s : ℤ) (n w r v : ℕ) → n < second → storable s ≡ true → w ≡ shifted s
-    → (r ≡ require timeOutOfRange (ltb w (2 ^ 32)) 0) × (v ≡ valueIf (ltb w (2 ^ 32)) ((w + 2147483648) % 2 ^ 32 * 2 ^ 32 + n)) → StoredAs false s n r v
+pub time-small : (s : ℤ) (n w r v : ℕ) → n < second → storable s ≡ true → w ≡ shifted s → shifted s ≤ 4294967295
+    → (r ≡ 0) × (v ≡ (w + 2147483648) % 2 ^ 32 * 2 ^ 32 + n) → StoredAs false s n r v
 unfolding timeRaw
-time-small s n w r v h t e p =
-    let i = inside-small s n h t in
+time-small s n w r v h t e l p =
+    let i = inside-small s n h t ∙ lt-ltb (shifted s) (2 ^ 32) (omega arith) in
     let q = rw e at p in
-    record {
-      number-is = rw i (q .0);
-      value-is = rw i (q .1 ∙ same-accepted (ltb (shifted s) (2 ^ 32)) ((shifted s + 2147483648) % 2 ^ 32 * 2 ^ 32 + n) (in32 s * 2 ^ 32 + n)
-          (λ b. ap (λ (k : ℕ). k * 2 ^ 32 + n) (in32-is s t (ltb-true (shifted s) (2 ^ 32) b))));
-    }
+    record { number-is = rw i (q .0); value-is = rw i (q .1 ∙ ap (λ (k : ℕ). k * 2 ^ 32 + n) (in32-is s t (omega arith))) }
 
 -- ---- back: a difference of two numbers, read as signed
 cond-fits : (b : Bool) (x y : ℤ) → SFits w64 x → SFits w64 y → SFits w64 (cond b x y)

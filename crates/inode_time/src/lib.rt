@@ -72,15 +72,11 @@ fn encode_big(shifted: u64, nsecs: u64) -> Stored
     refused()
 }
 
-// Without bigtime.
+// Without bigtime, of seconds up to 2,147,483,647.
 fn encode_small(shifted: u64, nsecs: u64) -> Stored
-    requires { ⌜ (shifted ≤ 18446744073) × (nsecs < 1000000000) ⌝ }
-    ensures { λ r. ⌜ (r .number ≡ require timeOutOfRange (ltb shifted (2 ^ 32)) 0)
-        × (r .value ≡ valueIf (ltb shifted (2 ^ 32)) ((shifted + 2147483648) % 2 ^ 32 * 2 ^ 32 + nsecs)) ⌝ }
+    requires { ⌜ (shifted ≤ 4294967295) × (nsecs < 1000000000) ⌝ }
+    ensures { λ r. ⌜ (r .number ≡ 0) × (r .value ≡ (shifted + 2147483648) % 2 ^ 32 * 2 ^ 32 + nsecs) ⌝ }
 {
-    if 4294967295 < shifted {
-        return refused();
-    }
     Stored {
         number: 0,
         value: (shifted + 2147483648) % 4294967296 * 4294967296 + nsecs,
@@ -102,6 +98,9 @@ pub fn encode_time(t: Timestamp, bigtime: bool) -> Stored
     let v = s.value;
     if bigtime {
         return encode_big(v, nsecs);
+    }
+    if 2147483647 < t.secs {
+        return refused();
     }
     encode_small(v, nsecs)
 }

@@ -3,11 +3,11 @@
 use mir.Syntax.{w64}
 use mir.Val.{SFits}
 use mir.ValLaws.{toZ-ofZ}
-use Rattle.inode_time.proofs.Seconds.{no-nanoseconds, not-storable, shifted-most, time-no, time-big, time-small}
+use Rattle.inode_time.proofs.Seconds.{no-nanoseconds, not-storable, shifted-most, inside-small, late-small, not-late-small, time-no, time-big, time-small}
 use Rattle.inode_time.specs.Time.{shifted, valueIf}
 use borrow.Author.Tests.{not-true, not-false}
 use native.Mathlib.Omega.{arith}
-use mathlib.Core.Bool.{Bool}
+use mathlib.Core.Bool.{Bool, false}
 use mathlib.Core.Path.{ap, sym, _∙_}
 use borrow.Author.Needs.{needs}
 use Rattle.inode_time.proofs.encode_time.Statement.{statement}
@@ -50,32 +50,42 @@ returns-3 c =
     let w = v ∙ ap (λ (x : Bool). valueIf x (shifted (args .t .secs))) b in
     rw (c .before .if3 .taken) (time-big (args .t .secs) (args .t .nsecs) _ _ _ (c .before .before .before .before .before .before .if1 .left) b w (c .encode-big .ensures))
 
-encode-small-requires : tie.Need-encode-small-requires
-encode-small-requires c κs =
-    let args = c .before .before .before .before .before .before .before .args in
-    let f : SFits w64 (args .t .secs) = search needs in
-    let z = toZ-ofZ w64 (args .t .secs) f in
-    let t = rw z at (c .before .before .before .shift .ensures .test) in
-    let v = rw z at (c .before .before .before .shift .ensures .value-is) in
-    let b = sym (t) ∙ not-false _ (c .before .if2 .left) in
-    let w = v ∙ ap (λ (x : Bool). valueIf x (shifted (args .t .secs))) b in
-    let h = shifted-most (args .t .secs) b in
-    (omega (arith, w, h), c .before .before .before .before .before .if1 .left)
-
 returns-4 : tie.Need-returns-4
 returns-4 c =
-    let args = c .before .before .before .before .before .before .before .before .args in
+    let args = c .before .before .before .before .before .before .before .before .before .before .before .args in
     let f : SFits w64 (args .t .secs) = search needs in
     let z = toZ-ofZ w64 (args .t .secs) f in
-    let t = rw z at (c .before .before .before .before .shift .ensures .test) in
-    let v = rw z at (c .before .before .before .before .shift .ensures .value-is) in
-    let b = sym (t) ∙ not-false _ (c .before .before .if2 .left) in
+    let t = rw z at (c .before .before .before .before .before .before .before .shift .ensures .test) in
+    let b = sym (t) ∙ not-false _ (c .before .before .before .before .before .if2 .left) in
+    let i = inside-small (args .t .secs) (args .t .nsecs) (c .before .before .before .before .before .before .before .before .before .if1 .left) b in
+    rw (c .before .before .before .before .if3 .left) (time-no false (args .t .secs) _ _ _ (i ∙ late-small _ _ z (c .before .if4 .taken)) (c .refused3 .ensures .0) (c .refused3 .ensures .1))
+
+encode-small-requires : tie.Need-encode-small-requires
+encode-small-requires c κs =
+    let args = c .before .before .before .before .before .before .before .before .before .before .args in
+    let f : SFits w64 (args .t .secs) = search needs in
+    let z = toZ-ofZ w64 (args .t .secs) f in
+    let t = rw z at (c .before .before .before .before .before .before .shift .ensures .test) in
+    let v = rw z at (c .before .before .before .before .before .before .shift .ensures .value-is) in
+    let b = sym (t) ∙ not-false _ (c .before .before .before .before .if2 .left) in
     let w = v ∙ ap (λ (x : Bool). valueIf x (shifted (args .t .secs))) b in
-    rw (c .before .if3 .left) (time-small (args .t .secs) (args .t .nsecs) _ _ _ (c .before .before .before .before .before .before .if1 .left) b w (c .encode-small .ensures))
+    let h = not-late-small _ _ z (c .if4 .left) in
+    (omega (arith, w, h), c .before .before .before .before .before .before .before .before .if1 .left)
+
+returns-5 : tie.Need-returns-5
+returns-5 c =
+    let args = c .before .before .before .before .before .before .before .before .before .before .before .args in
+    let f : SFits w64 (args .t .secs) = search needs in
+    let z = toZ-ofZ w64 (args .t .secs) f in
+    let t = rw z at (c .before .before .before .before .before .before .before .shift .ensures .test) in
+    let v = rw z at (c .before .before .before .before .before .before .before .shift .ensures .value-is) in
+    let b = sym (t) ∙ not-false _ (c .before .before .before .before .before .if2 .left) in
+    let w = v ∙ ap (λ (x : Bool). valueIf x (shifted (args .t .secs))) b in
+    rw (c .before .before .before .before .if3 .left) (time-small (args .t .secs) (args .t .nsecs) _ _ _ (c .before .before .before .before .before .before .before .before .before .if1 .left) b w (not-late-small _ _ z (c .before .if4 .left)) (c .encode-small .ensures))
 
 pub encode-time-spec : {M : Type 1} → statement M
 encode-time-spec =
     tie.close
     (tie.spec
     (λ c. search needs) (λ c κs. search needs) returns (λ c κs. search needs) (λ c κs. search needs) returns-2
-    encode-big-requires returns-3 encode-small-requires returns-4)
+    encode-big-requires returns-3 (λ c κs. search needs) returns-4 encode-small-requires returns-5)
