@@ -19,8 +19,7 @@ use Rattle.geometry_answers.specs.Answers.{TypedOptions}
 use Rattle.request.specs.declared.Request.{Request}
 use Rattle.request_input.specs.Records.{option, optionBits, valueWith, records, wellFormed}
 use Rattle.request_input.specs.Records as keys
-use Rattle.request.specs.Options.{short32, short8, signed, timeGiven, labelInside, uuidInside, labelAt, labelGiven, uuidGiven, paramsOf}
-use Rattle.request.specs.Options as options
+use Rattle.request.specs.Options.{short32, short8, signed, timeGiven, labelInside, uuidInside, labelAt, labelGiven, uuidGiven, paramsOf, optBelow}
 use Rattle.request.specs.Parse.{parseDef, parsedIf}
 use Rattle.request.specs.Defaults.{orEpoch, timeOf, seedOf}
 use Rattle.request.proofs.Values.{option-fits, label-inside, uuid-inside}
@@ -32,15 +31,15 @@ use Rattle.list_accepted.proofs.Runs.{request-zero}
 
 -- ---- an option that fits, absent or given
 
-or-64 : (m : ℕ) (o : OptU64) → 0 < m → options.below m o → or64 o 0 < m
+or-64 : (m : ℕ) (o : OptU64) → 0 < m → optBelow m o → or64 o 0 < m
 or-64 m Absent p h = p
 or-64 m (Given n) p h = h
 
-or-32 : (m : ℕ) (o : OptU64) → 0 < m → options.below m o → or32 (short32 o) 0 < m
+or-32 : (m : ℕ) (o : OptU64) → 0 < m → optBelow m o → or32 (short32 o) 0 < m
 or-32 m Absent p h = p
 or-32 m (Given n) p h = h
 
-or-8 : (m : ℕ) (o : OptU64) → 0 < m → options.below m o → or8 (short8 o) 0 < m
+or-8 : (m : ℕ) (o : OptU64) → 0 < m → optBelow m o → or8 (short8 o) 0 < m
 or-8 m Absent p h = p
 or-8 m (Given n) p h = h
 
@@ -54,7 +53,7 @@ signed-at n false e h = let b = ltb-false n (2 ^ 63) e in rw (e, lt-ltb n (2 ^ 6
 signed-fits : (n : ℕ) → n < 2 ^ 64 → signed64 (signed n)
 signed-fits n h = signed-at n (ltb n (2 ^ 63)) refl h
 
-time-fits : (s n : OptU64) → options.below (2 ^ 64) s → options.below (2 ^ 32) n → signed64 (orEpoch (timeGiven s n) .secs) × (orEpoch (timeGiven s n) .nsecs < 2 ^ 32)
+time-fits : (s n : OptU64) → optBelow (2 ^ 64) s → optBelow (2 ^ 32) n → signed64 (orEpoch (timeGiven s n) .secs) × (orEpoch (timeGiven s n) .nsecs < 2 ^ 32)
 time-fits Absent Absent a b = (lit< tt, lit< tt)
 time-fits Absent (Given n) a b = (signed-fits 0 (lit< tt), b)
 time-fits (Given s) Absent a b = (signed-fits s a, lit< tt)
@@ -91,7 +90,7 @@ module _ (xs : List ℕ) (bytes : (i : ℕ) → getD xs i 0 < 256) where
   -- ---- the request
 
   module _ (well : wellFormed xs ≡ true) where
-    fits : (code : ℕ) → options.below (2 ^ getD optionBits code 0) (valueWith (option code) (records 0 xs))
+    fits : (code : ℕ) → optBelow (2 ^ getD optionBits code 0) (valueWith (option code) (records 0 xs))
     fits code = option-fits xs well code
 
     options-typed : TypedOptions (paramsOf xs)

@@ -1,5 +1,5 @@
 pub mod Splitting
 pub mod Accepted
 pub mod Which
-pub mod Pieces
+pub mod PieceLaws
 pub mod Lent

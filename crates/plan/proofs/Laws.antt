@@ -11,7 +11,7 @@ use lib.ListN.{length, length-append}
 use Rattle.seqs.specs.Lists.{Store, packed, pushed, appended, upFrom}
 use Rattle.seqs.proofs.Laws.{appended-append, appended-packed, upFrom-step}
 use Rattle.btree.specs.declared.records.AllocRec.{AllocRec}
-use Rattle.plan_rmap.specs.Rmap as Rmap
+use Rattle.plan_rmap.specs.Rmap.{zeroRmapRec}
 use Rattle.plan_site.specs.declared.Site.{Site}
 use Rattle.plan.specs.Plan.{smallerOf, gap, headMap, refcMap, logMap, mapRec, ownRefc, ownLog}
 
@@ -54,10 +54,10 @@ two-gaps a b c d =
 
 -- the reverse mappings of head and log fit
 pub maps-packed : (s : Site)
-    → appended (appended (appended (packed Rmap.zeroRec []) (headMap s)) (refcMap s)) (logMap s) ≡ packed Rmap.zeroRec (headMap s ++ (refcMap s ++ logMap s))
+    → appended (appended (appended (packed zeroRmapRec []) (headMap s)) (refcMap s)) (logMap s) ≡ packed zeroRmapRec (headMap s ++ (refcMap s ++ logMap s))
 maps-packed s =
     let a = length-if (s .reflink) (mapRec (s .«refc_at») 1 ownRefc) in
     let b = length-if (s .«has_log») (mapRec (s .«log_at») (s .«log_blocks») ownLog) in
     let n : length (refcMap s ++ logMap s) ≡ length (refcMap s) + length (logMap s) = length-append (refcMap s) (logMap s) in
-    appended-append Rmap.zeroRec (appended (packed Rmap.zeroRec []) (headMap s)) (refcMap s) (logMap s)
-    ∙ appended-from Rmap.zeroRec (headMap s) (refcMap s ++ logMap s) (omega arith)
+    appended-append zeroRmapRec (appended (packed zeroRmapRec []) (headMap s)) (refcMap s) (logMap s)
+    ∙ appended-from zeroRmapRec (headMap s) (refcMap s ++ logMap s) (omega arith)

@@ -112,7 +112,7 @@ module _ (g : Geometry) (l : length (g .label) ≡ 12) where
       let f = y .few in
       let h : (b : ℕ) → holding b (heldOf (s .held)) ≡ holding b hs = λ b. ap (holding b) e in
       record {
-        heldAs = p .planned;
+        accepted = p .planned;
         few = omega arith;
         sorted = ap (valid allocStart allocCount 0) e ∙ y .sorted;
         inside = λ b. let u = y .weighs (has b) (additive-has b) in let i = h b in omega arith;

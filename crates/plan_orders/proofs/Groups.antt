@@ -13,7 +13,7 @@ use Rattle.geometry_layout.proofs.Inside.{few-blocks}
 use Rattle.plan_site.specs.Sites.{siteOf}
 use Rattle.plan_site.proofs.Sites.{site-sound}
 use Rattle.plan.specs.Plan.{planned}
-use Rattle.plan_totals.specs.declared.Total.{Total}
+use Rattle.table_lines.specs.declared.Total.{Total}
 use Rattle.plan_totals.specs.Totals.{plansNumber, freeOfPlan, freeCount, rowOf, totalOf, constCount, closedTotal}
 use Rattle.plan_totals.proofs.Whole.{all-planned, count-const, total-closed}
 use Rattle.plan_summary.proofs.Laws.{few-groups, each-fits}

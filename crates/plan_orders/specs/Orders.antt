@@ -9,7 +9,7 @@ use lib.ListN.{take}
 use Rattle.seqs.specs.Lists.{fold, upFrom}
 use Rattle.geometry.specs.declared.Geometry.{Geometry}
 use Rattle.plan.specs.Plan.{planned}
-use Rattle.plan_totals.specs.declared.Total.{Total}
+use Rattle.table_lines.specs.declared.Total.{Total}
 use Rattle.plan_totals.specs.Totals.{freeOfPlan, freeCount, rowOf, totalOf}
 
 -- ---- orders

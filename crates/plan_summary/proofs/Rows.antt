@@ -20,7 +20,7 @@ use Rattle.plan_site.specs.Sites.{siteOf, SoundSite}
 use Rattle.plan_site.proofs.Sites.{site-sound}
 use Rattle.plan.specs.Plan.{planned}
 use Rattle.plan_closed.specs.Closed.{hasRootChunk, listAt, listShort}
-use Rattle.plan_totals.specs.declared.Row.{Row}
+use Rattle.table_lines.specs.declared.Row.{Row}
 use Rattle.plan_totals.specs.Totals.{plansNumber, noRow, largerCount, beforeChunk, afterChunk, afterList, rowOf, closedRow, totalOf}
 use Rattle.plan_totals.proofs.Rows.{row-closed}
 use Rattle.plan_totals.proofs.Whole.{all-planned, total-closed}

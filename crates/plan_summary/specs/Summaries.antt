@@ -10,7 +10,7 @@ use Rattle.geometry.specs.Log.{preallocOf}
 use Rattle.geometry_layout.specs.Places.{freelistOf, chunkOf, rootChunkOf}
 use Rattle.plan.specs.declared.AgPlan.{AgPlan}
 use Rattle.plan_same.specs.Same.{isPlan}
-use Rattle.plan_totals.specs.declared.Row.{Row}
+use Rattle.table_lines.specs.declared.Row.{Row}
 use Rattle.plan_totals.specs.Totals.{plansNumber, constCount, noRow, closedTotal, freeblksOf, longestOf}
 use Rattle.plan_summary.specs.declared.Summary.{Summary}
 use Rattle.plan_summary.specs.declared.Summarised.{Summarised}

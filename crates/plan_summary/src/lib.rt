@@ -16,7 +16,7 @@ use geometry::Geometry;
 use geometry_counts::Value64;
 use plan_site::Site;
 use plan_site::site_of;
-use plan_totals::Total;
+use table_lines::Total;
 
 // Blocks, those of one group in 32 bits; `chunk_at` is a place in group 0.
 pub struct Summary {

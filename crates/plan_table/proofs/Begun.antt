@@ -7,10 +7,10 @@ use native.Mathlib.Omega.{arith}
 use borrow.Author.Tests.{le-leb, lt-leb, eq-eqb, ne-eqb}
 use lib.ListN.{length, take}
 use Rattle.seqs.specs.Lists.{turns}
-use Rattle.table_lines.specs.Lines.{headerBytes, refusedBytes}
+use Rattle.table_lines.specs.Lines.{headerBytes, refusedBytes, rowBytes, totalBytes}
 use Rattle.geometry.specs.declared.Geometry.{Geometry}
-use Rattle.plan_totals.specs.declared.Row.{Row}
-use Rattle.plan_totals.specs.declared.Total.{Total}
+use Rattle.table_lines.specs.declared.Row.{Row}
+use Rattle.table_lines.specs.declared.Total.{Total}
 use Rattle.plan_totals.specs.Totals.{plansNumber, noRow, rowOf, totalOf}
 use Rattle.plan_summary.specs.Summaries.{summaryOf, rowBySummary}
 use Rattle.plan_summary.proofs.Rows.{rows-agree}
@@ -21,7 +21,7 @@ use Rattle.plan_orders.proofs.Groups.{same-totals, adds-falling}
 use Rattle.run.specs.Runs.{accepted}
 use Rattle.run.proofs.Accepted.{plans-zero}
 use Rattle.plan_table.specs.declared.Table.{Table}
-use Rattle.plan_table.specs.Printed.{rowLine, totalLine, rowLines, tableBytes, tableOr, tableAnswer, noDiskBytes, planBytes, rowAnswer}
+use Rattle.plan_table.specs.Printed.{rowLines, tableBytes, tableOr, tableAnswer, noDiskBytes, planBytes, rowAnswer}
 use Rattle.plan_table.specs.Filling.{noSums, tableRefused, wholeTable, begunTable, noDisk, tableBegun, lineOf, withRow, sumsAfter, afterLine, afterLines, linesOf, linesJoined, restOf}
 use Rattle.plan_table.proofs.Parts.{line-more}
 
@@ -60,7 +60,7 @@ module _ (g : Geometry) where
       let e : g .agcount + 2 - 1 ≡ suc (g .agcount) = omega arith in
       rw (count-is, lt-leb (g .agcount + 2) 1 (omega arith), lt-leb (g .agcount + 2 - 1) (g .agcount) (omega arith), e)
 
-  row-line : (n : ℕ) (s : Total) → suc n ≤ g .agcount → lineOf (rowsLeft (suc n) s) ≡ rowLine (rowBySummary (summaryOf g) (g .agcount - suc n))
+  row-line : (n : ℕ) (s : Total) → suc n ≤ g .agcount → lineOf (rowsLeft (suc n) s) ≡ rowBytes (rowBySummary (summaryOf g) (g .agcount - suc n))
   unfolding lineOf
   row-line n s h =
       let e : suc (suc n) - 1 ≡ suc n = omega arith in
@@ -73,13 +73,13 @@ module _ (g : Geometry) where
       let k : g .agcount - 1 - (g .agcount - suc n) ≡ n = omega arith in
       rw (count-is, lt-leb (suc (suc n)) 1 (omega arith), e, le-leb (suc n) (g .agcount) h, k)
 
-  last-line : (s : Total) → lineOf (rowsLeft 0 s) ≡ totalLine s
+  last-line : (s : Total) → lineOf (rowsLeft 0 s) ≡ totalBytes s
   unfolding lineOf
   last-line s = refl
 
-  last-rest : (s : Total) → linesJoined (linesOf 1 (rowsLeft 0 s)) ≡ totalLine s
+  last-rest : (s : Total) → linesJoined (linesOf 1 (rowsLeft 0 s)) ≡ totalBytes s
   unfolding linesOf linesJoined
-  last-rest s = ap (λ (x : List ℕ). x ++ []) (last-line s) ∙ append-nil (totalLine s)
+  last-rest s = ap (λ (x : List ℕ). x ++ []) (last-line s) ∙ append-nil (totalBytes s)
 
   module _ (l : length (g .label) ≡ 12) (e : plansNumber g ≡ 0) where
     -- the sums over the first j groups, counted from the last
@@ -143,7 +143,7 @@ module _ (g : Geometry) where
     all-fallen : fallen (g .agcount) ≡ totalOf g
     all-fallen = ap (totalBy g) (falling-whole (g .agcount)) ∙ adds-falling g l e .last-line
 
-    rows-more : (k : ℕ) → rowLines g k ++ rowLine (rowOf g k) ≡ rowLines g (suc k)
+    rows-more : (k : ℕ) → rowLines g k ++ rowBytes (rowOf g k) ≡ rowLines g (suc k)
     unfolding rowLines
     rows-more k = refl
 
@@ -153,20 +153,20 @@ module _ (g : Geometry) where
 
     -- the rows before the last n, and the last n and the sums
     rows-and-rest : (n : ℕ) → n ≤ g .agcount
-        → rowLines g (g .agcount - n) ++ linesJoined (linesOf (suc n) (rowsLeft n (fallen (g .agcount - n)))) ≡ rowLines g (g .agcount) ++ totalLine (totalOf g)
+        → rowLines g (g .agcount - n) ++ linesJoined (linesOf (suc n) (rowsLeft n (fallen (g .agcount - n)))) ≡ rowLines g (g .agcount) ++ totalBytes (totalOf g)
     rows-and-rest zero h =
         let z : g .agcount - 0 ≡ g .agcount = omega arith in
         ap (λ (x : ℕ). rowLines g x ++ linesJoined (linesOf 1 (rowsLeft 0 (fallen x)))) z
-        ∙ ap (λ (x : List ℕ). rowLines g (g .agcount) ++ x) (last-rest (fallen (g .agcount)) ∙ ap totalLine all-fallen)
+        ∙ ap (λ (x : List ℕ). rowLines g (g .agcount) ++ x) (last-rest (fallen (g .agcount)) ∙ ap totalBytes all-fallen)
     rows-and-rest (suc n) h =
         let k = g .agcount - suc n in
         let t = rowsLeft (suc n) (fallen k) in
         let z : suc k ≡ g .agcount - n = omega arith in
-        let r : lineOf t ≡ rowLine (rowOf g k) = row-line n (fallen k) h ∙ ap rowLine (rows-agree g l e k) in
+        let r : lineOf t ≡ rowBytes (rowOf g k) = row-line n (fallen k) h ∙ ap rowBytes (rows-agree g l e k) in
         let rest = linesJoined (linesOf (suc n) (rowsLeft n (fallen (g .agcount - n)))) in
         ap (λ (x : List ℕ). rowLines g k ++ x)
         (lines-more (suc n) t ∙ ap (λ (x : Table). lineOf t ++ linesJoined (linesOf (suc n) x)) (next-state n h) ∙ ap (λ (x : List ℕ). x ++ rest) r)
-        ∙ sym (append-assoc (rowLines g k) (rowLine (rowOf g k)) rest)
+        ∙ sym (append-assoc (rowLines g k) (rowBytes (rowOf g k)) rest)
         ∙ ap (λ (x : List ℕ). x ++ rest) (rows-more k ∙ ap (rowLines g) z)
         ∙ rows-and-rest n (omega arith)
 
@@ -174,7 +174,7 @@ module _ (g : Geometry) where
     unfolding rowLines
     no-rows e = rw e
 
-    table-is : headerBytes ++ (rowLines g (g .agcount) ++ totalLine (totalOf g)) ≡ tableBytes g
+    table-is : headerBytes ++ (rowLines g (g .agcount) ++ totalBytes (totalOf g)) ≡ tableBytes g
     unfolding tableBytes
     table-is = refl
 
@@ -212,7 +212,7 @@ row-refused g k {m} e h = rw (← e, ne-eqb m 0 h) refl
 
 pub no-disk-rest : restOf noDisk ≡ noDiskBytes
 unfolding lineOf sumsAfter linesOf linesJoined noDiskBytes
-no-disk-rest = ap (λ (x : List ℕ). headerBytes ++ x) (append-nil (totalLine noSums))
+no-disk-rest = ap (λ (x : List ℕ). headerBytes ++ x) (append-nil (totalBytes noSums))
 
 pub input-empty : (xs : List ℕ) → length xs ≡ 0 → (noDisk ≡ tableBegun xs) × (noDiskBytes ≡ planBytes xs)
 unfolding tableBegun planBytes

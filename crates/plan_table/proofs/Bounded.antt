@@ -11,7 +11,7 @@ use lib.ListN.{length, length-append}
 use Rattle.seqs.specs.Lists.{turns}
 use Rattle.seqs.proofs.Laws.{choose-elim}
 use Rattle.endian.specs.Bytes.{below}
-use Rattle.table_lines.specs.Lines.{line, headerBytes, totalBytes, refusedBytes}
+use Rattle.table_lines.specs.Lines.{line, headerBytes, totalBytes, refusedBytes, rowBytes}
 use Rattle.table_lines.proofs.Digits.{length-64}
 use Rattle.table_lines.proofs.Stores.{length-line}
 use Rattle.table_lines.proofs.Longest.{row-most}
@@ -21,8 +21,8 @@ use Rattle.plan_site.specs.declared.Site.{Site}
 use Rattle.plan_site.specs.Sites.{siteOf, SoundSite}
 use Rattle.plan_site.proofs.Sites.{site-sound}
 use Rattle.plan_closed.specs.Closed.{listShort, hasRootChunk}
-use Rattle.plan_totals.specs.declared.Row.{Row}
-use Rattle.plan_totals.specs.declared.Total.{Total}
+use Rattle.table_lines.specs.declared.Row.{Row}
+use Rattle.table_lines.specs.declared.Total.{Total}
 use Rattle.plan_totals.specs.Totals.{plansNumber, largerCount, beforeChunk, afterChunk, afterList, closedRow}
 use Rattle.plan_totals.proofs.Rows.{row-closed}
 use Rattle.plan_totals.proofs.Whole.{all-planned}
@@ -31,7 +31,7 @@ use Rattle.plan_summary.proofs.Laws.{few-groups}
 use Rattle.plan_summary.proofs.Rows.{rows-agree}
 use Rattle.plan_orders.specs.Orders.{SumsFit}
 use Rattle.plan_table.specs.declared.Table.{Table}
-use Rattle.plan_table.specs.Printed.{rowLine, totalLine, tableBytes}
+use Rattle.plan_table.specs.Printed.{tableBytes}
 use Rattle.plan_table.specs.Filling.{noSums, tableRefused, wholeTable, withRow, sumsAfter, afterLines, Short, LongEnough, lineOf, partsOf}
 use Rattle.plan_table.proofs.Begun.{refusal-rest, table-rest}
 use Rattle.plan_table.proofs.Short.{parts-whole}
@@ -50,7 +50,7 @@ no-numbers : length (line []) ≡ 0
 unfolding line
 no-numbers = refl
 
-total-short : (t : Total) → SumsFit t → length (totalLine t) ≤ 147
+total-short : (t : Total) → SumsFit t → length (totalBytes t) ≤ 147
 unfolding totalBytes
 total-short t h =
     let ns = t .length ∷ t .log ∷ t .list ∷ t .chunk ∷ t .free ∷ [] in
@@ -160,14 +160,13 @@ module _ (g : Geometry) (l : length (g .label) ≡ 12) (e : plansNumber g ≡ 0)
   unfolding siteOf
   group-is k = refl
 
-  row-short : (k : ℕ) → k < g .agcount → length (rowLine (rowBySummary (summaryOf g) k)) ≤ 147
+  row-short : (k : ℕ) → k < g .agcount → length (rowBytes (rowBySummary (summaryOf g) k)) ≤ 147
   row-short k h =
       let f = few-groups g l here in
       let z = group-is k in
       let r : rowBySummary (summaryOf g) k ≡ closedRow (siteOf g k) = rows-agree g l e k ∙ row-closed g l here k h in
       rw r
-      (row-most
-      (record { group = closedRow (siteOf g k) .group; length = closedRow (siteOf g k) .length; log = closedRow (siteOf g k) .log; list = closedRow (siteOf g k) .list; chunk = closedRow (siteOf g k) .chunk; free = closedRow (siteOf g k) .free; longest = closedRow (siteOf g k) .longest })
+      (row-most (closedRow (siteOf g k))
       (closed-at (siteOf g k) (site-sound g k l here) (omega arith) (listShort (siteOf g k)) refl))
 
   abbrev state : ℕ → Total → Table
@@ -176,9 +175,9 @@ module _ (g : Geometry) (l : length (g .label) ≡ 12) (e : plansNumber g ≡ 0)
   line-short : (n : ℕ) (t : Total) → SumsFit t → length (lineOf (state n t)) ≤ 147
   unfolding lineOf summaryOf
   line-short n t h =
-      choose-elim (λ (x : List ℕ). length x ≤ 147) (leb n 1) (totalLine t) _ (λ a. total-short t h)
+      choose-elim (λ (x : List ℕ). length x ≤ 147) (leb n 1) (totalBytes t) _ (λ a. total-short t h)
       (λ a.
-      choose-elim (λ (x : List ℕ). length x ≤ 147) (leb (n - 1) (g .agcount)) (rowLine (rowBySummary (summaryOf g) (g .agcount - (n - 1)))) headerBytes
+      choose-elim (λ (x : List ℕ). length x ≤ 147) (leb (n - 1) (g .agcount)) (rowBytes (rowBySummary (summaryOf g) (g .agcount - (n - 1)))) headerBytes
       (λ b. row-short (g .agcount - (n - 1)) (let u = leb-false n 1 a in let v = leb-true (n - 1) (g .agcount) b in omega arith))
       (λ b. header-short))
 

@@ -10,16 +10,15 @@ use lib.ListN.{length, replicate}
 use Rattle.refusals.specs.Numbers.{wrongLength}
 use Rattle.seqs.specs.Lists.{turns}
 use Rattle.endian.specs.Bytes.{patch}
-use Rattle.table_lines.specs.Lines.{headerBytes, refusedBytes}
+use Rattle.table_lines.specs.Lines.{headerBytes, refusedBytes, rowBytes, totalBytes}
 use Rattle.geometry.specs.declared.Geometry.{Geometry}
-use Rattle.plan_totals.specs.declared.Row.{Row}
-use Rattle.plan_totals.specs.declared.Total.{Total}
+use Rattle.table_lines.specs.declared.Row.{Row}
+use Rattle.table_lines.specs.declared.Total.{Total}
 use Rattle.plan_totals.specs.Totals.{plansNumber}
 use Rattle.plan_summary.specs.Summaries.{summaryOf, noSummary, rowBySummary}
 use Rattle.run.specs.Runs.{accepted}
 use Rattle.plan_table.specs.declared.Table.{Table}
 use Rattle.plan_table.specs.declared.Filled.{Filled}
-use Rattle.plan_table.specs.Printed.{rowLine, totalLine}
 
 -- ---- the states
 
@@ -66,7 +65,7 @@ groupAdded t = t .summary .agcount - 1 - groupPut t
 
 -- the next line
 unfoldable pub lineOf : Table → List ℕ
-lineOf t = byLine t (refusedBytes (t .number)) (totalLine (t .sums)) (rowLine (rowBySummary (t .summary) (groupPut t))) headerBytes
+lineOf t = byLine t (refusedBytes (t .number)) (totalBytes (t .sums)) (rowBytes (rowBySummary (t .summary) (groupPut t))) headerBytes
 
 -- sums and a row, in 64 bits
 unfoldable pub withRow : Total → Row → Total

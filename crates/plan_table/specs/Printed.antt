@@ -6,37 +6,18 @@ use Prim.Native.Nat.{ℕ, zero, suc}
 use lib.Dec.{eqb}
 use Rattle.table_lines.specs.Lines.{rowBytes, headerBytes, totalBytes, refusedBytes}
 use Rattle.geometry.specs.declared.Geometry.{Geometry}
-use Rattle.plan_totals.specs.declared.Row.{Row}
-use Rattle.plan_totals.specs.declared.Total.{Total}
+use Rattle.table_lines.specs.declared.Row.{Row}
 use Rattle.plan_totals.specs.Totals.{plansNumber, noRow, rowOf, totalOf}
 use Rattle.run.specs.Runs.{accepted}
-
--- a row's line
-abbrev pub rowLine : Row → List ℕ
-rowLine r =
-    rowBytes
-    (record {
-      group = r .group;
-      length = r .length;
-      log = r .log;
-      list = r .list;
-      chunk = r .chunk;
-      free = r .free;
-      longest = r .longest;
-    })
-
--- the line of the sums
-abbrev pub totalLine : Total → List ℕ
-totalLine t = totalBytes (record { length = t .length; log = t .log; list = t .list; chunk = t .chunk; free = t .free })
 
 -- the lines of groups 0 to n − 1: the row of each one's plan
 unfoldable pub rowLines : Geometry → ℕ → List ℕ
 rowLines g zero = []
-rowLines g (suc n) = rowLines g n ++ rowLine (rowOf g n)
+rowLines g (suc n) = rowLines g n ++ rowBytes (rowOf g n)
 
 -- the table: the header, a line for each group, and the sums of the rows
 unfoldable pub tableBytes : Geometry → List ℕ
-tableBytes g = headerBytes ++ (rowLines g (g .agcount) ++ totalLine (totalOf g))
+tableBytes g = headerBytes ++ (rowLines g (g .agcount) ++ totalBytes (totalOf g))
 
 -- the table where the number is 0, else the line of the refusal
 abbrev pub tableOr : ℕ → Geometry → List ℕ
@@ -48,7 +29,7 @@ tableAnswer g = tableOr (plansNumber g) g
 
 -- no disk: the header, and sums of zeros
 unfoldable pub noDiskBytes : List ℕ
-noDiskBytes = headerBytes ++ totalLine (record { length = 0; log = 0; list = 0; chunk = 0; free = 0 })
+noDiskBytes = headerBytes ++ totalBytes (record { length = 0; log = 0; list = 0; chunk = 0; free = 0 })
 
 -- WHAT PLANLIST PRINTS of its input: no bytes mean no disk; else the table of the run that the records ask for, or its refusal
 unfoldable pub planBytes : List ℕ → List ℕ

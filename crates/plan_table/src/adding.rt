@@ -4,8 +4,8 @@ ghost use Rattle.plan_table.specs.Filling.{noSums, withRow, sumsAfter};
 use crate::Table;
 use crate::rows::row_in;
 use arith::numbers::minus;
-use plan_totals::Row;
-use plan_totals::Total;
+use table_lines::Row;
+use table_lines::Total;
 
 pub(crate) fn no_sums() -> Total
     ensures { λ r. ⌜ r ≡ noSums ⌝ }

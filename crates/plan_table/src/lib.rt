@@ -22,10 +22,10 @@ use lines::put_line;
 use plan_summary::Summary;
 use plan_summary::no_summary;
 use plan_summary::summary_of;
-use plan_totals::Row;
-use plan_totals::Total;
 use rows::no_row;
 use rows::row_in;
+use table_lines::Row;
+use table_lines::Total;
 
 // A table, of which the last `left` lines aren't printed yet, and what is added up of its rows. The number is 0, or that of a refusal,
 // which has one line.

@@ -1,15 +1,11 @@
 // Each line of a table, written where it fits.
 ghost use mathlib.Core.Path.{_≡_};
-ghost use Rattle.table_lines.specs.Lines.{PutLine};
+ghost use Rattle.table_lines.specs.Lines.{PutLine, rowBytes};
 ghost use Rattle.plan_summary.specs.Summaries.{rowBySummary};
-ghost use Rattle.plan_table.specs.Printed.{rowLine, totalLine};
 ghost use Rattle.plan_table.specs.Filling.{lineOf};
 use crate::Table;
 use crate::rows::row_in;
 use plan_summary::Summary;
-use plan_totals::Total;
-use table_lines::Row;
-use table_lines::Sums;
 use table_lines::Written;
 use table_lines::put_header;
 use table_lines::put_refused;
@@ -18,33 +14,10 @@ use table_lines::put_total;
 
 // The line of group k.
 fn put_group(s: Summary, k: u64, buf: &mut [u8], at: usize) -> Written
-    ensures { λ r. ⌜ PutLine at (rowLine (rowBySummary s k)) (now (buf .entry)) (r .number) (r .end) (now (buf .exit)) ⌝ }
+    ensures { λ r. ⌜ PutLine at (rowBytes (rowBySummary s k)) (now (buf .entry)) (r .number) (r .end) (now (buf .exit)) ⌝ }
 {
     let row = row_in(s, k);
-    let line = Row {
-        group: row.group,
-        length: row.length as u64,
-        log: row.log as u64,
-        list: row.list as u64,
-        chunk: row.chunk as u64,
-        free: row.free as u64,
-        longest: row.longest as u64,
-    };
-    put_row(line, buf, at)
-}
-
-// The line of the sums.
-fn put_sums(t: Total, buf: &mut [u8], at: usize) -> Written
-    ensures { λ r. ⌜ PutLine at (totalLine t) (now (buf .entry)) (r .number) (r .end) (now (buf .exit)) ⌝ }
-{
-    let sums = Sums {
-        length: t.length,
-        log: t.log,
-        list: t.list,
-        chunk: t.chunk,
-        free: t.free,
-    };
-    put_total(sums, buf, at)
+    put_row(row, buf, at)
 }
 
 // The next line of a table.
@@ -58,7 +31,7 @@ pub(crate) fn put_line(t: Table, buf: &mut [u8], at: usize) -> Written
     let left = t.left;
     if left <= 1 {
         let sums = t.sums;
-        return put_sums(sums, buf, at);
+        return put_total(sums, buf, at);
     }
     let s = t.summary;
     let groups = s.agcount;

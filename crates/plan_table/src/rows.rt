@@ -7,7 +7,7 @@ use arith::numbers::max_u32;
 use arith::numbers::minus;
 use arith::numbers::minus_u32;
 use plan_summary::Summary;
-use plan_totals::Row;
+use table_lines::Row;
 
 fn length_in(s: Summary, k: u64) -> u32
     ensures { λ r. ⌜ r ≡ lengthIn s k ⌝ }

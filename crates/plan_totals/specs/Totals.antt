@@ -22,8 +22,8 @@ use Rattle.plan_free.specs.Free.{freeOf}
 use Rattle.plan.specs.declared.AgPlan.{AgPlan}
 use Rattle.plan.specs.Plan.{planned}
 use Rattle.plan_closed.specs.Closed.{hasRootChunk, listAt, listShort}
-use Rattle.plan_totals.specs.declared.Row.{Row}
-use Rattle.plan_totals.specs.declared.Total.{Total}
+use Rattle.table_lines.specs.declared.Row.{Row}
+use Rattle.table_lines.specs.declared.Total.{Total}
 
 -- ---- the free records of one plan
 

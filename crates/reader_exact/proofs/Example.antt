@@ -134,7 +134,7 @@ refusals-given =
       short = short-refused [] (lit< tt);
       unfinished = unfinished-refused g u s;
       past = past-refused g u [] (g .agcount) a (le-refl (g .agcount));
-      withoutRun = length-refused g u [] 0 a (some-group g u s) (λ e. let l = head-least g (source-bounds g u s) in omega (arith, e, l));
+      cut = length-refused g u [] 0 a (some-group g u s) (λ e. let l = head-least g (source-bounds g u s) in omega (arith, e, l));
       stranger = stranger-refused zeroGeometry u [] 0 (computed .zero-answer);
       unplanned = λ k xs h l. unplanned-refused tight u xs k (computed .tight-answer) h l (λ z. omega (arith, z, computed .tight-plans));
     }

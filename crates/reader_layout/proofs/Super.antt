@@ -197,7 +197,7 @@ module _ (g : Geometry) (z : Bounds g) (a : Answered g) (l : length (g .label) â
       let groups = z .groups in
       let few = few-blocks g z in
       record {
-        sbMagic = number 0 0 4 sbMagic tt refl (lit< tt);
+        magic = number 0 0 4 sbMagic tt refl (lit< tt);
         blocksize = number 1 4 4 (g .blocksize) tt refl (omega arith);
         dblocks = number 2 8 8 (g .dblocks) tt refl (omega arith);
         rblocks = number 3 16 8 0 tt refl (lit< tt);

@@ -16,8 +16,8 @@ use Rattle.geometry_layout.specs.Places.{chunkOf}
 use Rattle.plan_free.specs.Free.{allocCount}
 use Rattle.plan.specs.declared.AgPlan.{AgPlan}
 use Rattle.plan.specs.Plan.{planned}
-use Rattle.plan_totals.specs.declared.Row.{Row}
-use Rattle.plan_totals.specs.declared.Total.{Total}
+use Rattle.table_lines.specs.declared.Row.{Row}
+use Rattle.table_lines.specs.declared.Total.{Total}
 use Rattle.plan_totals.specs.Totals.{sumTo, chunkBlocksOf, rowFrom, rowOf, totalOf, closedTotal}
 use Rattle.plan_totals.proofs.Sums.{sum-same}
 use Rattle.plan_totals.proofs.Whole.{total-closed}

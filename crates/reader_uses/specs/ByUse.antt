@@ -14,8 +14,8 @@ use Rattle.geometry.specs.declared.Geometry.{Geometry}
 use Rattle.geometry.specs.Log.{preallocOf}
 use Rattle.geometry_layout.specs.Places.{groupBlocks, chunkOf}
 use Rattle.plan_free.specs.Free.{allocStart, allocCount}
-use Rattle.plan_totals.specs.declared.Row.{Row}
-use Rattle.plan_totals.specs.declared.Total.{Total}
+use Rattle.table_lines.specs.declared.Row.{Row}
+use Rattle.table_lines.specs.declared.Total.{Total}
 use Rattle.plan_totals.specs.Totals.{maxCount, plansNumber, sumTo, rowOf, totalOf}
 use Rattle.plan_summary.specs.Summaries.{summarised, rowBySummary as rowOfSummary}
 use Rattle.plan_uses.specs.Uses.{self, one}

@@ -19,8 +19,8 @@ use Rattle.plan_site.specs.Sites.{siteOf}
 use Rattle.plan.specs.declared.AgPlan.{AgPlan}
 use Rattle.plan.specs.Plan.{planned}
 use Rattle.plan_closed.specs.Closed.{freeBeforeList}
-use Rattle.plan_totals.specs.declared.Row.{Row}
-use Rattle.plan_totals.specs.declared.Total.{Total}
+use Rattle.table_lines.specs.declared.Row.{Row}
+use Rattle.table_lines.specs.declared.Total.{Total}
 use Rattle.plan_totals.specs.Totals.{plansNumber, rowOf, totalOf}
 use Rattle.sb.specs.declared.SbState.{SbState}
 use Rattle.sb_states.specs.States.{finishedState}

@@ -8,7 +8,7 @@ use Rattle.table_lines.proofs.Digits.{digits-few}
 use Rattle.table_lines.specs.Lines.{line, rowBytes, totalBytes, refusedBytes}
 
 -- `2 65536 16384 6 0 49139 49139`
-pub row-2 : rowBytes (record { group = 2; length = 65536; log = 16384; list = 6; chunk = 0; free = 49139; longest = 49139 })
+pub row-2 : rowBytes (record { number = 0; group = 2; length = 65536; log = 16384; list = 6; chunk = 0; free = 49139; longest = 49139 })
     ≡ 50 ∷ 32 ∷ 54 ∷ 53 ∷ 53 ∷ 51 ∷ 54 ∷ 32 ∷ 49 ∷ 54 ∷ 51 ∷ 56 ∷ 52 ∷ 32 ∷ 54 ∷ 32 ∷ 48 ∷ 32 ∷ 52 ∷ 57 ∷ 49 ∷ 51 ∷ 57 ∷ 32 ∷ 52 ∷ 57 ∷ 49 ∷ 51 ∷ 57 ∷ 10 ∷ []
 unfolding digits line rowBytes
 row-2 = rw (digits-few 0 2 (lit< tt), digits-few 4 65536 (lit< tt), digits-few 4 16384 (lit< tt), digits-few 0 6 (lit< tt), digits-few 0 0 (lit< tt), digits-few 4 49139 (lit< tt))

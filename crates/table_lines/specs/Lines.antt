@@ -10,7 +10,7 @@ use Rattle.endian.specs.Answer.{room, answer, valued}
 use Rattle.endian.specs.Bytes.{patch}
 use Rattle.table_lines.specs.Decimal.{decimal}
 use Rattle.table_lines.specs.declared.Row.{Row}
-use Rattle.table_lines.specs.declared.Sums.{Sums}
+use Rattle.table_lines.specs.declared.Total.{Total}
 
 abbrev pub space : ℕ
 space = 32
@@ -45,7 +45,7 @@ headerBytes =
     ∷ []
 
 -- `total` and the sums
-unfoldable pub totalBytes : Sums → List ℕ
+unfoldable pub totalBytes : Total → List ℕ
 totalBytes s = (116 ∷ 111 ∷ 116 ∷ 97 ∷ 108 ∷ space ∷ []) ++ line (s .length ∷ s .log ∷ s .list ∷ s .chunk ∷ s .free ∷ [])
 
 -- `refused` and the number

@@ -13,19 +13,20 @@ ghost use Rattle.table_lines.specs.Lines.{line, rowBytes, headerBytes, t
 use decimal::decimal_length;
 use decimal::store_number;
 
-// What planlist says of a group: its number, and its blocks.
+// A row of planlist's table, in blocks; a group's fit in 32 bits. The number is 0 for a planned group; a refusal has zeros.
 pub struct Row {
+    pub number: u32,
     pub group: u64,
-    pub length: u64, // all
-    pub log: u64,
-    pub list: u64, // free list
-    pub chunk: u64,
-    pub free: u64,
-    pub longest: u64, // longest free record
+    pub length: u32, // all
+    pub log: u32,
+    pub list: u32, // free list
+    pub chunk: u32,
+    pub free: u32,
+    pub longest: u32, // longest free record
 }
 
-// The sums over all groups.
-pub struct Sums {
+// The last line of the table: sums over all groups, in 64 bits.
+pub struct Total {
     pub length: u64,
     pub log: u64,
     pub list: u64,
@@ -128,12 +129,12 @@ pub fn put_row(row: Row, buf: &mut [u8], at: usize) -> Written
 {
     let numbers = [
         row.group,
-        row.length,
-        row.log,
-        row.list,
-        row.chunk,
-        row.free,
-        row.longest,
+        row.length as u64,
+        row.log as u64,
+        row.list as u64,
+        row.chunk as u64,
+        row.free as u64,
+        row.longest as u64,
     ];
     put_line(&numbers, buf, at)
 }
@@ -161,7 +162,7 @@ pub fn put_header(buf: &mut [u8], at: usize) -> Written
 }
 
 // The line of the sums.
-pub fn put_total(sums: Sums, buf: &mut [u8], at: usize) -> Written
+pub fn put_total(sums: Total, buf: &mut [u8], at: usize) -> Written
     ensures { λ r. ⌜ PutLine at (totalBytes sums) (now (buf .entry)) (r .number) (r .end) (now (buf .exit)) ⌝ }
 {
     let numbers = [sums.length, sums.log, sums.list, sums.chunk, sums.free];

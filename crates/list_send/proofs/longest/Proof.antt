@@ -7,7 +7,7 @@ use Rattle.list_send.proofs.longest.Tie as tie
 
 returns : tie.Need-returns
 unfolding longestPiece
-returns c = rw (c .max-u64 .ensures, c .before .chunk-length2 .ensures, c .before .before .minus .ensures, c .before .before .before .piece-length .ensures)
+returns c = rw (c .max-u64 .ensures, c .before .piece-length2 .ensures, c .before .before .minus .ensures, c .before .before .before .piece-length .ensures)
 
 pub longest-spec : {M : Type 1} → statement M
 longest-spec =

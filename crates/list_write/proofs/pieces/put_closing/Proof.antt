@@ -1,7 +1,7 @@
 -- `list_write::pieces::put_closing` meets its contract.
 -- Assumes nothing.
 use Rattle.list_lengths.specs.Lengths.{blocksLength}
-use Rattle.list_write.proofs.Pieces.{closing-whole}
+use Rattle.list_write.proofs.PieceLaws.{closing-whole}
 use mathlib.Core.Path.{refl}
 use native.Mathlib.Omega.{arith}
 use borrow.Author.Needs.{needs}

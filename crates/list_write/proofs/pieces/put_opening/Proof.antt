@@ -1,6 +1,6 @@
 -- `list_write::pieces::put_opening` meets its contract.
 -- Assumes nothing.
-use Rattle.list_write.proofs.Pieces.{opening-whole}
+use Rattle.list_write.proofs.PieceLaws.{opening-whole}
 use native.Mathlib.Omega.{arith}
 use borrow.Author.Needs.{needs}
 use Rattle.list_write.proofs.pieces.put_opening.Statement.{statement}

@@ -15,7 +15,7 @@ use Rattle.list_lengths.proofs.Numbers.{format-zero}
 use Rattle.group_bytes.proofs.Accepted.{bounded}
 use Rattle.list_write.proofs.Which.{one-less}
 use Rattle.list_write.proofs.Accepted.{group-room}
-use Rattle.list_write.proofs.Pieces.{log-place, log-bytes, root-few, blocks-room, closing-room, opening-done, group-done, root-done, closing-done}
+use Rattle.list_write.proofs.PieceLaws.{log-place, log-bytes, root-few, blocks-room, closing-room, opening-done, group-done, root-done, closing-done}
 use borrow.Author.Needs.{needs}
 use Rattle.list_write.proofs.pieces.put_piece.Statement.{statement}
 use Rattle.list_write.proofs.pieces.put_piece.Tie as tie

@@ -1,6 +1,6 @@
 -- `list_write::pieces::put_zeros` meets its contract.
 -- Assumes nothing.
-use Rattle.list_write.proofs.Pieces.{zeros-done}
+use Rattle.list_write.proofs.PieceLaws.{zeros-done}
 use borrow.Author.Needs.{needs}
 use Rattle.list_write.proofs.pieces.put_zeros.Statement.{statement}
 use Rattle.list_write.proofs.pieces.put_zeros.Tie as tie

@@ -12,7 +12,7 @@ returns c = rw (ne-eqb _ 0 (c .before .before .before .before .if1 .taken)) (c .
 
 returns-2 : tie.Need-returns-2
 unfolding lineOf
-returns-2 c = rw (eq-eqb _ 0 (c .before .before .before .before .before .before .if1 .left), le-leb _ 1 (c .before .before .before .before .before .if2 .taken)) (c .before .before .put-sums .ensures)
+returns-2 c = rw (eq-eqb _ 0 (c .before .before .before .before .before .before .if1 .left), le-leb _ 1 (c .before .before .before .before .before .if2 .taken)) (c .before .before .put-total .ensures)
 
 returns-3 : tie.Need-returns-3
 unfolding lineOf
