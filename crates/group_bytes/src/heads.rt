@@ -20,7 +20,7 @@ use sb_states::state_of;
 
 // The number of all plans, which a state of a group that is there was refused with; it is asked only of a group that isn't.
 fn plans_known(g: Geometry, k: u64, stated: u32) -> u32
-    requires { ⌜ k < g .agcount → stated ≡ plansNumber g ⌝ }
+    requires { ⌜ (k < g .agcount → stated ≡ plansNumber g) ⌝ }
     ensures { λ r. ⌜ r ≡ plansNumber g ⌝ }
 {
     if g.agcount <= k {
@@ -31,7 +31,7 @@ fn plans_known(g: Geometry, k: u64, stated: u32) -> u32
 
 // 31, 25, 27, 29, or 0, where `stated` is the number of group k's state.
 pub(crate) fn head_number(g: Geometry, k: u64, stated: u32, len: usize) -> u32
-    requires { ⌜ k < g .agcount → stated ≡ plansNumber g ⌝ }
+    requires { ⌜ (k < g .agcount → stated ≡ plansNumber g) ⌝ }
     ensures { λ r. ⌜ r ≡ headRefusal g k len ⌝ }
 {
     let plans = plans_known(g, k, stated);

@@ -9,7 +9,7 @@ use Rattle.group_bytes.proofs.heads.fill_head.Tie as tie
 
 returns : tie.Need-returns
 returns c =
-    let s = c .before .before .before .before .before in
+    let s = c .before .before .before .before .before .before in
     let l : length (s .args .g .label) ≡ 12 = search (needs, s .good .0 .1 .1 .1 .1 .1 .1 .1 .1 .1 .1 .1 .1 .1 .1 .1 .1 .1 .1 .1) in
     filled (s .args .g) _ (s .args .k) _ (s .pre) _ _ l (c .before .before .group-head .ensures)
 
