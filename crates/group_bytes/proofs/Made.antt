@@ -1,6 +1,6 @@
 -- The head that is made for a group is the one that a run writes or leaves there, and the number of a refused one.
 -- Assumes nothing.
-use mathlib.Core.Path.{_≡_, refl, ap, _∙_}
+use mathlib.Core.Path.{_≡_, refl, ap, sym, _∙_}
 use mathlib.Core.Bool.{Bool, true, false, cond}
 use mathlib.Core.List.{List}
 use Prim.Native.Nat.{ℕ, _<_, _≤_}
@@ -10,21 +10,20 @@ use lib.Dec.{eqb, ltb}
 use lib.ListN.{length}
 use Rattle.refusals.specs.Numbers.{wrongLength, noPlace}
 use Rattle.arith.specs.Choice.{when}
+use Rattle.seqs.proofs.Laws.{choose-elim}
 use Rattle.crc.specs.Right.{alreadyRight}
 use Rattle.structs.specs.Written.{require}
 use Rattle.structs.specs.Encoded.{Encoded}
 use Rattle.structs.proofs.Written.{passed, written-in}
 use Rattle.geometry.specs.declared.Geometry.{Geometry}
-use Rattle.plan.specs.declared.Planned.{Planned}
 use Rattle.plan.specs.Plan.{planned}
-use Rattle.plan_same.proofs.Planners.{planned-is-plan}
 use Rattle.plan_totals.specs.Totals.{plansNumber}
-use Rattle.head_bytes.specs.Head.{headBytes, headLength, headNumber}
+use Rattle.head_bytes.specs.Head.{headBytes, headLength, groupHeadNumber}
 use Rattle.head_bytes.specs.Places.{headPlaces}
-use Rattle.head_bytes.proofs.Ready.{head-accepted}
+use Rattle.head_bytes.proofs.Ready.{group-accepted}
 use Rattle.sb.specs.declared.SbState.{SbState}
 use Rattle.sb_states.specs.declared.Stated.{Stated}
-use Rattle.sb_states.specs.States.{stateOf, finishedState, stateNumber, stated, finishedAnswer}
+use Rattle.sb_states.specs.States.{stateOf, finishedState, stateNumber, statedAs, stated, finishedAnswer}
 use Rattle.list_spec.specs.Listing.{headWritten, headFinished, headLeft}
 use Rattle.list_spec.proofs.Whole.{group-planned}
 use Rattle.group_bytes.specs.Answers.{headRefusal, leftState}
@@ -54,19 +53,37 @@ module _ (g : Geometry) (k n : ℕ) where
     unfolding headRefusal
     head-fits e h = or-second (plansNumber g) _ 0 p (rw (eq-eqb n (headLength g) e, lt-ltb k (g .agcount) h) refl)
 
+-- ---- the number of a state
+
+number-is : (n : ℕ) (s : SbState) → statedAs n s .number ≡ n
+number-is n s = choose-elim (λ (x : Stated). x .number ≡ n) (eqb n 0) _ _ (λ t. sym (eqb-true n 0 t)) (λ t. refl)
+
+same-at : (n : ℕ) → cond (eqb n 0) 0 n ≡ n
+same-at n = choose-elim (λ (x : ℕ). x ≡ n) (eqb n 0) _ _ (λ t. sym (eqb-true n 0 t)) (λ t. refl)
+
+module _ (g : Geometry) (uuid : List ℕ) (k : ℕ) (h : k < g .agcount) where
+  -- of a group that is there it is the number of all plans
+  pub stated-number : stated g uuid k .number ≡ plansNumber g
+  unfolding stated stateNumber when
+  stated-number = number-is (stateNumber g k) (stateOf g uuid k) ∙ rw (lt-leb (g .agcount) k h) (same-at (plansNumber g))
+
+  pub left-number : leftState g uuid k .number ≡ plansNumber g
+  unfolding leftState finishedAnswer
+  left-number =
+      choose-elim (λ (x : Stated). x .number ≡ plansNumber g) (eqb k 0) _ _
+      (λ t. number-is (plansNumber g) (finishedState g uuid)) (λ t. stated-number)
+
 -- ---- the bytes
 
 module _ (g : Geometry) (uuid : List ℕ) (k : ℕ) (xs : List ℕ) (z : headRefusal g k (length xs) ≡ 0) where
   -- with any state
-  pub filled : {r : ℕ} {right : Bool} (q : Planned) (s : SbState) (ys : List ℕ) → length (g .label) ≡ 12 → q ≡ planned g k
-      → Encoded (headNumber g (q .plan) (length xs)) (headPlaces g) (headBytes g (q .plan) uuid s) xs r right ys
+  pub filled : {r : ℕ} {right : Bool} (s : SbState) (ys : List ℕ) → length (g .label) ≡ 12
+      → Encoded (groupHeadNumber g k (length xs)) (headPlaces g) (headBytes g (planned g k .plan) uuid s) xs r right ys
       → (right ≡ alreadyRight (headPlaces g) xs (headBytes g (planned g k .plan) uuid s)) × (ys ≡ headBytes g (planned g k .plan) uuid s)
-  filled q s ys l a w =
+  filled s ys l w =
       let h = head-zero g k (length xs) z in
-      let e = head-accepted g (planned g k .plan) (length xs) (planned-is-plan g k (group-planned g l (h .0) k (h .2))) (h .1) in
-      let n = ap (λ (x : Planned). headNumber g (x .plan) (length xs)) a ∙ e in
-      let m = ap (λ (x : Planned). headBytes g (x .plan) uuid s) a in
-      (w .right-is ∙ rw n (ap (alreadyRight (headPlaces g) xs) m), written-in (w .written) n ∙ m)
+      let n = group-accepted g k (length xs) (group-planned g l (h .0) k (h .2)) (h .1) in
+      (w .right-is ∙ rw n refl, written-in (w .written) n)
 
   state-there : stated g uuid k .state ≡ stateOf g uuid k
   unfolding stated stateNumber when

@@ -1,15 +1,16 @@
 // A head with a state of its superblock.
 ghost use mathlib.Core.Path.{_≡_};
+ghost use Prim.Native.Nat.{_<_};
 ghost use lib.ListN.{length};
 ghost use Rattle.crc.specs.Right.{alreadyRight};
-ghost use Rattle.plan.specs.Plan.{planned as planned·of};
+ghost use Rattle.plan.specs.Plan.{planned};
+ghost use Rattle.plan_totals.specs.Totals.{plansNumber};
 ghost use Rattle.head_bytes.specs.Head.{headBytes};
 ghost use Rattle.head_bytes.specs.Places.{headPlaces};
 ghost use Rattle.group_bytes.specs.Answers.{headRefusal, leftState};
 use crate::head_length;
 use geometry::Geometry;
-use head::ag_head;
-use plan::plan_ag;
+use head::group_head;
 use plan_summary::plans_number;
 use refusals::NO_PLACE;
 use sb::SbState;
@@ -17,11 +18,23 @@ use sb_states::Stated;
 use sb_states::finished_state;
 use sb_states::state_of;
 
-// 31, 25, 27, 29, or 0.
-pub(crate) fn head_number(g: Geometry, k: u64, len: usize) -> u32
+// The number of all plans, which a state of a group that is there was refused with; it is asked only of a group that isn't.
+fn plans_known(g: Geometry, k: u64, stated: u32) -> u32
+    requires { ⌜ (k < g .agcount → stated ≡ plansNumber g) ⌝ }
+    ensures { λ r. ⌜ r ≡ plansNumber g ⌝ }
+{
+    if g.agcount <= k {
+        return plans_number(g);
+    }
+    stated
+}
+
+// 31, 25, 27, 29, or 0, where `stated` is the number of group k's state.
+pub(crate) fn head_number(g: Geometry, k: u64, stated: u32, len: usize) -> u32
+    requires { ⌜ (k < g .agcount → stated ≡ plansNumber g) ⌝ }
     ensures { λ r. ⌜ r ≡ headRefusal g k len ⌝ }
 {
-    let plans = plans_number(g);
+    let plans = plans_known(g, k, stated);
     if plans != 0 {
         return plans;
     }
@@ -54,11 +67,9 @@ pub(crate) fn fill_head(
     head: &mut [u8],
 ) -> bool
     requires { ⌜ headRefusal g k (length (now head)) ≡ 0 ⌝ }
-    ensures { λ r. ⌜ (r ≡ alreadyRight (headPlaces g) (now (head .entry)) (headBytes g (planned·of g k .plan) uuid state))
-        × (now (head .exit) ≡ headBytes g (planned·of g k .plan) uuid state) ⌝ }
+    ensures { λ r. ⌜ (r ≡ alreadyRight (headPlaces g) (now (head .entry)) (headBytes g (planned g k .plan) uuid state))
+        × (now (head .exit) ≡ headBytes g (planned g k .plan) uuid state) ⌝ }
 {
-    let planned = plan_ag(g, k);
-    let plan = planned.plan;
-    let made = ag_head(g, plan, &uuid, state, head);
+    let made = group_head(g, k, &uuid, state, head);
     made.right
 }

@@ -40,14 +40,14 @@ pub fn head_written(g: Geometry, uuid: [u8; 16], k: u64, head: &mut [u8]) -> Sta
     ensures { λ r. ⌜ Encoded (headRefusal g k (length (now (head .entry)))) (headPlaces g) (headWritten g uuid k) (now (head .entry))
         (r .number) (r .right) (now (head .exit)) ⌝ }
 {
-    let n = head_number(g, k, head.len());
+    let stated = state_of(g, uuid, k);
+    let n = head_number(g, k, stated.number, head.len());
     if n != 0 {
         return Stamped {
             number: n,
             right: false,
         };
     }
-    let stated = state_of(g, uuid, k);
     let state = stated.state;
     let right = fill_head(g, uuid, k, state, head);
     Stamped { number: 0, right }
@@ -59,14 +59,14 @@ pub fn head_left(g: Geometry, uuid: [u8; 16], k: u64, head: &mut [u8]) -> Stampe
     ensures { λ r. ⌜ Encoded (headRefusal g k (length (now (head .entry)))) (headPlaces g) (headLeft g uuid k) (now (head .entry))
         (r .number) (r .right) (now (head .exit)) ⌝ }
 {
-    let n = head_number(g, k, head.len());
+    let stated = left_state(g, uuid, k);
+    let n = head_number(g, k, stated.number, head.len());
     if n != 0 {
         return Stamped {
             number: n,
             right: false,
         };
     }
-    let stated = left_state(g, uuid, k);
     let state = stated.state;
     let right = fill_head(g, uuid, k, state, head);
     Stamped { number: 0, right }

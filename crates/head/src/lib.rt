@@ -1,17 +1,21 @@
 // The head of a group, put together from its plan. The Rust's format.rs, ag_head.
 ghost use mathlib.Core.Path.{_≡_};
 ghost use mathlib.Core.Bool.{true};
+ghost use lib.Dec.{eqb};
 ghost use Prim.Native.Nat.{_*_, _≤_};
 ghost use lib.ListN.{length, take, replicate};
+ghost use Rattle.refusals.specs.Numbers.{wrongLength};
 ghost use Rattle.endian.specs.Bytes.{patch};
 ghost use Rattle.crc.specs.Right.{alreadyRight};
 ghost use Rattle.crc_sums.specs.Sums.{sumsIn, sameSums};
 ghost use Rattle.structs.specs.Encoded.{Encoded};
+ghost use Rattle.structs.specs.Written.{require};
 ghost use Rattle.geometry_answers.specs.Named.{isAnswer};
 ghost use Rattle.sb.specs.Superblock.{sbBytes};
+ghost use Rattle.plan.specs.Plan.{planned};
 ghost use Rattle.plan_same.specs.Same.{isPlan};
 ghost use Rattle.head_frame.specs.Frames.{frameOf, FrameBounds, FewRecords, Counted};
-ghost use Rattle.head_bytes.specs.Head.{frameBlocks, headBytes, headLength, headNumber};
+ghost use Rattle.head_bytes.specs.Head.{frameBlocks, headBytes, headLength, headNumber, groupHeadNumber};
 ghost use Rattle.head_bytes.specs.Parts.{sectorOn, sectorsOn, rootsOn, moreOn};
 ghost use Rattle.head_bytes.specs.Places.{placesOf, headPlaces};
 
@@ -25,13 +29,15 @@ use crc_sums::sums_at;
 use geometry::Geometry;
 use geometry::log_size::prealloc_of;
 use head_frame::Frame;
+use head_frame::frame_at;
 use head_frame::frame_of;
 use plan::AgPlan;
 use sb::SbState;
 
 // Zeros in the header blocks, and the four sectors over them.
 fn put_headers(g: Geometry, s: SbState, w: Frame, p: AgPlan, uuid: &[u8; 16], buf: &mut [u8])
-    requires { ⌜ (isAnswer g ≡ true) × (w .sector ≡ g .sectsize) × (FrameBounds w) × (FewRecords p) × (w .header * w .block ≤ length (now buf))
+    requires { ⌜ (isAnswer g ≡ true) × (w .sector ≡ g .sectsize) × (FrameBounds w) × (FewRecords p)
+        × (w .header * w .block ≤ length (now buf))
         × (Counted w p) ⌝ }
     ensures { λ _. ⌜ now (buf .exit) ≡ sectorsOn w p (now (uuid .entry))
         (sectorOn 0 (w .sector) (sbBytes g s) (patch 0 (replicate (w .header * w .block) 0) (now (buf .entry)))) ⌝ }
@@ -132,6 +138,31 @@ fn refill(g: Geometry, p: AgPlan, w: Frame, uuid: &[u8; 16], s: SbState, buf: &m
     stand(places, &before, buf)
 }
 
+// The same in as many bytes as the head has, else 27.
+fn refill_whole(
+    g: Geometry,
+    p: AgPlan,
+    w: Frame,
+    uuid: &[u8; 16],
+    s: SbState,
+    buf: &mut [u8],
+) -> Stamped
+    requires { ⌜ (isPlan g p ≡ true) × (w ≡ frameOf g p) ⌝ }
+    ensures { λ r. ⌜ Encoded (require wrongLength (eqb (length (now (buf .entry))) (headLength g)) 0) (headPlaces g)
+        (headBytes g p (now (uuid .entry)) s) (now (buf .entry)) (r .number) (r .right) (now (buf .exit)) ⌝ }
+{
+    let f = g.features;
+    let blocks = prealloc_of(f, g.sectsize, g.blocksize as u64) as usize;
+    if buf.len() != blocks * (g.blocksize as usize) {
+        return Stamped {
+            number: refusals::WRONG_LENGTH,
+            right: false,
+        };
+    }
+    let right = refill(g, p, w, uuid, s, buf);
+    Stamped { number: 0, right }
+}
+
 // The header sectors and tree roots of one group: blocks 0 up to the preallocated ones; every byte is written. It says whether the
 // checksums of all sectors and roots stood there already. 31 for a geometry that is no answer of the geometry step, or a plan that is not
 // the planner's for its group; 27 unless the lent bytes are the head's.
@@ -153,15 +184,30 @@ pub fn ag_head(
             right: false,
         };
     }
-    let f = g.features;
-    let blocks = prealloc_of(f, g.sectsize, g.blocksize as u64) as usize;
-    if buf.len() != blocks * (g.blocksize as usize) {
+    let w = framed.frame;
+    refill_whole(g, plan, w, uuid, state, buf)
+}
+
+// The same for a group by its number, which is planned here: 31, 29 and 25 as the planner, then 27.
+pub fn group_head(
+    g: Geometry,
+    agno: u64,
+    uuid: &[u8; 16],
+    state: SbState,
+    buf: &mut [u8],
+) -> Stamped
+    ensures { λ r. ⌜ Encoded (groupHeadNumber g agno (length (now (buf .entry)))) (headPlaces g)
+        (headBytes g (planned g agno .plan) (now (uuid .entry)) state) (now (buf .entry)) (r .number) (r .right) (now (buf .exit)) ⌝ }
+{
+    let framed = frame_at(g, agno);
+    let number = framed.number;
+    if number != 0 {
         return Stamped {
-            number: refusals::WRONG_LENGTH,
+            number,
             right: false,
         };
     }
+    let plan = framed.plan;
     let w = framed.frame;
-    let right = refill(g, plan, w, uuid, state, buf);
-    Stamped { number: 0, right }
+    refill_whole(g, plan, w, uuid, state, buf)
 }

@@ -139,7 +139,8 @@ fn put_rmap(w: Frame, l: RmapList, uuid: &[u8; 16], buf: &mut [u8])
 
 // Reference counts: a leaf without records.
 fn put_refc(w: Frame, uuid: &[u8; 16], buf: &mut [u8])
-    requires { ⌜ (FrameBounds w) × (w .features .reflink ≡ true → refcBlock (w .features) (w .header) * w .block + w .block ≤ length (now buf)) ⌝ }
+    requires { ⌜ (FrameBounds w) × (w .features .reflink ≡ true
+        → refcBlock (w .features) (w .header) * w .block + w .block ≤ length (now buf)) ⌝ }
     ensures { λ _. ⌜ now (buf .exit) ≡ blockIf (w .features .reflink) (refcBlock (w .features) (w .header) * w .block)
         (refcRoot w (now (uuid .entry))) (now (buf .entry)) ⌝ }
 {

@@ -16,15 +16,17 @@ use Rattle.geometry.specs.declared.Geometry.{Geometry}
 use Rattle.geometry.specs.Log.{preallocOf}
 use Rattle.geometry_answers.specs.Named.{isAnswer}
 use Rattle.geometry_layout.proofs.Bounding.{answer-bounds}
+use Rattle.structs.specs.Written.{require}
 use Rattle.sb.specs.declared.SbState.{SbState}
 use Rattle.sb.specs.Superblock.{sbNumber, sbBytes}
 use Rattle.plan.specs.declared.AgPlan.{AgPlan}
+use Rattle.plan.specs.Plan.{planned}
 use Rattle.plan_same.specs.Same.{isPlan}
 use Rattle.head_frame.specs.declared.Frame.{Frame}
 use Rattle.head_frame.specs.Frames.{frameOf, framed, FrameBounds, FewRecords, Counted}
 use Rattle.plan_summary.proofs.Narrow.{plan-answer}
 use Rattle.head_frame.proofs.Fitting.{plan-few, plan-fine, framed-number}
-use Rattle.head_bytes.specs.Head.{frameBlocks, behindBytes, headBytes, headLength, headNumber}
+use Rattle.head_bytes.specs.Head.{frameBlocks, behindBytes, headBytes, headLength, headNumber, groupHeadNumber}
 use Rattle.head_bytes.proofs.Whole.{three-inside}
 
 pub sb-accepted : (g : Geometry) (len : ℕ) → isAnswer g ≡ true → len ≡ g .sectsize → sbNumber g len ≡ 0
@@ -99,10 +101,27 @@ head-refused g p len z =
     let b : framed g p .number ≡ noAnswer = framed-number g p ∙ ap (λ (x : Bool). cond {A = ℕ} x 0 noAnswer) t in
     a ∙ sym b
 
-pub head-wrong : (g : Geometry) (p : AgPlan) (len : ℕ) → isPlan g p ≡ true → (len ≡ headLength g → ⊥) → headNumber g p len ≡ wrongLength
-unfolding headNumber
-head-wrong g p len h z = rw (h, ne-eqb len (headLength g) z) refl
+-- what the length alone says
+pub length-wrong : (g : Geometry) (len : ℕ) → (len ≡ headLength g → ⊥) → require 27 (eqb len (headLength g)) 0 ≡ 27
+length-wrong g len z = rw (ne-eqb len (headLength g) z) refl
 
-pub head-accepted : (g : Geometry) (p : AgPlan) (len : ℕ) → isPlan g p ≡ true → len ≡ headLength g → headNumber g p len ≡ 0
+pub length-right : (g : Geometry) (len : ℕ) → len ≡ headLength g → require 27 (eqb len (headLength g)) 0 ≡ 0
+length-right g len e = rw (eq-eqb len (headLength g) e) refl
+
+-- the length is what is left to ask of a plan of the planner
+pub plan-numbered : (g : Geometry) (p : AgPlan) (len : ℕ) → isPlan g p ≡ true → headNumber g p len ≡ require 27 (eqb len (headLength g)) 0
 unfolding headNumber
-head-accepted g p len h e = rw (h, eq-eqb len (headLength g) e) refl
+plan-numbered g p len h = rw h refl
+
+-- ---- of a group by its number
+
+pub group-refused : (g : Geometry) (k len : ℕ) → (planned g k .number ≡ 0 → ⊥) → groupHeadNumber g k len ≡ planned g k .number
+unfolding groupHeadNumber
+group-refused g k len z = rw (ne-eqb (planned g k .number) 0 z) refl
+
+pub group-numbered : (g : Geometry) (k len : ℕ) → planned g k .number ≡ 0 → groupHeadNumber g k len ≡ require 27 (eqb len (headLength g)) 0
+unfolding groupHeadNumber
+group-numbered g k len e = rw e refl
+
+pub group-accepted : (g : Geometry) (k len : ℕ) → planned g k .number ≡ 0 → len ≡ headLength g → groupHeadNumber g k len ≡ 0
+group-accepted g k len e n = group-numbered g k len e ∙ length-right g len n

@@ -29,6 +29,7 @@ use Rattle.plan_rmap.specs.declared.RmapList.{RmapList}
 use Rattle.plan_rmap.specs.Rmap.{rmapOf}
 use Rattle.plan.specs.declared.Agfl.{Agfl}
 use Rattle.plan.specs.declared.AgPlan.{AgPlan}
+use Rattle.plan.specs.Plan.{planned}
 use Rattle.plan_totals.specs.Totals.{freeblksOf, longestOf}
 use Rattle.plan_same.specs.Same.{isPlan}
 use Rattle.head_leaves.specs.Leaves.{chunkRec, few}
@@ -165,3 +166,7 @@ headLength g = preallocOf (g .features) (g .sectsize) (g .blocksize) * g .blocks
 -- 31, then 27 unless the lent bytes are the head's
 unfoldable pub headNumber : Geometry → AgPlan → ℕ → ℕ
 headNumber g p len = require noAnswer (isPlan g p) (require wrongLength (eqb len (headLength g)) 0)
+
+-- of a group by its number: 31, 29 or 25 where the planner refuses it, then 27 unless the lent bytes are the head's
+unfoldable pub groupHeadNumber : Geometry → ℕ → ℕ → ℕ
+groupHeadNumber g k len = cond (eqb (planned g k .number) 0) (require wrongLength (eqb len (headLength g)) 0) (planned g k .number)

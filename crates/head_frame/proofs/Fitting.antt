@@ -30,7 +30,7 @@ use Rattle.plan.specs.declared.AgPlan.{AgPlan}
 use Rattle.params.specs.declared.OptU64.{OptU64}
 use Rattle.params.specs.declared.OptU64.the-variants.{Absent, Given}
 use Rattle.btree.specs.declared.records.RmapRec.{RmapRec}
-use Rattle.plan.specs.Plan.{ownAg, ownLog, ownInodes, ownRefc, mapRec, refcMap, logMap}
+use Rattle.plan.specs.Plan.{ownAg, ownLog, ownInodes, ownRefc, mapRec, refcMap, logMap, planned}
 use Rattle.plan_closed.specs.Closed.{hasRootChunk, isJoined, listAt, headMappings, listParts, chunkMapping, closedList, closedRmap, closedAgPlan}
 use Rattle.plan_totals.specs.Totals.{freeblksOf, longestOf}
 use Rattle.plan_totals.proofs.Rows.{list-is}
@@ -38,7 +38,7 @@ use Rattle.plan_same.specs.Same.{isPlan}
 use Rattle.plan_summary.proofs.Narrow.{free-few, free-least, longest-least, plan-answer, plan-closed}
 use Rattle.head_frame.specs.declared.Frame.{Frame}
 use Rattle.head_frame.specs.declared.Framed.{Framed}
-use Rattle.head_frame.specs.Frames.{frameOf, noFrame, framed, FrameBounds, FewRecords, chunkIno}
+use Rattle.head_frame.specs.Frames.{frameOf, noFrame, framed, framedAt, FrameBounds, FewRecords, chunkIno}
 
 -- ---- powers of two in a range
 
@@ -187,3 +187,17 @@ told-at false e = absurd (omega arith)
 
 pub framed-plan : (g : Geometry) (p : AgPlan) → framed g p .number ≡ 0 → isPlan g p ≡ true
 framed-plan g p e = told-at (isPlan g p) (sym (framed-number g p) ∙ e)
+
+-- ---- and what one of `frame_at` says
+
+pub framed-at-number : (g : Geometry) (k : ℕ) → framedAt g k .number ≡ planned g k .number
+unfolding framedAt
+framed-at-number g k = refl
+
+pub framed-at-plan : (g : Geometry) (k : ℕ) → framedAt g k .plan ≡ planned g k .plan
+unfolding framedAt
+framed-at-plan g k = refl
+
+pub framed-at-frame : (g : Geometry) (k : ℕ) → planned g k .number ≡ 0 → framedAt g k .frame ≡ frameOf g (planned g k .plan)
+unfolding framedAt
+framed-at-frame g k e = rw e refl

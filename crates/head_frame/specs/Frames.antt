@@ -3,6 +3,7 @@
 use mathlib.Core.Path.{_≡_}
 use mathlib.Core.Bool.{Bool, true, false, cond}
 use Prim.Native.Nat.{ℕ, _+_, _*_, _/_, _^_, _≤_, _<_}
+use lib.Dec.{eqb}
 use Rattle.refusals.specs.Numbers.{noAnswer}
 use Rattle.params.specs.declared.OptU64.{OptU64}
 use Rattle.params.specs.declared.OptU64.the-variants.{Absent, Given}
@@ -12,10 +13,12 @@ use Rattle.geometry.specs.Log.{headerOf}
 use Rattle.structs.specs.Sizes.{isSector, isBlock}
 use Rattle.structs.specs.Written.{null32}
 use Rattle.plan.specs.declared.AgPlan.{AgPlan}
+use Rattle.plan.specs.Plan.{planned}
 use Rattle.plan_same.specs.Same.{isPlan}
 use Rattle.plan_totals.specs.Totals.{freeblksOf, longestOf}
 use Rattle.head_frame.specs.declared.Frame.{Frame}
 use Rattle.head_frame.specs.declared.Framed.{Framed}
+use Rattle.head_frame.specs.declared.FramedPlan.{FramedPlan}
 
 -- the root chunk lies in this group
 unfoldable pub hasChunk : OptU64 → Bool
@@ -74,6 +77,15 @@ noFrame = record {
 -- `frame_of`: 31, or the frame
 unfoldable pub framed : Geometry → AgPlan → Framed
 framed g p = cond (isPlan g p) (record { number = 0; frame = frameOf g p }) (record { number = noAnswer; frame = noFrame })
+
+-- `frame_at`: what the planner answers for group k, with the frame of an accepted plan
+unfoldable pub framedAt : Geometry → ℕ → FramedPlan
+framedAt g k =
+    record {
+      number = planned g k .number;
+      plan = planned g k .plan;
+      frame = cond (eqb (planned g k .number) 0) (frameOf g (planned g k .plan)) noFrame;
+    }
 
 -- what holds of the frame of every plan of the planner
 pub record FrameBounds (w : Frame) : Type 0 where

@@ -4,13 +4,14 @@ ghost use mathlib.Core.Bool.{true};
 ghost use Prim.Native.Nat.{_*_, _<_, _^_};
 ghost use Rattle.plan_same.specs.Same.{isPlan};
 ghost use Rattle.plan_totals.specs.Totals.{freeblksOf, longestOf};
-ghost use Rattle.head_frame.specs.Frames.{hasChunk, chunkIno, frameOf, noFrame, framed};
+ghost use Rattle.head_frame.specs.Frames.{hasChunk, chunkIno, frameOf, noFrame, framed, framedAt};
 use geometry::Geometry;
 use geometry::log_size::header_of;
 use params::Features;
 use params::OptU64;
 use plan::AgPlan;
 use plan_summary::records::free_totals;
+use plan_summary::records::group_totals;
 
 // A group, its head and its root chunk.
 pub struct Frame {
@@ -31,6 +32,13 @@ pub struct Frame {
 // The number is 0 for a plan of the planner; a refusal has the frame of zeros.
 pub struct Framed {
     pub number: u32,
+    pub frame: Frame,
+}
+
+// A group's plan with its frame. The number is 0 for an accepted plan; a refusal has the plan and the frame of zeros.
+pub struct FramedPlan {
+    pub number: u32,
+    pub plan: AgPlan,
     pub frame: Frame,
 }
 
@@ -129,4 +137,28 @@ pub fn frame_of(g: Geometry, p: AgPlan) -> Framed
     }
     let frame = frame_with(g, p, t.blocks, t.longest);
     Framed { number: 0, frame }
+}
+
+// The plan of group agno, made once, and what its head's parts have in common: 31, 29 and 25 as the planner.
+pub fn frame_at(g: Geometry, agno: u64) -> FramedPlan
+    ensures { λ r. ⌜ r ≡ framedAt g agno ⌝ }
+{
+    let t = group_totals(g, agno);
+    let number = t.number;
+    let plan = t.plan;
+    if number != 0 {
+        let none = no_frame();
+        let frame = none.frame;
+        return FramedPlan {
+            number,
+            plan,
+            frame,
+        };
+    }
+    let frame = frame_with(g, plan, t.blocks, t.longest);
+    FramedPlan {
+        number: 0,
+        plan,
+        frame,
+    }
 }

@@ -11,10 +11,11 @@ use Rattle.geometry_counts.specs.declared.Value32.{Value32}
 use Rattle.geometry_counts.specs.declared.Value32.the-variants.{Refused, Of}
 use Rattle.geometry_counts.specs.Known.{known32}
 use Rattle.plan.specs.declared.AgPlan.{AgPlan}
+use Rattle.plan.specs.Plan.{planned}
 use Rattle.plan_same.specs.Same.{isPlan}
 use Rattle.plan_totals.specs.Totals.{freeblksOf, longestOf}
 use Rattle.plan_summary.specs.declared.records.FreeTotals.{FreeTotals}
-use Rattle.plan_summary.specs.Summaries.{freeTotals}
+use Rattle.plan_summary.specs.Summaries.{freeTotals, groupTotals}
 
 -- the totals of a plan of the planner, or those of a refusal
 abbrev pub totalsAt : Bool → ℕ → ℕ → FreeTotals
@@ -47,6 +48,21 @@ totals-none g p n = none-at (isPlan g p) (λ e. n (totals-number g p ∙ e))
 pub totals-are : (g : Geometry) (p : AgPlan) → isPlan g p ≡ true → (freeTotals g p .blocks ≡ freeblksOf (p .free)) × (freeTotals g p .longest ≡ longestOf (p .free))
 unfolding freeTotals
 totals-are g p h = rw h (refl, refl)
+
+-- ---- a group by its number
+
+pub group-number : (g : Geometry) (k : ℕ) → groupTotals g k .number ≡ planned g k .number
+unfolding groupTotals
+group-number g k = refl
+
+pub group-plan : (g : Geometry) (k : ℕ) → groupTotals g k .plan ≡ planned g k .plan
+unfolding groupTotals
+group-plan g k = refl
+
+pub group-are : (g : Geometry) (k : ℕ) → planned g k .number ≡ 0
+    → (groupTotals g k .blocks ≡ freeblksOf (planned g k .plan .free)) × (groupTotals g k .longest ≡ longestOf (planned g k .plan .free))
+unfolding groupTotals
+group-are g k e = rw e (refl, refl)
 
 -- ---- one of the two by itself
 

@@ -9,12 +9,14 @@ use Rattle.geometry.specs.declared.Geometry.{Geometry}
 use Rattle.geometry.specs.Log.{preallocOf}
 use Rattle.geometry_layout.specs.Places.{freelistOf, chunkOf, rootChunkOf}
 use Rattle.plan.specs.declared.AgPlan.{AgPlan}
+use Rattle.plan.specs.Plan.{planned}
 use Rattle.plan_same.specs.Same.{isPlan}
 use Rattle.table_lines.specs.declared.Row.{Row}
 use Rattle.plan_totals.specs.Totals.{plansNumber, constCount, noRow, closedTotal, freeblksOf, longestOf}
 use Rattle.plan_summary.specs.declared.Summary.{Summary}
 use Rattle.plan_summary.specs.declared.Summarised.{Summarised}
 use Rattle.plan_summary.specs.declared.records.FreeTotals.{FreeTotals}
+use Rattle.plan_summary.specs.declared.records.GroupTotals.{GroupTotals}
 
 -- ---- the numbers of a geometry
 
@@ -63,6 +65,16 @@ unfoldable pub freeTotals : Geometry → AgPlan → FreeTotals
 freeTotals g p =
     cond (isPlan g p) (record { number = 0; blocks = freeblksOf (p .free); longest = longestOf (p .free) })
     (record { number = noAnswer; blocks = 0; longest = 0 })
+
+-- `group_totals`: what the planner answers for group k, with the totals of an accepted plan
+unfoldable pub groupTotals : Geometry → ℕ → GroupTotals
+groupTotals g k =
+    record {
+      number = planned g k .number;
+      plan = planned g k .plan;
+      blocks = cond (eqb (planned g k .number) 0) (freeblksOf (planned g k .plan .free)) 0;
+      longest = cond (eqb (planned g k .number) 0) (longestOf (planned g k .plan .free)) 0;
+    }
 
 -- ---- a row of a summary
 

@@ -1,4 +1,5 @@
-// The free records of a plan of the planner: their blocks, and the longest. Every number is below 2^30, and held in 32 bits.
+// The free records of a plan of the planner: their blocks, and the longest. Every number is below 2^30, and held in 32 bits. The plan is
+// handed in, or made here.
 ghost use mathlib.Core.Bool.{cond};
 ghost use mathlib.Core.Path.{_≡_};
 ghost use Prim.Native.Nat.{_≤_};
@@ -7,16 +8,25 @@ ghost use Rattle.geometry_counts.specs.declared.Value32.the-variants.{Refused, 
 ghost use Rattle.geometry_counts.specs.Known.{known32};
 ghost use Rattle.plan_same.specs.Same.{isPlan};
 ghost use Rattle.plan_totals.specs.Totals.{largerCount, freeblksOf, longestOf, NarrowRecords};
-ghost use Rattle.plan_summary.specs.Summaries.{freeTotals};
+ghost use Rattle.plan_summary.specs.Summaries.{freeTotals, groupTotals};
 use geometry::Geometry;
 use geometry_counts::Value32;
 use plan::AgPlan;
+use plan::plan_ag;
 use plan_free::FreeList;
 use plan_same::is_plan;
 
 // Blocks of a plan's free records, and of the longest. The number is 0 for a plan of the planner; a refusal has zeros.
 pub struct FreeTotals {
     pub number: u32,
+    pub blocks: u32,
+    pub longest: u32,
+}
+
+// A group's plan with these two. The number is 0 for an accepted plan; a refusal has zeros.
+pub struct GroupTotals {
+    pub number: u32,
+    pub plan: AgPlan,
     pub blocks: u32,
     pub longest: u32,
 }
@@ -71,6 +81,30 @@ pub fn free_totals(g: Geometry, p: AgPlan) -> FreeTotals
     let l = p.free;
     FreeTotals {
         number: 0,
+        blocks: sum_of(l),
+        longest: longest_of(l),
+    }
+}
+
+// The plan of group agno with both totals: 31, 29 and 25 as the planner.
+pub fn group_totals(g: Geometry, agno: u64) -> GroupTotals
+    ensures { λ r. ⌜ r ≡ groupTotals g agno ⌝ }
+{
+    let answer = plan_ag(g, agno);
+    let number = answer.number;
+    let plan = answer.plan;
+    if number != 0 {
+        return GroupTotals {
+            number,
+            plan,
+            blocks: 0,
+            longest: 0,
+        };
+    }
+    let l = plan.free;
+    GroupTotals {
+        number: 0,
+        plan,
         blocks: sum_of(l),
         longest: longest_of(l),
     }

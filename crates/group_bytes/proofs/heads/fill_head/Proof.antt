@@ -9,9 +9,9 @@ use Rattle.group_bytes.proofs.heads.fill_head.Tie as tie
 
 returns : tie.Need-returns
 returns c =
-    let s = c .before .before .before .before .before .before .before .before in
+    let s = c .before .before .before .before .before .before in
     let l : length (s .args .g .label) ≡ 12 = search (needs, s .good .0 .1 .1 .1 .1 .1 .1 .1 .1 .1 .1 .1 .1 .1 .1 .1 .1 .1 .1 .1) in
-    filled (s .args .g) _ (s .args .k) _ (s .pre) _ _ _ l (c .before .before .before .before .before .before .plan-ag .ensures) (c .before .before .ag-head .ensures)
+    filled (s .args .g) _ (s .args .k) _ (s .pre) _ _ l (c .before .before .group-head .ensures)
 
 pub fill-head-spec : {M : Type 1} → statement M
-fill-head-spec = tie.close (tie.spec (λ c κs. search needs) (λ c κs. search needs) (λ c. search needs) returns)
+fill-head-spec = tie.close (tie.spec (λ c κs. search needs) (λ c. search needs) returns)
