@@ -121,7 +121,13 @@ impl Mode for Structs {
     }
 
     fn replayed(&self, case: &[u8]) -> Option<Vec<u8>> {
-        let (head, body) = taken_apart(usize::from(case[0]), &case[1..])?;
-        Some([&case[..1], &head, &(body.len() as u32).to_be_bytes(), &body].concat())
+        named(ENCODERS[usize::from(case[0])].0)?.replayed(&case[1..])
+    }
+
+    fn replayed_answer(&self, case: &[u8], _answer: &[u8]) -> Vec<u8> {
+        let mode = named(ENCODERS[usize::from(case[0])].0).unwrap();
+        let mut answer = Vec::new();
+        mode.answer(&case[1..], &mut answer).unwrap();
+        mode.replayed_answer(&case[1..], &answer)
     }
 }
