@@ -182,15 +182,7 @@ pub fn agfl(seqno: u32, uuid: &Uuid, first: u32, list: &[u32; 64], count: usize,
     unsafe { zq_agfl(seqno, uuid, first, list, count, sector.as_mut_ptr(), sector.len()) }
 }
 
-pub fn leaf_block(
-    magic: u32,
-    daddr: u64,
-    agno: u32,
-    uuid: &Uuid,
-    recs: &[u8],
-    numrecs: u16,
-    block: &mut [u8],
-) -> u32 {
+pub fn leaf_block(magic: u32, daddr: u64, agno: u32, uuid: &Uuid, recs: &[u8], numrecs: u16, block: &mut [u8]) -> u32 {
     let (records, used) = (recs.as_ptr(), recs.len());
     unsafe { zq_leaf_block(magic, daddr, agno, uuid, records, used, numrecs, block.as_mut_ptr(), block.len()) }
 }

@@ -139,7 +139,8 @@ impl Mode for Made {
         };
         let number = *reader::group0(&heads[0])?.first()?;
         let first = if number == 0 { &heads[0] } else { &d.heads[0] };
-        let others: Option<Vec<u32>> = heads.iter().zip(0..).skip(1).map(|(head, k)| reader::group(first, k, head)).collect();
+        let others: Option<Vec<u32>> =
+            heads.iter().zip(0..).skip(1).map(|(head, k)| reader::group(first, k, head)).collect();
         Some(format!("{number} {:?} {}\n", others?, reader::log(first, &log)?).into_bytes())
     }
 

@@ -94,7 +94,8 @@ fn answered(case: &[u8]) -> (Told, Vec<[u64; 2]>) {
 fn lines(number: u32, answers: &[[u64; 2]]) -> Vec<u8> {
     let mut lines = format!("{number}\n");
     if let Some((methods, conversions)) = answers.split_at_checked(METHODS) {
-        let method = |&[number, value]: &[u64; 2]| if number == 0 { value.to_string() } else { format!("refused {number}") };
+        let method =
+            |&[number, value]: &[u64; 2]| if number == 0 { value.to_string() } else { format!("refused {number}") };
         lines += &(methods.iter().map(method).collect::<Vec<_>>().join(" ") + "\n");
         for &[number, value] in conversions {
             lines += &if number == 0 { format!("0 {value}\n") } else { format!("{number}\n") };

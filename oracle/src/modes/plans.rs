@@ -145,9 +145,7 @@ fn plan_of(n: &[u64]) -> Option<(AgPlan, u64, u64)> {
         length: n[2],
         free: listed(n[3], 2, FREE).map(|r| AllocRec { start: r[0] as u32, count: r[1] as u32 }).collect(),
         agfl: listed(n[4], 1, AGFL).map(|r| r[0] as u32).collect(),
-        rmap: listed(n[5], 3, RMAP)
-            .map(|r| RmapRec { start: r[0] as u32, count: r[1] as u32, owner: r[2] })
-            .collect(),
+        rmap: listed(n[5], 3, RMAP).map(|r| RmapRec { start: r[0] as u32, count: r[1] as u32, owner: r[2] }).collect(),
         chunk: (n[6] == 1).then_some(n[7]),
     };
     Some((plan, n[8], n[9]))
@@ -200,7 +198,9 @@ impl Mode for Plans {
         let mut out = format!("{}\n", reply.number).into_bytes();
         for numbers in reply.numbers().get(2..).unwrap_or_default().chunks(PLAN) {
             match plan_of(numbers) {
-                Some((p, freeblks, longest)) => plan_line(&mut out, &p, freeblks, longest).expect("a vector takes everything"),
+                Some((p, freeblks, longest)) => {
+                    plan_line(&mut out, &p, freeblks, longest).expect("a vector takes everything")
+                }
                 None => out.extend(format!("{}\n", numbers[0]).bytes()),
             }
         }

@@ -81,7 +81,8 @@ impl Mode for Reader {
         let first = &disk.heads[0];
         let row: Vec<String> = reader::group0(first)?.iter().map(|n| n.to_string()).collect();
         let heads = disk.heads.iter().zip(0..).map(|(head, k)| reader::group(first, k, head));
-        let numbers: Option<String> = heads.chain([reader::log(first, &disk.log)]).map(|n| Some(format!("{} ", n?))).collect();
+        let numbers: Option<String> =
+            heads.chain([reader::log(first, &disk.log)]).map(|n| Some(format!("{} ", n?))).collect();
         Some(format!("{}\n{}\n", row.join(" "), numbers?).into_bytes())
     }
 

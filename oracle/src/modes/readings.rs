@@ -1,4 +1,4 @@
-//! Single changes of one small disk, for `crates/replay_reader` alone. A case is an offset in its three heads and its log's
+//! Single changes of one small disk, to be replayed. A case is an offset in its three heads and its log's
 //! first block (4 bytes) and the byte that is put there; the first replayed case is these bytes themselves. An answer is the
 //! number of the place so changed, and that of the place restored.
 

@@ -1,9 +1,9 @@
-//! Record lists, leaf blocks, log records and decoded times together, as the program `replay_records` reads their cases.
-//! A case is the function (1 byte), its numbers (1040 bytes, zeros behind them), the byte that every lent byte has (1)
-//! and how many they are (4); an answer is a line: the number, and the checksum of the lent bytes as they are left.
+//! Record lists, leaf blocks, log records and decoded times together, to be replayed. A case is the function (1 byte), the byte
+//! that every lent byte has (1) and a case of the function's own mode; an answer is a line: the number, and the checksum of the lent
+//! bytes as they are left.
 //!
-//! The numbers are those of the function's own mode, in their order, without the kind of list and the log's operation.
 //! `clear_sunit`, `lsn` and `decode_time` leave their results: 8 bytes, or the seconds from −2^31 on and the nanoseconds.
+//! Cases with more than 1040 bytes of numbers aren't taken, so that a seed has the cases that it had.
 
 use std::io;
 
@@ -97,7 +97,11 @@ impl Mode for Records {
     fn replayed(&self, case: &[u8]) -> Option<Vec<u8>> {
         let function = usize::from(case[0]);
         let (_, lent) = taken_apart(function, &case[2..])?;
-        let asked = if function == DECODE_TIME { decoding(&case[2..])? } else { named(FUNCTIONS[function].0)?.asked(&case[2..])? };
+        let asked = if function == DECODE_TIME {
+            decoding(&case[2..])?
+        } else {
+            named(FUNCTIONS[function].0)?.asked(&case[2..])?
+        };
         let body = [&case[1..2], &(lent as u32).to_be_bytes()].concat();
         Some(Asked { body, ..asked }.frame(port::REPEATED))
     }

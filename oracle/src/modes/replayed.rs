@@ -1,9 +1,6 @@
-//! The encoders together, as the program `replay_structs` reads their cases. A case is the encoder (1 byte), its numbers
-//! (320 bytes, zeros behind them), the length of the lent bytes (4) and these; an answer is a line: the number, and the
-//! checksum of the lent bytes as they are left.
-//!
-//! The numbers are those of the encoder's own mode, in their order, with these differences: `record` has no operation;
-//! the superblock's are the geometry's 19 numbers (8 bytes each), its features (1 byte each), its label, and the state.
+//! The encoders together, to be replayed. A case is the encoder (1 byte) and a case of its own mode; an answer is a line: the
+//! number, and the checksum of the lent bytes as they are left. Which cases are taken is as it was when the program that replayed
+//! them had room for 320 bytes of numbers, so that a seed has the cases that it had.
 
 use std::io;
 

@@ -20,8 +20,7 @@ use crate::wishes;
 pub struct Requests;
 
 /// The options whose numbers are shown as they are, in the order of the port's record.
-const SHOWN: [usize; 8] =
-    [op::SIZE, op::BLOCK, op::SECTOR, op::INODE, op::AGCOUNT, op::AGSIZE, op::IMAXPCT, op::SEED];
+const SHOWN: [usize; 8] = [op::SIZE, op::BLOCK, op::SECTOR, op::INODE, op::AGCOUNT, op::AGSIZE, op::IMAXPCT, op::SEED];
 
 fn numbers(number: u32, q: &Request) -> Vec<u64> {
     let mut out = vec![number.into(), q.device, q.logical.into(), q.physical.into()];

@@ -1,6 +1,6 @@
 //! The reader on disks of one request in both sizings. A case is the input records of two requests without a sizing, the first one's length
 //! (2 bytes) before them. An answer has a line for each thing read, with the model's numbers (`../model.rs`): for each sizing that accepts the
-//! first request what group 0's head gives (crate ffi_reader's row), every head and the log's first block read with it, the same read
+//! first request what group 0's head gives (replay_disks has the row), every head and the log's first block read with it, the same read
 //! with the other sizing's group 0; then group 0's head with the second request's name, and with other counts under a right checksum.
 
 use std::io;

@@ -410,7 +410,8 @@ impl Mode for Sb {
         let mut f = Fields(case);
         f.bytes(16 + 6 * 8 + 1);
         let n = f.u32() as usize;
-        let named = Request::parse(f.bytes(n)).and_then(|q| step(&q).1).map_or(Vec::new(), |g| feature_words(&g).to_vec());
+        let named =
+            Request::parse(f.bytes(n)).and_then(|q| step(&q).1).map_or(Vec::new(), |g| feature_words(&g).to_vec());
         let named = named.iter().flat_map(|v| v.to_be_bytes());
         named.chain(numbered(reply.number, &reply.bytes)).collect()
     }
