@@ -16,13 +16,7 @@ const SB_CRC: usize = 224;
 
 /// A buffer of `len` bytes, of which the first `content` are not zero.
 fn buffer(len: usize, content: usize) -> Vec<u8> {
-    let byte = |i: usize| {
-        if i < content {
-            (i as u32).wrapping_mul(0x9e37_79b9).to_be_bytes()[0] | 1
-        } else {
-            0
-        }
-    };
+    let byte = |i: usize| if i < content { (i as u32).wrapping_mul(0x9e37_79b9).to_be_bytes()[0] | 1 } else { 0 };
     (0..len).map(byte).collect()
 }
 
@@ -51,9 +45,7 @@ fn call(side: &str, buf: &mut [u8], off: Option<usize>) -> u32 {
 
 fn main() {
     let words: Vec<String> = std::env::args().collect();
-    let [_, side, name, times] = &words[..] else {
-        panic!("speed SIDE CASE TIMES")
-    };
+    let [_, side, name, times] = &words[..] else { panic!("speed SIDE CASE TIMES") };
     assert!(side == "rust" || side == "ours");
     let (mut buf, off) = case(name).expect("a case");
     let times: u64 = times.parse().expect("a number");

@@ -93,22 +93,11 @@ fn call(side: &str, name: &str) -> (usize, Box<dyn Fn(&mut [u8])>) {
         ("agfl", false) => Box::new(|b| assert_eq!(port::agfl(1, &UUID, 0, &LIST, 6, b), 0)),
         // The Rust's leaf is a vector of its own.
         ("leaf", true) => Box::new(move |b| {
-            black_box(leaf_block(
-                magic::BNO,
-                8,
-                1,
-                &UUID,
-                black_box(&recs),
-                3,
-                b.len(),
-            ));
+            black_box(leaf_block(magic::BNO, 8, 1, &UUID, black_box(&recs), 3, b.len()));
         }),
-        ("leaf", false) => Box::new(move |b| {
-            assert_eq!(
-                port::leaf_block(magic::BNO, 8, 1, &UUID, black_box(&recs), 3, b),
-                0
-            )
-        }),
+        ("leaf", false) => {
+            Box::new(move |b| assert_eq!(port::leaf_block(magic::BNO, 8, 1, &UUID, black_box(&recs), 3, b), 0))
+        }
         _ => panic!("no case {name}"),
     };
     (if name == "leaf" { 4096 } else { 512 }, f)
@@ -116,9 +105,7 @@ fn call(side: &str, name: &str) -> (usize, Box<dyn Fn(&mut [u8])>) {
 
 fn main() {
     let words: Vec<String> = std::env::args().collect();
-    let [_, side, name, times] = &words[..] else {
-        panic!("structs SIDE CASE TIMES")
-    };
+    let [_, side, name, times] = &words[..] else { panic!("structs SIDE CASE TIMES") };
     assert!(side == "rust" || side == "ours");
     let (len, f) = call(side, name);
     let mut buf = vec![0u8; len];
