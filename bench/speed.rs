@@ -8,7 +8,7 @@ use std::hint::black_box;
 use std::time::Instant;
 
 use mkfs_xfs::crc as rust;
-use mkfs_xfs::ours::crc as ours;
+use mkfs_xfs::ours;
 
 /// Where a leaf block and a superblock have their checksum.
 const LEAF_CRC: usize = 52;

@@ -8,7 +8,7 @@ use std::hint::black_box;
 use std::time::Instant;
 
 use mkfs_xfs::geometry::{Geometry, Params};
-use mkfs_xfs::ours::{sb as port_sb, structs as port};
+use mkfs_xfs::ours as port;
 use mkfs_xfs::structs::ag::{encode_agfl, Agf, Agi};
 use mkfs_xfs::structs::btree::{leaf_block, magic};
 use mkfs_xfs::structs::sb::{self, SbState};
@@ -81,7 +81,10 @@ fn call(side: &str, name: &str) -> (usize, Box<dyn Fn(&mut [u8])>) {
     let (a, i, (g, s)) = (agf(), agi(), superblock());
     let f: Box<dyn Fn(&mut [u8])> = match (name, rust) {
         ("sb", true) => Box::new(move |b| sb::encode(&g, &s, b)),
-        ("sb", false) => Box::new(move |b| assert_eq!(port_sb::encode(&g, &s, b), 0)),
+        ("sb", false) => {
+            let (fields, numbers) = (port::fields(&g), port::numbers(&s));
+            Box::new(move |b| assert_eq!(port::sb(&fields, &g.label, &numbers, &s.uuid, b), 0))
+        }
         ("agf", true) => Box::new(move |b| a.encode(&UUID, b)),
         ("agf", false) => Box::new(move |b| assert_eq!(port::agf(&a, &UUID, b), 0)),
         ("agi", true) => Box::new(move |b| i.encode(&UUID, b)),

@@ -1,25 +1,18 @@
-//! Links the port's static libraries, one for each feature that is on: feature `crc` is `libffi_crc.a`.
-//! They stand where `rt staticlib` leaves them, or in the folder that ZECHURQI_STATICLIB names.
+//! Links the port's static library libbench_ffi.a where the feature `bench` is on. It stands where `rt staticlib bench_ffi` leaves it,
+//! or in the folder that ZECHURQI_STATICLIB names.
 
 use std::env;
 use std::path::Path;
 
-const FEATURES: [&str; 13] = [
-    "crc", "geometry", "places", "helpers", "records", "sb", "structs", "recs", "chunk", "plans", "slices", "reader",
-    "holds",
-];
-
 fn main() {
     println!("cargo:rerun-if-env-changed=ZECHURQI_STATICLIB");
+    if env::var("CARGO_FEATURE_BENCH").is_err() {
+        return;
+    }
     let here = env::var("CARGO_MANIFEST_DIR").unwrap();
     let folder = env::var("ZECHURQI_STATICLIB").unwrap_or("../target/staticlib".into());
     let folder = Path::new(&here).join(folder);
-    for feature in FEATURES {
-        if env::var(format!("CARGO_FEATURE_{}", feature.to_uppercase())).is_ok() {
-            let file = folder.join(format!("libffi_{feature}.a"));
-            println!("cargo:rerun-if-changed={}", file.display());
-            println!("cargo:rustc-link-search=native={}", folder.display());
-            println!("cargo:rustc-link-lib=static=ffi_{feature}");
-        }
-    }
+    println!("cargo:rerun-if-changed={}", folder.join("libbench_ffi.a").display());
+    println!("cargo:rustc-link-search=native={}", folder.display());
+    println!("cargo:rustc-link-lib=static=bench_ffi");
 }

@@ -97,9 +97,9 @@ pub fn count(mode: &dyn Mode, cases: u64, seed: u64) -> io::Result<()> {
     Ok(())
 }
 
-pub fn with_library(mode: &dyn Mode, cases: u64, seed: u64) -> io::Result<bool> {
-    let missing =
-        || io::Error::other("no static library of the port is linked in for this mode: build with its feature");
+/// The port's own programs answer, through pipes.
+pub fn with_port(mode: &dyn Mode, cases: u64, seed: u64) -> io::Result<bool> {
+    let missing = || io::Error::other("the port has no answer: the mode has no program, or it doesn't run or ended");
     compared(mode, cases, seed, |case| mode.ours(case).ok_or_else(missing))
 }
 
@@ -185,24 +185,34 @@ pub fn sample(mode: &dyn Mode, cases: u64, seed: u64) -> io::Result<()> {
     output.flush()
 }
 
-/// The files `stdin` and `stdout` of a program that replays the answers: half of the cases are accepted, the others are
-/// shared among the refusals.
-pub fn replay(mode: &dyn Mode, cases: u64, seed: u64, folder: &str) -> io::Result<()> {
+/// What is put behind the files `stdin` and `stdout` of a program that replays the answers: half of the cases are accepted, the
+/// others are shared among the refusals; or they are the first of the seed.
+pub fn replay(mode: &dyn Mode, cases: u64, seed: u64, first: bool, folder: &str) -> io::Result<()> {
     let missing = || io::Error::other("no program of the port replays this mode");
-    let (accepted, refused) = found(mode, cases / 2, seed)?.into_iter().partition(|(told, _)| told.number == 0);
-    let (mut cases_file, mut answers_file) = (Vec::new(), Vec::new());
-    let mut always = Vec::new();
-    for case in mode.always() {
+    let answered = |case: Vec<u8>| {
         let mut answer = Vec::new();
-        mode.answer(&case, &mut answer)?;
-        always.push((case, answer));
+        mode.answer(&case, &mut answer).map(|_| (case, answer))
+    };
+    let mut pairs: Vec<Pair> = mode.always().into_iter().map(answered).collect::<io::Result<_>>()?;
+    if first {
+        let mut r = Random::new(seed);
+        for _ in 0..cases {
+            pairs.push(answered(mode.case(&mut r))?);
+        }
+    } else {
+        let (accepted, refused) = found(mode, cases / 2, seed)?.into_iter().partition(|(told, _)| told.number == 0);
+        let chosen = shared(&accepted, cases / 2).into_iter().chain(shared(&refused, cases - cases / 2));
+        pairs.extend(chosen.cloned());
     }
-    let found = shared(&accepted, cases / 2).into_iter().chain(shared(&refused, cases - cases / 2));
-    for (case, answer) in always.iter().chain(found) {
+    let (mut cases_file, mut answers_file) = (Vec::new(), Vec::new());
+    for (case, answer) in &pairs {
         cases_file.extend(mode.replayed(case).ok_or_else(missing)?);
         answers_file.extend(mode.replayed_answer(case, answer));
     }
-    let folder = Path::new(folder);
-    fs::write(folder.join("stdin"), cases_file)?;
-    fs::write(folder.join("stdout"), answers_file)
+    let add = |name, bytes: &[u8]| {
+        let file = fs::OpenOptions::new().create(true).append(true).open(Path::new(folder).join(name));
+        file.and_then(|mut file| file.write_all(bytes))
+    };
+    add("stdin", &cases_file)?;
+    add("stdout", &answers_file)
 }

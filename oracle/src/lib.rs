@@ -13,4 +13,5 @@ pub mod structs;
 
 pub mod bytes;
 pub mod error;
+#[cfg(feature = "bench")]
 pub mod ours;

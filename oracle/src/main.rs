@@ -5,10 +5,10 @@
 //!     oracle cases MODE --cases N --seed S         N cases as a stream
 //!     oracle count MODE --cases N --seed S         how many of N cases have each number
 //!     oracle sample MODE --cases N --seed S        N cases of all kinds with their answers, as a stream
-//!     oracle replay MODE --cases N --seed S DIR    N cases with their answers, as DIR/stdin and DIR/stdout of the
-//!                                                  program that replays them
-//!     oracle compare MODE --cases N --seed S       both sides on N cases; the port's is the static library that is
-//!         [--program PATH | --each PATH]           linked in, a program over streams, or one run for each case
+//!     oracle replay MODE --cases N --seed S DIR    N cases with their answers, put behind DIR/stdin and DIR/stdout of the
+//!         [--first]                                program that replays them; the first N of the seed, or of all kinds
+//!     oracle compare MODE --cases N --seed S       both sides on N cases; the port's is the mode's program (port.rs),
+//!         [--program PATH | --each PATH]           another program over streams, or one run for each case
 //!
 //! With --roomy the cases are crowded disks in roomy sizing (modes/roomy.rs), for the modes that have such.
 
@@ -28,6 +28,7 @@ mod lengths;
 mod model;
 mod modes;
 mod numbers;
+mod port;
 mod profile;
 mod random;
 mod ranges;
@@ -45,6 +46,7 @@ struct Words {
     seed: u64,
     frames: bool,
     roomy: bool,
+    first: bool,
     program: Option<String>,
     each: Option<String>,
     folder: Option<String>,
@@ -52,8 +54,8 @@ struct Words {
 
 impl Words {
     fn read(words: &[String]) -> Option<Words> {
-        let mut w =
-            Words { cases: 1000, seed: 1, frames: false, roomy: false, program: None, each: None, folder: None };
+        let (program, each, folder) = (None, None, None);
+        let mut w = Words { cases: 1000, seed: 1, frames: false, roomy: false, first: false, program, each, folder };
         let mut it = words.iter();
         while let Some(word) = it.next() {
             match word.as_str() {
@@ -61,6 +63,7 @@ impl Words {
                 "--seed" => w.seed = it.next()?.parse().ok()?,
                 "--frames" => w.frames = true,
                 "--roomy" => w.roomy = true,
+                "--first" => w.first = true,
                 "--program" => w.program = Some(it.next()?.clone()),
                 "--each" => w.each = Some(it.next()?.clone()),
                 _ if word.starts_with('-') || w.folder.is_some() => return None,
@@ -115,11 +118,11 @@ fn run(words: &[String]) -> Option<io::Result<bool>> {
         "cases" => cases(&mode, &w).map(|()| true),
         "count" => compare::count(&*mode, w.cases, w.seed).map(|()| true),
         "sample" => compare::sample(&*mode, w.cases, w.seed).map(|()| true),
-        "replay" => compare::replay(&*mode, w.cases, w.seed, w.folder.as_ref()?).map(|()| true),
+        "replay" => compare::replay(&*mode, w.cases, w.seed, w.first, w.folder.as_ref()?).map(|()| true),
         "compare" => match (&w.program, &w.each) {
             (Some(path), _) => compare::with_program(&*mode, w.cases, w.seed, path),
             (None, Some(path)) => compare::with_each(&*mode, w.cases, w.seed, path),
-            (None, None) => compare::with_library(&*mode, w.cases, w.seed),
+            (None, None) => compare::with_port(&*mode, w.cases, w.seed),
         },
         _ => answer(&mode, &w).map(|()| true),
     })
@@ -137,7 +140,7 @@ fn main() -> ExitCode {
             ExitCode::from(2)
         }
         None => {
-            eprintln!("usage: oracle [cases | count | sample | replay | compare] MODE [--cases N] [--seed S] [--roomy] [--frames] [--program PATH | --each PATH] [DIR]");
+            eprintln!("usage: oracle [cases | count | sample | replay | compare] MODE [--cases N] [--seed S] [--roomy] [--frames] [--first] [--program PATH | --each PATH] [DIR]");
             ExitCode::from(2)
         }
     }

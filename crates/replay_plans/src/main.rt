@@ -1,152 +1,76 @@
-// Replays cases of the planner from standard input and prints each answer: a line with the geometry step's number, then, if it is 0, a
-// line for each of four groups (the first, the log's, the last and a chosen one): the number, and after 0 every field of the plan.
-// `stdin` and `stdout` hold cases from a seed and what the Rust answers to them (24 and 28, which the Rust doesn't know, are document
-// 01's), every number from 0 to 25 and 28 among them; they were written by
+// Answers cases of geometry, plans, record lists, input records and held runs from standard input (replay_frames has the frames): the number, and
+// a row of numbers. oracle/compare asks it through a pipe. `stdin` and `stdout` hold cases from seeds and what the Rust answers to them (24, 28
+// and others, which the Rust doesn't know, are the scope's, and held runs are the model's); they were written by
 //
-//     oracle/target/release/oracle replay plans --cases 300 --seed 5 crates/replay_plans
-//
-// A case is a number that chooses a group (8 bytes), the length of the input records (4), and these. Numbers are big-endian.
-use ffi_plans::zq_plan;
-use ffi_plans::zq_plan_record;
-use ffi_plans::zq_step;
-use libc::STDIN_FILENO;
-use libc::STDOUT_FILENO;
+//     oracle/record plans
+use crate::holds::holds;
+use crate::plans::plans;
+use crate::plans::rmap_insert;
+use crate::plans::take;
+use crate::requests::request;
+use crate::rows::Answer;
+use crate::rows::refused;
+use crate::steps::geometry;
+use crate::steps::helpers;
+use crate::steps::places;
+use replay_frames::Case;
 
-// Where the length stands, and where the records begin.
-const LENGTH: usize = 8;
+pub mod holds; // held runs
+pub mod plans; // the planner, and its two functions on lists
+pub mod requests; // input records
+pub mod rows; // rows of numbers
+pub mod steps; // the geometry step, its methods and conversions
 
-const RECORDS: usize = 12;
-
-// The most bytes of records.
-const MOST: usize = 1024;
-
-// The numbers of a geometry step.
-const AGCOUNT: u64 = 1;
-
-const LOGAGNO: u64 = 2;
-
-// The numbers of a plan: agno and length, the counts of its lists, the chunk's presence and place, freeblks and longest.
-const AGNO: u64 = 1;
-
-const FREE: u64 = 3;
-
-const AGFL: u64 = 4;
-
-const RMAP: u64 = 5;
-
-const HAS_CHUNK: u64 = 6;
-
-const CHUNK: u64 = 7;
-
-const FREEBLKS: u64 = 8;
-
-const END: u64 = 10;
-
-// The numbers at an index of its lists: where those of each list begin, and where the last ends.
-const FREE_RECORD: u64 = 0;
-
-const BLOCK: u64 = 2;
-
-const RMAP_RECORD: u64 = 3;
-
-const RECORD_END: u64 = 6;
-
-fn print_number(n: u64) {
-    io::write_all(STDOUT_FILENO, b" ");
-    io::print_decimal(STDOUT_FILENO, n);
-}
-
-fn print_line(n: u64) {
-    io::print_decimal(STDOUT_FILENO, n);
-    io::write_all(STDOUT_FILENO, b"\n");
-}
-
-// The plan's numbers from `first` to before `end`.
-fn print_numbers(input: &[u8], agno: u64, first: u64, end: u64) {
-    let mut which = first;
-    while which < end {
-        print_number(zq_plan(which, agno, input));
-        which += 1;
+fn answer(function: u8, p: &[u8], body: &[u8], row: &mut [u8; 16384]) -> Answer {
+    match function {
+        0 => geometry(body, row),
+        1 => places(p, body, row),
+        2 => helpers(p, row),
+        3 => plans(p, body, row),
+        4 => take(p, body, row),
+        5 => rmap_insert(p, body, row),
+        6 => request(body, row),
+        7 => holds(p, body, row),
+        _ => refused(refusals::MALFORMED),
     }
 }
 
-// The numbers from `first` to before `end` at index k of a list.
-fn print_record(input: &[u8], agno: u64, k: usize, first: u64, end: u64) {
-    let mut which = first;
-    while which < end {
-        print_number(zq_plan_record(which, k, agno, input));
-        which += 1;
+// Writes the number and the first `length` bytes of the row.
+fn say_part(form: u8, number: u32, row: &[u8], length: usize) -> bool {
+    if row.len() < length {
+        return false;
     }
+    replay_frames::say(form, number, 0, &row[0..length])
 }
 
-// A list with its count before it.
-fn print_list(input: &[u8], agno: u64, count: u64, first: u64, end: u64) {
-    let n = zq_plan(count, agno, input) as usize;
-    print_number(n as u64);
-    let mut k = 0;
-    while k < n {
-        print_record(input, agno, k, first, end);
-        k += 1;
-    }
+fn say(form: u8, number: u32, row: &[u8; 16384], length: usize) -> bool {
+    say_part(form, number, row, length)
 }
 
-fn print_chunk(input: &[u8], agno: u64) {
-    let given = zq_plan(HAS_CHUNK, agno, input);
-    print_number(given);
-    if given != 0 {
-        print_number(zq_plan(CHUNK, agno, input));
+// Answers a case whose parameters and body stand at the start of both buffers.
+fn reply(case: Case, params: &[u8], body: &[u8]) -> bool {
+    let mut row = [0u8; 16384];
+    let p = case.params;
+    let n = case.body;
+    if params.len() < p {
+        return false;
     }
-}
-
-fn print_plan(input: &[u8], agno: u64) {
-    let number = zq_plan(0, agno, input);
-    io::print_decimal(STDOUT_FILENO, number);
-    if number == 0 {
-        print_numbers(input, agno, AGNO, FREE);
-        print_list(input, agno, FREE, FREE_RECORD, BLOCK);
-        print_list(input, agno, AGFL, BLOCK, RMAP_RECORD);
-        print_list(input, agno, RMAP, RMAP_RECORD, RECORD_END);
-        print_chunk(input, agno);
-        print_numbers(input, agno, FREEBLKS, END);
+    if body.len() < n {
+        return false;
     }
-    io::write_all(STDOUT_FILENO, b"\n");
-}
-
-fn print_answer(choice: u64, input: &[u8]) {
-    let number = zq_step(0, input);
-    print_line(number);
-    if number != 0 {
-        return;
-    }
-    let agcount = zq_step(AGCOUNT, input);
-    if agcount == 0 {
-        return;
-    }
-    print_plan(input, 0);
-    print_plan(input, zq_step(LOGAGNO, input));
-    print_plan(input, agcount - 1);
-    print_plan(input, choice % agcount);
+    let a = answer(case.function, &params[0..p], &body[0..n], &mut row);
+    say(case.form, a.number, &row, a.length)
 }
 
 // Answers the next case; false where there is none.
 fn turn() -> bool {
-    let mut head = [0u8; 12];
-    let mut room = [0u8; 1024];
-    if io::read_full(STDIN_FILENO, &mut head) != RECORDS {
+    let mut params = [0u8; 4096];
+    let mut body = [0u8; 8192];
+    let case = replay_frames::next(&mut params, &mut body);
+    if !case.found {
         return false;
     }
-    let choice = endian::be64(&head, 0);
-    let length = endian::be32(&head, LENGTH);
-    let n = length.value as usize;
-    if MOST < n {
-        return false;
-    }
-    let input = &mut room[0..n];
-    if io::read_full(STDIN_FILENO, input) != n {
-        return false;
-    }
-    print_answer(choice.value, input);
-    true
+    reply(case, &params, &body)
 }
 
 // A proved loop has to end, so it counts its turns down from a number that no input uses up.

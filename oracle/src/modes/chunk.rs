@@ -13,6 +13,7 @@ use super::plans::{time_fits, BAD_TIME};
 use super::structs::length;
 use super::{Mode, Out, Told};
 use crate::frames::Fields;
+use crate::port::{self, encoder, Asked, Reply};
 use crate::random::Random;
 use crate::request::Request;
 use crate::wishes;
@@ -115,12 +116,24 @@ impl Mode for RootChunk {
         Ok(Told::asked("", 0))
     }
 
-    #[cfg(feature = "chunk")]
-    fn ours(&self, case: &[u8]) -> Option<Vec<u8>> {
+    fn asked(&self, case: &[u8]) -> Option<Asked> {
         let mut f = Fields(case);
+        let params = case.get(1..1 + 8 + 16 + 12 + 8)?;
         let c = call(&mut f)?;
-        let mut left = f.rest().to_vec();
-        let (number, state) = mkfs_xfs::ours::chunk::root_chunk(&c.g, c.agbno, &c.uuid, c.time, c.seed, &mut left);
-        Some(answered(number, state, &left))
+        let params = [&port::geometry(&c.g)[..], params].concat();
+        Some(Asked { program: port::ENCODERS, function: encoder::ROOT_CHUNK, params, body: f.rest().to_vec() })
+    }
+
+    /// The lent state stays where the call is refused.
+    fn replied(&self, case: &[u8], reply: Reply) -> Vec<u8> {
+        let seed = Fields(case.get(37..).unwrap_or_default()).u64();
+        answered(reply.number, if reply.number == 0 { reply.value } else { seed }, &reply.bytes)
+    }
+
+    /// The program says the state 0 of a refused call.
+    fn replayed_answer(&self, _case: &[u8], answer: &[u8]) -> Vec<u8> {
+        let mut f = Fields(answer);
+        let (number, state) = (f.u32(), f.u64());
+        port::line(number, if number == 0 { state } else { 0 }, f.rest())
     }
 }

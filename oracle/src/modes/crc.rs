@@ -10,6 +10,7 @@ use mkfs_xfs::crc;
 
 use super::{Mode, Out, Told};
 use crate::frames::Fields;
+use crate::port::{self, encoder, Asked, Reply};
 use crate::random::Random;
 
 pub struct Crc;
@@ -83,17 +84,20 @@ impl Mode for Crc {
         Ok(told)
     }
 
-    #[cfg(feature = "crc")]
-    fn ours(&self, case: &[u8]) -> Option<Vec<u8>> {
-        use mkfs_xfs::ours::crc as port;
-        let (op, off, mut buf) = taken_apart(case);
-        let (number, result) = match KINDS[op] {
-            "crc32c" => (0, port::crc32c(&buf)),
-            "cksum" => port::cksum(&buf, off),
-            "stamp" => (port::stamp(&mut buf, off), 0),
-            _ => (0, u32::from(port::verify(&buf, off))),
-        };
-        Some(put_together(number, result, &buf))
+    fn asked(&self, case: &[u8]) -> Option<Asked> {
+        let (op, off, body) = taken_apart(case);
+        let params = (off as u64).to_be_bytes().to_vec();
+        Some(Asked { program: port::ENCODERS, function: encoder::CRC + op as u8, params, body })
+    }
+
+    fn replied(&self, _case: &[u8], reply: Reply) -> Vec<u8> {
+        put_together(reply.number, reply.value as u32, &reply.bytes)
+    }
+
+    fn replayed_answer(&self, _case: &[u8], answer: &[u8]) -> Vec<u8> {
+        let mut f = Fields(answer);
+        let (number, result) = (f.u32(), f.u32());
+        port::line(number, result.into(), f.rest())
     }
 }
 

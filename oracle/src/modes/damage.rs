@@ -9,6 +9,7 @@ use super::reader::{disk, run, spread};
 use super::{roomy, Mode, Out, Told};
 use crate::disk::{head_bytes, named, Disk};
 use crate::frames::Fields;
+use crate::port::reader;
 use crate::random::Random;
 use crate::request::{op, Request};
 
@@ -248,17 +249,15 @@ impl Mode for Damage {
         Ok(Told::apart(kind, number))
     }
 
-    #[cfg(feature = "reader")]
     fn ours(&self, case: &[u8]) -> Option<Vec<u8>> {
-        use mkfs_xfs::ours::reader;
         let m = self.made(case);
         let first = &m.disk.heads[0];
         let number = |bytes: &[u8]| match m.place {
-            0 => reader::group0(0, bytes) as u32,
+            0 => Some(*reader::group0(bytes)?.first()? as u32),
             LOG => reader::log(first, bytes),
             k => reader::group(first, k, bytes),
         };
-        Some(format!("{} {}\n", number(&m.bytes), number(own(m.disk, m.place))).into_bytes())
+        Some(format!("{} {}\n", number(&m.bytes)?, number(own(m.disk, m.place))?).into_bytes())
     }
 
     fn show_case(&self, case: &[u8]) -> String {

@@ -5,13 +5,13 @@ use std::io;
 use std::panic::catch_unwind;
 
 use mkfs_xfs::geometry::{Features, Geometry};
-use mkfs_xfs::ours::geometry::Input;
 
 use super::{Mode, Out, Told};
 use crate::model::{self, Sizing};
 use crate::numbers::{number_of, UNNUMBERED};
+use crate::port::{self, Asked, Reply};
 use crate::random::Random;
-use crate::request::{op, Request, MALFORMED};
+use crate::request::{Request, MALFORMED};
 use crate::wishes;
 
 pub struct Geometries;
@@ -77,31 +77,6 @@ pub fn line(number: u32, answer: Option<&Geometry>) -> String {
     line + "\n"
 }
 
-/// The request as the port's function takes it.
-pub fn port_input(q: &Request) -> Input {
-    let value = |code: usize| q.options[code].unwrap_or(0);
-    let text = q.label.clone().unwrap_or_default();
-    let mut label = [0u8; 12];
-    let kept = text.len().min(label.len());
-    label[..kept].copy_from_slice(&text[..kept]);
-    Input {
-        given: (op::SIZE..=op::IMAXPCT).filter(|&k| q.options[k].is_some()).map(|k| 1 << k).sum(),
-        size: value(op::SIZE),
-        block: value(op::BLOCK) as u32,
-        sector: value(op::SECTOR) as u32,
-        inode: value(op::INODE) as u32,
-        agcount: value(op::AGCOUNT),
-        agsize: value(op::AGSIZE),
-        imaxpct: value(op::IMAXPCT) as u8,
-        features: feature_bits(&q.features()),
-        label_length: text.len(),
-        label,
-        device: q.device,
-        logical: q.logical,
-        physical: q.physical,
-    }
-}
-
 impl Mode for Geometries {
     fn case(&self, r: &mut Random) -> Vec<u8> {
         let changes = r.below(4);
@@ -118,22 +93,28 @@ impl Mode for Geometries {
         Ok(told)
     }
 
-    #[cfg(feature = "geometry")]
-    fn ours(&self, case: &[u8]) -> Option<Vec<u8>> {
-        use mkfs_xfs::ours::geometry::field;
-        let input = port_input(&Request::parse(case)?);
-        let number = field(0, &input);
-        let mut line = number.to_string();
-        if number == 0 {
-            (1..=20).for_each(|k| line += &format!(" {}", field(k, &input)));
-            line += " ";
-            (21..=32).for_each(|k| line += &format!("{:02x}", field(k, &input)));
-        }
-        Some((line + "\n").into_bytes())
+    fn asked(&self, case: &[u8]) -> Option<Asked> {
+        Some(Asked { program: port::PLANS, function: port::plan::GEOMETRY, params: Vec::new(), body: case.to_vec() })
     }
 
-    fn replayed(&self, case: &[u8]) -> Option<Vec<u8>> {
-        Some(port_input(&Request::parse(case)?).encode())
+    fn replied(&self, _case: &[u8], reply: Reply) -> Vec<u8> {
+        let mut line = reply.number.to_string();
+        if reply.number == 0 {
+            let numbers = reply.numbers();
+            let (fields, features) = numbers.split_at_checked(19).unwrap_or_default();
+            let bits: u64 = features.iter().take(7).enumerate().map(|(i, on)| on << i).sum();
+            fields.iter().chain([&bits]).for_each(|value| line += &format!(" {value}"));
+            line += " ";
+            line += &super::hex(reply.bytes.get(26 * 8..).unwrap_or_default());
+        }
+        (line + "\n").into_bytes()
+    }
+
+    fn replayed_answer(&self, case: &[u8], _answer: &[u8]) -> Vec<u8> {
+        match Request::parse(case).map(|q| step(&q)) {
+            None => port::line(MALFORMED, 0, &[]),
+            Some((told, answer)) => port::line(told.number, 0, &answer.as_ref().map_or(Vec::new(), port::geometry)),
+        }
     }
 
     fn show_case(&self, case: &[u8]) -> String {

@@ -11,6 +11,7 @@ use super::{Mode, Out, Told};
 use crate::frames::Fields;
 use crate::holds::{Group, Slots, State, NO_STATE};
 use crate::numbers::UNNUMBERED;
+use crate::port::{self, Asked, Reply};
 use crate::random::Random;
 use crate::request::{Request, MALFORMED};
 use crate::runs::{self, Call};
@@ -25,10 +26,8 @@ const START: u8 = 0;
 const HOLD: u8 = 1;
 const RELEASE: u8 = 2;
 
-/// What is asked: every number of an answer, and three that there aren't.
-fn all_numbers() -> impl Iterator<Item = u64> {
-    (0..150).chain([u64::MAX])
-}
+/// The numbers of an answer.
+const NUMBERS: u64 = 148;
 
 struct Case<'a> {
     change: u8,
@@ -174,7 +173,7 @@ impl Mode for HoldStates {
     fn answer(&self, case: &[u8], out: Out) -> io::Result<Told> {
         let case = Case::read(case);
         let left = left(&case);
-        out.write_all(line(all_numbers().map(|which| number(&left, which))).as_bytes())?;
+        out.write_all(line((0..NUMBERS).map(|which| number(&left, which))).as_bytes())?;
         let kind = match (case.call, case.state.len()) {
             (START, _) => "start,",
             (_, Slots::BYTES) => spoilt::name(case.change),
@@ -189,12 +188,20 @@ impl Mode for HoldStates {
         vec![Told::apart(name, left(&case).err().unwrap_or(0))]
     }
 
-    #[cfg(feature = "holds")]
-    fn ours(&self, case: &[u8]) -> Option<Vec<u8>> {
-        use mkfs_xfs::ours::holds::answer;
+    fn asked(&self, case: &[u8]) -> Option<Asked> {
         let c = Case::read(case);
-        let numbers = all_numbers().map(|which| answer(which, c.call.into(), [c.at, c.length], c.records, c.state));
-        Some(line(numbers).into_bytes())
+        let params = [&port::row(&[c.call.into(), c.at, c.length])[..], c.state].concat();
+        Some(Asked { program: port::PLANS, function: port::plan::HOLDS, params, body: c.records.to_vec() })
+    }
+
+    fn replied(&self, _case: &[u8], reply: Reply) -> Vec<u8> {
+        line(reply.numbers().into_iter()).into_bytes()
+    }
+
+    fn replayed_answer(&self, case: &[u8], _answer: &[u8]) -> Vec<u8> {
+        let left = left(&Case::read(case));
+        let numbers: Vec<u64> = (0..NUMBERS).map(|which| number(&left, which)).collect();
+        port::line(left.err().unwrap_or(0), 0, &port::row(&numbers))
     }
 
     fn show_case(&self, case: &[u8]) -> String {

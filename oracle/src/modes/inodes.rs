@@ -6,11 +6,10 @@ use mkfs_xfs::geometry::Timestamp;
 use mkfs_xfs::structs::inode::{self, decode_time, encode_time, Dinode};
 
 use super::plans::{time_fits, BAD_TIME};
-#[cfg(feature = "structs")]
-use super::structs::port_encoded;
-use super::structs::{encoded, length};
+use super::structs::{encoded, length, split, split_behind};
 use super::{numbered, Mode, Out, Told};
 use crate::frames::Fields;
+use crate::port::{self, encoder, Asked, Reply};
 use crate::random::Random;
 
 const BAD_LENGTH: u32 = 27;
@@ -101,11 +100,8 @@ impl Mode for Allocated {
         encoded(out, number, buf, |b| d.encode(&uuid, b))
     }
 
-    #[cfg(feature = "structs")]
-    fn ours(&self, case: &[u8]) -> Option<Vec<u8>> {
-        let mut f = Fields(case);
-        let (d, uuid) = dinode(&mut f);
-        port_encoded(f.rest(), |b| mkfs_xfs::ours::structs::dinode(&d, &uuid, b))
+    fn asked(&self, case: &[u8]) -> Option<Asked> {
+        split_behind(encoder::DINODE, case, 8 + 2 + 1 + 4 + 8 + 2 + 8 + 4 + 8 + 4 * 12 + 16 + 4)
     }
 }
 
@@ -125,17 +121,23 @@ impl Mode for Free {
         encoded(out, number, buf, |b| inode::encode_free(ino, gen, &uuid, b))
     }
 
-    #[cfg(feature = "structs")]
-    fn ours(&self, case: &[u8]) -> Option<Vec<u8>> {
-        let mut f = Fields(case);
-        let (ino, gen, uuid) = (f.u64(), f.u32(), f.array());
-        port_encoded(f.rest(), |b| mkfs_xfs::ours::structs::encode_free(ino, gen, &uuid, b))
+    fn asked(&self, case: &[u8]) -> Option<Asked> {
+        split(encoder::FREE_INODE, case, 8 + 4 + 16)
     }
 }
 
 /// bigtime (1 byte), a time (12), a stored time (8). An answer is the number, the time as it is stored (8 bytes, zeros
 /// where it is refused), and the stored time's seconds (8) and nanoseconds (4).
 pub struct Time;
+
+/// What `decode_time` is asked; it leaves seconds, counted from −2^31 on, and nanoseconds in 12 bytes.
+pub fn decoding(case: &[u8]) -> Option<Asked> {
+    let params = [case.get(..1)?, case.get(13..21)?].concat();
+    Some(Asked { program: port::ENCODERS, function: encoder::DECODE_TIME, params, body: vec![0; 12] })
+}
+
+/// The least second of a decoded time is −2^31.
+pub const LEAST: i64 = 1 << 31;
 
 impl Mode for Time {
     fn case(&self, r: &mut Random) -> Vec<u8> {
@@ -160,16 +162,26 @@ impl Mode for Time {
         Ok(told)
     }
 
-    #[cfg(feature = "structs")]
+    /// What `encode_time` is asked; it leaves what is stored in eight bytes.
+    fn asked(&self, case: &[u8]) -> Option<Asked> {
+        let asked = split(encoder::TIME, case, 1 + 12)?;
+        Some(Asked { body: vec![0; 8], ..asked })
+    }
+
     fn ours(&self, case: &[u8]) -> Option<Vec<u8>> {
-        use mkfs_xfs::ours::structs as port;
-        let mut f = Fields(case);
-        let bigtime = f.u8() != 0;
-        let (t, raw) = (timestamp(&mut f), f.u64());
-        let (number, stored) = port::encode_time(t, bigtime);
-        let read = port::decode_time(raw, bigtime);
-        let bytes = [&stored.to_be_bytes()[..], &read.secs.to_be_bytes(), &read.nsecs.to_be_bytes()].concat();
-        Some(numbered(number, &bytes))
+        let stored = self.asked(case)?.reply()?;
+        let read = decoding(case)?.reply()?;
+        let mut f = Fields(&read.bytes);
+        let secs = f.u64() as i64 - LEAST;
+        let bytes = [&stored.bytes[..], &secs.to_be_bytes(), f.rest()].concat();
+        Some(numbered(stored.number, &bytes))
+    }
+
+    /// What `encode_time` answers.
+    fn replayed_answer(&self, _case: &[u8], answer: &[u8]) -> Vec<u8> {
+        let mut f = Fields(answer);
+        let number = f.u32();
+        port::line(number, 0, f.bytes(8))
     }
 }
 
@@ -187,8 +199,20 @@ impl Mode for SfDir {
         Ok(Told::asked("", 0))
     }
 
-    #[cfg(feature = "structs")]
-    fn ours(&self, case: &[u8]) -> Option<Vec<u8>> {
-        Some(numbered(0, &mkfs_xfs::ours::structs::empty_sf_dir(Fields(case).u64())))
+    /// Ten bytes are lent, and the value says how many the directory has.
+    fn asked(&self, case: &[u8]) -> Option<Asked> {
+        let asked = split(encoder::SF_DIR, case, 8)?;
+        Some(Asked { body: vec![0; 10], ..asked })
+    }
+
+    fn replied(&self, _case: &[u8], reply: Reply) -> Vec<u8> {
+        numbered(reply.number, reply.bytes.get(..reply.value as usize).unwrap_or_default())
+    }
+
+    fn replayed_answer(&self, _case: &[u8], answer: &[u8]) -> Vec<u8> {
+        let mut bytes = answer[4..].to_vec();
+        let length = bytes.len() as u64;
+        bytes.resize(10, 0);
+        port::line(0, length, &bytes)
     }
 }

@@ -9,6 +9,7 @@ use mkfs_xfs::structs::btree::{alloc_recs, owner, AllocRec, RmapRec};
 use super::{numbered, Mode, Out, Told};
 use crate::frames::Fields;
 use crate::numbers::{number_of, UNNUMBERED};
+use crate::port::{self, Asked, Reply};
 use crate::random::Random;
 
 /// The most records of a list.
@@ -96,11 +97,25 @@ impl Mode for Take {
         Ok(told)
     }
 
-    #[cfg(feature = "records")]
-    fn ours(&self, case: &[u8]) -> Option<Vec<u8>> {
-        let (free, start, len) = run_and_list(case);
-        let (number, left) = mkfs_xfs::ours::records::take(&free, start, len);
-        Some(numbered(number, &alloc_recs(&unless_refused(number, left, free))))
+    fn asked(&self, case: &[u8]) -> Option<Asked> {
+        let (params, list) = case.split_at_checked(16)?;
+        let (params, body) = (params.to_vec(), list.to_vec());
+        Some(Asked { program: port::PLANS, function: port::plan::TAKE, params, body })
+    }
+
+    fn replied(&self, case: &[u8], reply: Reply) -> Vec<u8> {
+        let rec = |r: &[u64]| AllocRec { start: r[0] as u32, count: r[1] as u32 };
+        let left = left(&reply, 2).iter().map(|r| rec(r)).collect();
+        numbered(reply.number, &alloc_recs(&unless_refused(reply.number, left, run_and_list(case).0)))
+    }
+
+    fn replayed_answer(&self, _case: &[u8], answer: &[u8]) -> Vec<u8> {
+        let mut f = Fields(answer);
+        let number = f.u32();
+        let list = if number == 0 { f.rest() } else { &[] };
+        let mut f = Fields(list);
+        let numbers = (0..list.len() / 4).map(|_| f.u32().into());
+        left_line(number, list.len() / 8, numbers.collect(), 2)
     }
 }
 
@@ -112,8 +127,21 @@ fn run_and_list(case: &[u8]) -> (Vec<AllocRec>, u64, u64) {
     (free, start, len)
 }
 
+/// The numbers of each record that the port's program leaves: their count, and 64 places.
+fn left(reply: &Reply, width: usize) -> Vec<Vec<u64>> {
+    let numbers = reply.numbers();
+    let count = numbers.first().copied().unwrap_or(0).min(MOST as u64) as usize;
+    numbers.get(1..).unwrap_or_default().chunks(width).take(count).map(<[u64]>::to_vec).collect()
+}
+
+/// The line that it prints of them.
+fn left_line(number: u32, count: usize, mut numbers: Vec<u64>, width: usize) -> Vec<u8> {
+    numbers.insert(0, count as u64);
+    numbers.resize(1 + MOST * width, 0);
+    port::line(number, 0, &port::row(&numbers))
+}
+
 /// The records left. Where the port refuses, it answers with none, and the list that it was given stays.
-#[cfg(feature = "records")]
 fn unless_refused<R>(number: u32, left: Vec<R>, before: Vec<R>) -> Vec<R> {
     if number != 0 && left.is_empty() {
         before
@@ -171,11 +199,25 @@ impl Mode for RmapInsert {
         Ok(told)
     }
 
-    #[cfg(feature = "records")]
-    fn ours(&self, case: &[u8]) -> Option<Vec<u8>> {
-        let (list, rec) = record_and_list(case);
-        let (number, left) = mkfs_xfs::ours::records::rmap_insert(&list, rec);
-        Some(numbered(number, &rmap_bytes(&unless_refused(number, left, list))))
+    fn asked(&self, case: &[u8]) -> Option<Asked> {
+        let (params, list) = case.split_at_checked(16)?;
+        let (params, body) = (params.to_vec(), list.to_vec());
+        Some(Asked { program: port::PLANS, function: port::plan::RMAP_INSERT, params, body })
+    }
+
+    fn replied(&self, case: &[u8], reply: Reply) -> Vec<u8> {
+        let rec = |r: &[u64]| RmapRec { start: r[0] as u32, count: r[1] as u32, owner: r[2] };
+        let left = left(&reply, 3).iter().map(|r| rec(r)).collect();
+        numbered(reply.number, &rmap_bytes(&unless_refused(reply.number, left, record_and_list(case).0)))
+    }
+
+    fn replayed_answer(&self, _case: &[u8], answer: &[u8]) -> Vec<u8> {
+        let mut f = Fields(answer);
+        let number = f.u32();
+        let list = if number == 0 { f.rest() } else { &[] };
+        let mut f = Fields(list);
+        let numbers = (0..list.len() / 16).flat_map(|_| [f.u32().into(), f.u32().into(), f.u64()]);
+        left_line(number, list.len() / 16, numbers.collect(), 3)
     }
 }
 

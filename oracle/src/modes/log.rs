@@ -7,6 +7,7 @@ use mkfs_xfs::structs::log;
 
 use super::{numbered, Mode, Out, Told};
 use crate::frames::Fields;
+use crate::port::{self, encoder, Asked};
 use crate::random::Random;
 
 pub struct Record;
@@ -78,19 +79,11 @@ impl Mode for Record {
         Ok(told)
     }
 
-    #[cfg(feature = "structs")]
-    fn ours(&self, case: &[u8]) -> Option<Vec<u8>> {
-        use mkfs_xfs::ours::structs as port;
-        let mut f = Fields(case);
-        let op = usize::from(f.u8()) % KINDS.len();
-        let uuid = f.array();
-        let (a, b, c, d, mut buf) = (f.u32(), f.u32(), f.u64(), f.u64(), f.rest().to_vec());
-        let number = match KINDS[op] {
-            "clear_sunit" => return Some(numbered(0, &u64::from(port::clear_sunit(a, b)).to_be_bytes())),
-            "lsn" => return Some(numbered(0, &port::lsn(a, b).to_be_bytes())),
-            "record" => port::record(&uuid, a, c, d, &mut buf),
-            _ => port::first_record(&uuid, a, &mut buf),
-        };
-        Some(numbered(number, &buf))
+    fn asked(&self, case: &[u8]) -> Option<Asked> {
+        let op = usize::from(*case.first()?) % KINDS.len();
+        let (params, lent) = case[1..].split_at_checked(40)?;
+        // What gives a number alone leaves it in eight bytes.
+        let body = if op < 2 { lent.to_vec() } else { vec![0; 8] };
+        Some(Asked { program: port::ENCODERS, function: encoder::RECORD + op as u8, params: params.to_vec(), body })
     }
 }

@@ -12,6 +12,7 @@ use super::reader::{disk, run};
 use super::{roomy, Mode, Out, Told};
 use crate::disk::{head_bytes, named, Disk};
 use crate::model::Sizing;
+use crate::port::reader;
 use crate::random::Random;
 use crate::request::{op, Request};
 
@@ -131,17 +132,16 @@ impl Mode for Made {
         Ok(Told::apart(kind.leak(), group0))
     }
 
-    #[cfg(feature = "reader")]
     fn ours(&self, case: &[u8]) -> Option<Vec<u8>> {
-        use mkfs_xfs::ours::reader;
         let d = disk(case).ok()?;
         let Some((heads, log)) = made(&d).ok()? else {
             return Some(b"mkfs.xfs refuses\n".to_vec());
         };
-        let number = reader::group0(0, &heads[0]);
+        let number = *reader::group0(&heads[0])?.first()?;
         let first = if number == 0 { &heads[0] } else { &d.heads[0] };
-        let others: Vec<u32> = heads.iter().zip(0..).skip(1).map(|(head, k)| reader::group(first, k, head)).collect();
-        Some(format!("{number} {others:?} {}\n", reader::log(first, &log)).into_bytes())
+        let others: Option<Vec<u32>> =
+            heads.iter().zip(0..).skip(1).map(|(head, k)| reader::group(first, k, head)).collect();
+        Some(format!("{number} {:?} {}\n", others?, reader::log(first, &log)?).into_bytes())
     }
 
     fn show_case(&self, case: &[u8]) -> String {

@@ -2,6 +2,7 @@
 
 use std::io::{self, Write};
 
+use crate::port::{self, Asked, Reply};
 use crate::random::Random;
 
 pub mod cabinets;
@@ -65,9 +66,19 @@ pub trait Mode {
     /// The Rust's answer; the scope's where the Rust can't be asked.
     fn answer(&self, case: &[u8], out: Out) -> io::Result<Told>;
 
-    /// The port's answer, where its static library is linked in.
-    fn ours(&self, _case: &[u8]) -> Option<Vec<u8>> {
+    /// What a program of the port is asked, where one question has the answer.
+    fn asked(&self, _case: &[u8]) -> Option<Asked> {
         None
+    }
+
+    /// The answer that the program's reply is.
+    fn replied(&self, _case: &[u8], reply: Reply) -> Vec<u8> {
+        numbered(reply.number, &reply.bytes)
+    }
+
+    /// The port's answer.
+    fn ours(&self, case: &[u8]) -> Option<Vec<u8>> {
+        Some(self.replied(case, self.asked(case)?.reply()?))
     }
 
     /// The words and the standard input of a program that answers one case.
@@ -81,13 +92,14 @@ pub trait Mode {
     }
 
     /// The case as the program that replays the mode's answers reads it, where there is one.
-    fn replayed(&self, _case: &[u8]) -> Option<Vec<u8>> {
-        None
+    fn replayed(&self, case: &[u8]) -> Option<Vec<u8>> {
+        Some(self.asked(case)?.frame(port::LINE))
     }
 
-    /// The answer as that program prints it.
+    /// The answer as that program prints it. An encoder's has its number in the first four bytes.
     fn replayed_answer(&self, _case: &[u8], answer: &[u8]) -> Vec<u8> {
-        answer.to_vec()
+        let (number, bytes) = answer.split_at(4);
+        port::line(u32::from_be_bytes(number.try_into().unwrap()), 0, bytes)
     }
 
     /// Cases that are replayed whatever the seed.

@@ -8,6 +8,7 @@ use mkfs_xfs::geometry::{ag_min_blocks, log2_roundup, Geometry};
 use super::geometry::step;
 use super::{Mode, Out, Told};
 use crate::frames::Fields;
+use crate::port::{self, Asked, Reply};
 use crate::random::Random;
 use crate::request::{Request, MALFORMED};
 use crate::wishes;
@@ -21,13 +22,9 @@ const NO_PLACE: u32 = 29;
 pub struct Places;
 
 /// The methods that take no number.
-const METHODS: u64 = 23;
+const METHODS: usize = 23;
 
-/// The lines after them.
-#[cfg(feature = "places")]
-const CONVERSIONS: u64 = 5;
-
-fn methods(g: &Geometry) -> [u64; METHODS as usize] {
+fn methods(g: &Geometry) -> [u64; METHODS] {
     [
         g.bs(),
         g.header_blocks(),
@@ -67,6 +64,46 @@ fn group(r: &mut Random, g: &Geometry) -> u64 {
     }
 }
 
+/// What a case is counted under, and the number and the value of every answer; none where the geometry step refuses it.
+fn answered(case: &[u8]) -> (Told, Vec<[u64; 2]>) {
+    let mut f = Fields(case);
+    let (agno, agbno, slot) = (f.u64(), f.u64(), f.u64());
+    let Some(q) = Request::parse(f.rest()) else {
+        return (Told::apart("", MALFORMED), Vec::new());
+    };
+    let (told, answer) = step(&q);
+    let Some(g) = answer else {
+        return (told, Vec::new());
+    };
+    let in_disk = agno < g.agcount;
+    let in_group = in_disk && agbno < g.ag_blocks(agno);
+    let in_block = in_group && slot < g.inopblock.into();
+    let conversions: [(bool, &dyn Fn() -> u64); 5] = [
+        (in_disk, &|| g.ag_blocks(agno)),
+        (in_group, &|| g.agb_to_fsb(agno, agbno)),
+        (in_group, &|| g.agb_to_byte(agno, agbno)),
+        (in_group, &|| g.agb_to_daddr(agno, agbno)),
+        (in_block, &|| g.ino(agno, agbno, slot)),
+    ];
+    let converted = conversions.map(|(inside, value)| if inside { [0, value()] } else { [NO_PLACE.into(), 0] });
+    let answers = methods(&g).map(|value| [0, value]).into_iter().chain(converted).collect();
+    (if in_block { told } else { Told::apart("no place", NO_PLACE) }, answers)
+}
+
+/// The lines of an answer.
+fn lines(number: u32, answers: &[[u64; 2]]) -> Vec<u8> {
+    let mut lines = format!("{number}\n");
+    if let Some((methods, conversions)) = answers.split_at_checked(METHODS) {
+        let method =
+            |&[number, value]: &[u64; 2]| if number == 0 { value.to_string() } else { format!("refused {number}") };
+        lines += &(methods.iter().map(method).collect::<Vec<_>>().join(" ") + "\n");
+        for &[number, value] in conversions {
+            lines += &if number == 0 { format!("0 {value}\n") } else { format!("{number}\n") };
+        }
+    }
+    lines.into_bytes()
+}
+
 impl Mode for Places {
     fn case(&self, r: &mut Random) -> Vec<u8> {
         let changes = r.below(3);
@@ -82,60 +119,24 @@ impl Mode for Places {
     }
 
     fn answer(&self, case: &[u8], out: Out) -> io::Result<Told> {
-        let mut f = Fields(case);
-        let (agno, agbno, slot) = (f.u64(), f.u64(), f.u64());
-        let Some(q) = Request::parse(f.rest()) else {
-            writeln!(out, "{MALFORMED}")?;
-            return Ok(Told::apart("", MALFORMED));
-        };
-        let (told, answer) = step(&q);
-        writeln!(out, "{}", told.number)?;
-        let Some(g) = answer else {
-            return Ok(told);
-        };
-        writeln!(out, "{}", methods(&g).map(|v| v.to_string()).join(" "))?;
-        let in_disk = agno < g.agcount;
-        let in_group = in_disk && agbno < g.ag_blocks(agno);
-        let in_block = in_group && slot < g.inopblock.into();
-        let lines: [(bool, &dyn Fn() -> u64); 5] = [
-            (in_disk, &|| g.ag_blocks(agno)),
-            (in_group, &|| g.agb_to_fsb(agno, agbno)),
-            (in_group, &|| g.agb_to_byte(agno, agbno)),
-            (in_group, &|| g.agb_to_daddr(agno, agbno)),
-            (in_block, &|| g.ino(agno, agbno, slot)),
-        ];
-        for (inside, value) in lines {
-            if inside {
-                writeln!(out, "0 {}", value())?;
-            } else {
-                writeln!(out, "{NO_PLACE}")?;
-            }
-        }
-        Ok(if in_block { told } else { Told::apart("no place", NO_PLACE) })
+        let (told, answers) = answered(case);
+        out.write_all(&lines(if answers.is_empty() { told.number } else { 0 }, &answers))?;
+        Ok(told)
     }
 
-    #[cfg(feature = "places")]
-    fn ours(&self, case: &[u8]) -> Option<Vec<u8>> {
-        use mkfs_xfs::ours::{geometry::field, places::answer};
-        let mut f = Fields(case);
-        let place = [f.u64(), f.u64(), f.u64()];
-        let input = super::geometry::port_input(&Request::parse(f.rest())?);
-        let number = field(0, &input);
-        let mut lines = format!("{number}\n");
-        if number != 0 {
-            return Some(lines.into_bytes());
-        }
-        let method = |k: u64| match answer(k, place, &input) {
-            (0, value) => value.to_string(),
-            (number, _) => format!("refused {number}"),
-        };
-        let conversion = |k: u64| match answer(k, place, &input) {
-            (0, value) => format!("\n0 {value}"),
-            (number, _) => format!("\n{number}"),
-        };
-        lines += &(0..METHODS).map(method).collect::<Vec<_>>().join(" ");
-        lines.extend((METHODS..METHODS + CONVERSIONS).map(conversion));
-        Some((lines + "\n").into_bytes())
+    fn asked(&self, case: &[u8]) -> Option<Asked> {
+        let (place, records) = case.split_at_checked(24)?;
+        let (params, body) = (place.to_vec(), records.to_vec());
+        Some(Asked { program: port::PLANS, function: port::plan::PLACES, params, body })
+    }
+
+    fn replied(&self, _case: &[u8], reply: Reply) -> Vec<u8> {
+        lines(reply.number, &reply.numbers().chunks(2).map(|pair| [pair[0], pair[1]]).collect::<Vec<_>>())
+    }
+
+    fn replayed_answer(&self, case: &[u8], _answer: &[u8]) -> Vec<u8> {
+        let (told, answers) = answered(case);
+        port::line(if answers.is_empty() { told.number } else { 0 }, 0, &port::row(&answers.concat()))
     }
 
     fn show_case(&self, case: &[u8]) -> String {
@@ -169,12 +170,21 @@ impl Mode for Helpers {
         Ok(Told { kind: "", number: 0, asked })
     }
 
-    #[cfg(feature = "helpers")]
-    fn ours(&self, case: &[u8]) -> Option<Vec<u8>> {
-        use mkfs_xfs::ours::helpers;
+    fn asked(&self, case: &[u8]) -> Option<Asked> {
         let mut f = Fields(case);
-        let (number, shift) = (f.u64(), f.u8());
-        Some(format!("{} {}\n", helpers::log2_roundup(number), helpers::ag_min_blocks(shift)).into_bytes())
+        let params = port::row(&[f.u64(), f.u8().into()]);
+        Some(Asked { program: port::PLANS, function: port::plan::HELPERS, params, body: Vec::new() })
+    }
+
+    fn replied(&self, _case: &[u8], reply: Reply) -> Vec<u8> {
+        let words: Vec<String> = reply.numbers().iter().map(|n| n.to_string()).collect();
+        (words.join(" ") + "\n").into_bytes()
+    }
+
+    fn replayed_answer(&self, _case: &[u8], answer: &[u8]) -> Vec<u8> {
+        let words = String::from_utf8_lossy(answer);
+        let numbers: Vec<u64> = words.split_whitespace().filter_map(|word| word.parse().ok()).collect();
+        port::line(0, 0, &port::row(&numbers))
     }
 
     fn show_answer(&self, answer: &[u8]) -> String {

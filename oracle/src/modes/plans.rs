@@ -5,11 +5,13 @@ use std::panic::catch_unwind;
 
 use mkfs_xfs::format::{plan_ag, AgPlan};
 use mkfs_xfs::geometry::{Geometry, Timestamp};
+use mkfs_xfs::structs::btree::{AllocRec, RmapRec};
 
 use super::geometry::step;
 use super::{Mode, Out, Told};
 use crate::frames::Fields;
 use crate::numbers::{number_of, UNNUMBERED};
+use crate::port::{self, Asked, Reply};
 use crate::profile::{profile, OUTSIDE};
 use crate::random::Random;
 use crate::request::{Request, MALFORMED};
@@ -104,6 +106,51 @@ fn plan_line(out: Out, p: &AgPlan, freeblks: u64, longest: u64) -> io::Result<()
     writeln!(out, " {freeblks} {longest}")
 }
 
+/// How many numbers the port's program gives of a plan: those outside the lists, and 64 places of each list.
+const PLAN: usize = FREE + 128 + 64 + 192;
+const FREE: usize = 10;
+const AGFL: usize = FREE + 128;
+const RMAP: usize = AGFL + 64;
+
+/// These numbers of a plan, or of its refusal.
+fn plan_numbers(plan: Result<AgPlan, u32>) -> Vec<u64> {
+    let p = match plan {
+        Ok(p) => p,
+        Err(number) => {
+            let mut out = vec![number.into()];
+            out.resize(PLAN, 0);
+            return out;
+        }
+    };
+    let lists = [p.free.len(), p.agfl.len(), p.rmap.len()].map(|n| n as u64);
+    let mut out = vec![0, p.agno, p.length, lists[0], lists[1], lists[2]];
+    out.extend([p.chunk.is_some().into(), p.chunk.unwrap_or(0), p.freeblks(), p.longest()]);
+    out.extend(p.free.iter().flat_map(|r| [r.start, r.count].map(u64::from)));
+    out.resize(AGFL, 0);
+    out.extend(p.agfl.iter().map(|&b| u64::from(b)));
+    out.resize(RMAP, 0);
+    out.extend(p.rmap.iter().flat_map(|r| [r.start.into(), r.count.into(), r.owner]));
+    out.resize(PLAN, 0);
+    out
+}
+
+/// The plan of these numbers with its `freeblks` and `longest`; none where it is refused.
+fn plan_of(n: &[u64]) -> Option<(AgPlan, u64, u64)> {
+    if n.len() < PLAN || n[0] != 0 {
+        return None;
+    }
+    let listed = |count: u64, width: usize, from: usize| n[from..].chunks(width).take(count.min(64) as usize);
+    let plan = AgPlan {
+        agno: n[1],
+        length: n[2],
+        free: listed(n[3], 2, FREE).map(|r| AllocRec { start: r[0] as u32, count: r[1] as u32 }).collect(),
+        agfl: listed(n[4], 1, AGFL).map(|r| r[0] as u32).collect(),
+        rmap: listed(n[5], 3, RMAP).map(|r| RmapRec { start: r[0] as u32, count: r[1] as u32, owner: r[2] }).collect(),
+        chunk: (n[6] == 1).then_some(n[7]),
+    };
+    Some((plan, n[8], n[9]))
+}
+
 /// The groups that are planned.
 fn groups(agcount: u64, logagno: u64, choice: u64) -> [u64; 4] {
     [0, logagno, agcount - 1, choice % agcount]
@@ -141,27 +188,38 @@ impl Mode for Plans {
         Ok(told)
     }
 
-    #[cfg(feature = "plans")]
-    fn ours(&self, case: &[u8]) -> Option<Vec<u8>> {
-        use mkfs_xfs::ours::plans::{plan, step};
-        let mut f = Fields(case);
-        let (choice, input) = (f.u64(), f.rest());
-        let [number, agcount, logagno] = step(input);
-        let mut out = format!("{number}\n").into_bytes();
-        if number == 0 {
-            for agno in groups(agcount, logagno, choice) {
-                match plan(input, agno) {
-                    Ok((p, freeblks, longest)) => plan_line(&mut out, &p, freeblks, longest).ok()?,
-                    Err(number) => out.extend(format!("{number}\n").bytes()),
-                }
-            }
-        }
-        Some(out)
+    fn asked(&self, case: &[u8]) -> Option<Asked> {
+        let (choice, records) = case.split_at_checked(8)?;
+        let (params, body) = (choice.to_vec(), records.to_vec());
+        Some(Asked { program: port::PLANS, function: port::plan::PLANS, params, body })
     }
 
-    fn replayed(&self, case: &[u8]) -> Option<Vec<u8>> {
-        let (choice, input) = case.split_at_checked(8)?;
-        Some([choice, &(input.len() as u32).to_be_bytes(), input].concat())
+    fn replied(&self, _case: &[u8], reply: Reply) -> Vec<u8> {
+        let mut out = format!("{}\n", reply.number).into_bytes();
+        for numbers in reply.numbers().get(2..).unwrap_or_default().chunks(PLAN) {
+            match plan_of(numbers) {
+                Some((p, freeblks, longest)) => {
+                    plan_line(&mut out, &p, freeblks, longest).expect("a vector takes everything")
+                }
+                None => out.extend(format!("{}\n", numbers[0]).bytes()),
+            }
+        }
+        out
+    }
+
+    fn replayed_answer(&self, case: &[u8], _answer: &[u8]) -> Vec<u8> {
+        let mut f = Fields(case);
+        let choice = f.u64();
+        let Some(q) = Request::parse(f.rest()) else {
+            return port::line(MALFORMED, 0, &[]);
+        };
+        let (told, answer) = step(&q);
+        let Some(g) = answer else {
+            return port::line(told.number, 0, &[]);
+        };
+        let mut row = vec![g.agcount, g.logagno];
+        groups(g.agcount, g.logagno, choice).iter().for_each(|&agno| row.extend(plan_numbers(plan(&g, agno))));
+        port::line(0, 0, &port::row(&row))
     }
 
     fn show_case(&self, case: &[u8]) -> String {

@@ -1,5 +1,5 @@
 //! The reader on disks that the Rust's `format` left. A case is the input records of an accepted run. An answer is a line
-//! with what group 0's head gives (crate ffi_reader's row), then the numbers of all heads and of the log's first block.
+//! with what group 0's head gives (replay_disks has the row), then the numbers of all heads and of the log's first block.
 
 use std::io;
 
@@ -10,6 +10,7 @@ use super::plans::{accepted, few, plan, Planlist};
 use super::{Mode, Out, Told};
 use crate::disk::Disk;
 use crate::model::{reported, Sizing};
+use crate::port::reader;
 use crate::random::Random;
 use crate::request::{op, Request};
 use crate::wishes;
@@ -75,15 +76,14 @@ impl Mode for Reader {
         Ok(told)
     }
 
-    #[cfg(feature = "reader")]
     fn ours(&self, case: &[u8]) -> Option<Vec<u8>> {
-        use mkfs_xfs::ours::reader;
         let disk = disk(case).ok()?;
         let first = &disk.heads[0];
-        let row: Vec<String> = (0..13).map(|which| reader::group0(which, first).to_string()).collect();
+        let row: Vec<String> = reader::group0(first)?.iter().map(|n| n.to_string()).collect();
         let heads = disk.heads.iter().zip(0..).map(|(head, k)| reader::group(first, k, head));
-        let numbers: String = heads.chain([reader::log(first, &disk.log)]).map(|n| format!("{n} ")).collect();
-        Some(format!("{}\n{numbers}\n", row.join(" ")).into_bytes())
+        let numbers: Option<String> =
+            heads.chain([reader::log(first, &disk.log)]).map(|n| Some(format!("{} ", n?))).collect();
+        Some(format!("{}\n{}\n", row.join(" "), numbers?).into_bytes())
     }
 
     fn traits(&self, case: &[u8]) -> Vec<(&'static str, String)> {

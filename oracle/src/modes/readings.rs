@@ -1,4 +1,4 @@
-//! Single changes of one small disk, for `crates/replay_reader` alone. A case is an offset in its three heads and its log's
+//! Single changes of one small disk, to be replayed. A case is an offset in its three heads and its log's
 //! first block (4 bytes) and the byte that is put there; the first replayed case is these bytes themselves. An answer is the
 //! number of the place so changed, and that of the place restored.
 
@@ -10,6 +10,7 @@ use super::writes::whole_case;
 use super::{Mode, Out, Told};
 use crate::disk::Disk;
 use crate::frames::Fields;
+use crate::port::{self, Asked};
 use crate::random::Random;
 
 pub struct Readings {
@@ -44,6 +45,7 @@ impl Mode for Readings {
 
     fn answer(&self, case: &[u8], out: Out) -> io::Result<Told> {
         if case.len() == self.bytes.len() {
+            writeln!(out, "0 0")?;
             return Ok(Told::asked("", 0));
         }
         let mut f = Fields(case);
@@ -62,8 +64,19 @@ impl Mode for Readings {
         Ok(Told::apart(part, number))
     }
 
-    fn replayed(&self, case: &[u8]) -> Option<Vec<u8>> {
-        Some(case.to_vec())
+    /// The bytes themselves, or a change of one.
+    fn asked(&self, case: &[u8]) -> Option<Asked> {
+        if case.len() == self.bytes.len() {
+            let (params, body) = (Vec::new(), case.to_vec());
+            return Some(Asked { program: port::DISKS, function: port::disk::DISK, params, body });
+        }
+        let mut f = Fields(case);
+        let params = [f.u32(), f.u8().into()].map(u32::to_be_bytes).concat();
+        Some(Asked { program: port::DISKS, function: port::disk::CHANGE, params, body: Vec::new() })
+    }
+
+    fn replayed_answer(&self, _case: &[u8], answer: &[u8]) -> Vec<u8> {
+        answer.to_vec()
     }
 
     fn always(&self) -> Vec<Vec<u8>> {

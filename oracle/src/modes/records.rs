@@ -1,16 +1,18 @@
-//! Record lists, leaf blocks, log records and decoded times together, as the program `replay_records` reads their cases.
-//! A case is the function (1 byte), its numbers (1040 bytes, zeros behind them), the byte that every lent byte has (1)
-//! and how many they are (4); an answer is a line: the number, and the checksum of the lent bytes as they are left.
+//! Record lists, leaf blocks, log records and decoded times together, to be replayed. A case is the function (1 byte), the byte
+//! that every lent byte has (1) and a case of the function's own mode; an answer is a line: the number, and the checksum of the lent
+//! bytes as they are left.
 //!
-//! The numbers are those of the function's own mode, in their order, without the kind of list and the log's operation.
 //! `clear_sunit`, `lsn` and `decode_time` leave their results: 8 bytes, or the seconds from −2^31 on and the nanoseconds.
+//! Cases with more than 1040 bytes of numbers aren't taken, so that a seed has the cases that it had.
 
 use std::io;
 
 use mkfs_xfs::crc::crc32c;
 
+use super::inodes::{decoding, LEAST};
 use super::{named, Mode, Out, Told};
 use crate::frames::Fields;
+use crate::port::{self, Asked};
 use crate::random::Random;
 
 pub struct Records;
@@ -33,8 +35,13 @@ const LEAF: usize = 4;
 const DECODE_TIME: usize = 9;
 const NUMBERS: usize = 1040;
 const MOST_LENT: usize = 262_656;
-/// The least second of a decoded time is −2^31.
-const LEAST: i64 = 1 << 31;
+
+/// A decoded time with its seconds from −2^31 on.
+fn from_least(time: &[u8]) -> Vec<u8> {
+    let (secs, nsecs) = time.split_at(8);
+    let from_least = LEAST + i64::from_be_bytes(secs.try_into().unwrap());
+    [&from_least.to_be_bytes()[..], nsecs].concat()
+}
 
 /// The numbers, and how many bytes are lent; none where the case is another function's or the program doesn't take it.
 fn taken_apart(function: usize, case: &[u8]) -> Option<(Vec<u8>, usize)> {
@@ -79,9 +86,7 @@ impl Mode for Records {
         let mut left = answer[4..].to_vec();
         if function == DECODE_TIME {
             // What `encode_time` answers to the same case isn't asked here.
-            let (secs, nsecs) = left[8..].split_at(8);
-            let from_least = LEAST + i64::from_be_bytes(secs.try_into().unwrap());
-            left = [&from_least.to_be_bytes()[..], nsecs].concat();
+            left = from_least(&left[8..]);
             told = Told::asked(if told.kind == "bigtime" { "decode_time bigtime" } else { "decode_time" }, 0);
         }
         writeln!(out, "{} {:08x}", told.number, crc32c(&left))?;
@@ -90,7 +95,24 @@ impl Mode for Records {
     }
 
     fn replayed(&self, case: &[u8]) -> Option<Vec<u8>> {
-        let (numbers, lent) = taken_apart(usize::from(case[0]), &case[2..])?;
-        Some([&case[..1], &numbers, &case[1..2], &(lent as u32).to_be_bytes()].concat())
+        let function = usize::from(case[0]);
+        let (_, lent) = taken_apart(function, &case[2..])?;
+        let asked = if function == DECODE_TIME {
+            decoding(&case[2..])?
+        } else {
+            named(FUNCTIONS[function].0)?.asked(&case[2..])?
+        };
+        let body = [&case[1..2], &(lent as u32).to_be_bytes()].concat();
+        Some(Asked { body, ..asked }.frame(port::REPEATED))
+    }
+
+    fn replayed_answer(&self, case: &[u8], _answer: &[u8]) -> Vec<u8> {
+        let mode = named(FUNCTIONS[usize::from(case[0])].0).unwrap();
+        let mut answer = Vec::new();
+        mode.answer(&case[2..], &mut answer).unwrap();
+        match usize::from(case[0]) {
+            DECODE_TIME => port::line(0, 0, &from_least(&answer[12..])),
+            _ => mode.replayed_answer(&case[2..], &answer),
+        }
     }
 }

@@ -1,9 +1,6 @@
-//! The encoders together, as the program `replay_structs` reads their cases. A case is the encoder (1 byte), its numbers
-//! (320 bytes, zeros behind them), the length of the lent bytes (4) and these; an answer is a line: the number, and the
-//! checksum of the lent bytes as they are left.
-//!
-//! The numbers are those of the encoder's own mode, in their order, with these differences: `record` has no operation;
-//! the superblock's are the geometry's 19 numbers (8 bytes each), its features (1 byte each), its label, and the state.
+//! The encoders together, to be replayed. A case is the encoder (1 byte) and a case of its own mode; an answer is a line: the
+//! number, and the checksum of the lent bytes as they are left. Which cases are taken is as it was when the program that replayed
+//! them had room for 320 bytes of numbers, so that a seed has the cases that it had.
 
 use std::io;
 
@@ -121,7 +118,13 @@ impl Mode for Structs {
     }
 
     fn replayed(&self, case: &[u8]) -> Option<Vec<u8>> {
-        let (head, body) = taken_apart(usize::from(case[0]), &case[1..])?;
-        Some([&case[..1], &head, &(body.len() as u32).to_be_bytes(), &body].concat())
+        named(ENCODERS[usize::from(case[0])].0)?.replayed(&case[1..])
+    }
+
+    fn replayed_answer(&self, case: &[u8], _answer: &[u8]) -> Vec<u8> {
+        let mode = named(ENCODERS[usize::from(case[0])].0).unwrap();
+        let mut answer = Vec::new();
+        mode.answer(&case[1..], &mut answer).unwrap();
+        mode.replayed_answer(&case[1..], &answer)
     }
 }

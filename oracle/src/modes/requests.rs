@@ -11,6 +11,8 @@ use mkfs_xfs::structs::inode::encode_time;
 use super::geometry::feature_bits;
 use super::plans::{time_fits, BAD_TIME};
 use super::{Mode, Out, Told};
+use crate::frames::Fields;
+use crate::port::{self, Asked, Reply};
 use crate::random::Random;
 use crate::request::{op, Request, MALFORMED};
 use crate::wishes;
@@ -18,8 +20,7 @@ use crate::wishes;
 pub struct Requests;
 
 /// The options whose numbers are shown as they are, in the order of the port's record.
-const SHOWN: [usize; 8] =
-    [op::SIZE, op::BLOCK, op::SECTOR, op::INODE, op::AGCOUNT, op::AGSIZE, op::IMAXPCT, op::SEED];
+const SHOWN: [usize; 8] = [op::SIZE, op::BLOCK, op::SECTOR, op::INODE, op::AGCOUNT, op::AGSIZE, op::IMAXPCT, op::SEED];
 
 fn numbers(number: u32, q: &Request) -> Vec<u64> {
     let mut out = vec![number.into(), q.device, q.logical.into(), q.physical.into()];
@@ -58,6 +59,18 @@ impl Mode for Requests {
         out.write_all(&label)?;
         out.write_all(&q.id.unwrap_or_default())?;
         Ok(Told::apart("", number))
+    }
+
+    fn asked(&self, case: &[u8]) -> Option<Asked> {
+        Some(Asked { program: port::PLANS, function: port::plan::REQUEST, params: Vec::new(), body: case.to_vec() })
+    }
+
+    fn replied(&self, _case: &[u8], reply: Reply) -> Vec<u8> {
+        reply.bytes
+    }
+
+    fn replayed_answer(&self, _case: &[u8], answer: &[u8]) -> Vec<u8> {
+        port::line(Fields(answer).u64() as u32, 0, answer)
     }
 
     fn show_case(&self, case: &[u8]) -> String {

@@ -1,6 +1,6 @@
 //! The reader on disks of one request in both sizings. A case is the input records of two requests without a sizing, the first one's length
 //! (2 bytes) before them. An answer has a line for each thing read, with the model's numbers (`../model.rs`): for each sizing that accepts the
-//! first request what group 0's head gives (crate ffi_reader's row), every head and the log's first block read with it, the same read
+//! first request what group 0's head gives (replay_disks has the row), every head and the log's first block read with it, the same read
 //! with the other sizing's group 0; then group 0's head with the second request's name, and with other counts under a right checksum.
 
 use std::io;
@@ -16,6 +16,7 @@ use crate::crowded;
 use crate::disk::Disk;
 use crate::frames::Fields;
 use crate::model::{planned, read_group, read_group0, read_log, Found, Sizing};
+use crate::port::reader;
 use crate::random::Random;
 use crate::request::{op, Request};
 use crate::wishes;
@@ -117,22 +118,21 @@ impl Reading for Model {
     }
 }
 
-/// The port's reader. A refused head's row is its number alone.
-#[cfg(feature = "reader")]
+/// The port's reader. A refused head's row is its number alone; where the program doesn't run, there is nothing.
 struct Port;
 
-#[cfg(feature = "reader")]
 impl Reading for Port {
     fn row(&self, head: &[u8]) -> Vec<u64> {
-        use mkfs_xfs::ours::reader::group0;
-        let last = if group0(0, head) == 0 { 13 } else { 1 };
-        (0..last).map(|which| group0(which, head)).collect()
+        let mut row = reader::group0(head).unwrap_or_default();
+        if row.first() != Some(&0) {
+            row.truncate(1);
+        }
+        row
     }
 
     fn numbers(&self, first: &[u8], d: &Disk) -> Vec<u32> {
-        use mkfs_xfs::ours::reader::{group, log};
-        let heads = d.heads.iter().zip(0..).map(|(head, k)| group(first, k, head));
-        heads.chain([log(first, &d.log)]).collect()
+        let heads = d.heads.iter().zip(0..).map(|(head, k)| reader::group(first, k, head));
+        heads.chain([reader::log(first, &d.log)]).flatten().collect()
     }
 }
 
@@ -174,7 +174,6 @@ impl Mode for Sizings {
         Ok(Told::apart(beside(&q), 0))
     }
 
-    #[cfg(feature = "reader")]
     fn ours(&self, case: &[u8]) -> Option<Vec<u8>> {
         read(case, &Port).ok().map(String::into_bytes)
     }

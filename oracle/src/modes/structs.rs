@@ -3,6 +3,7 @@
 
 use std::io;
 
+use mkfs_xfs::geometry::Geometry;
 use mkfs_xfs::structs::ag::{encode_agfl, Agf, Agi};
 use mkfs_xfs::structs::btree::{self, AllocRec, InobtRec, RmapRec};
 use mkfs_xfs::structs::sb::{self, SbState};
@@ -10,6 +11,7 @@ use mkfs_xfs::structs::sb::{self, SbState};
 use super::geometry::step;
 use super::{numbered, Mode, Out, Told};
 use crate::frames::Fields;
+use crate::port::{self, encoder, Asked, Reply};
 use crate::random::Random;
 use crate::request::{Request, MALFORMED};
 use crate::wishes;
@@ -51,12 +53,17 @@ pub fn encoded(out: Out, number: u32, buf: &[u8], encode: impl FnOnce(&mut [u8])
     Ok(if number == 0 { Told::asked("", 0) } else { Told::apart("", number) })
 }
 
-/// The port's answer: `encode` changes the buffer and gives the number.
-#[cfg(any(feature = "structs", feature = "sb", feature = "recs", feature = "slices"))]
-pub fn port_encoded(buf: &[u8], encode: impl FnOnce(&mut [u8]) -> u32) -> Option<Vec<u8>> {
-    let mut left = buf.to_vec();
-    let number = encode(&mut left);
-    Some(numbered(number, &left))
+/// A question to an encoder: the first `n` bytes of a case are its parameters, the others the lent ones.
+pub fn split(function: u8, case: &[u8], n: usize) -> Option<Asked> {
+    let (params, body) = case.split_at_checked(n)?;
+    Some(Asked { program: port::ENCODERS, function, params: params.to_vec(), body: body.to_vec() })
+}
+
+/// The same where the last four of these bytes are the length of more parameters.
+pub fn split_behind(function: u8, case: &[u8], n: usize) -> Option<Asked> {
+    let more = Fields(case.get(n - 4..n)?).u32() as usize;
+    let asked = split(function, case, n + more)?;
+    Some(Asked { params: [&asked.params[..n - 4], &asked.params[n..]].concat(), ..asked })
 }
 
 fn agf(f: &mut Fields) -> Agf {
@@ -99,11 +106,8 @@ impl Mode for AgfSector {
         encoded(out, number, buf, |b| agf.encode(&uuid, b))
     }
 
-    #[cfg(feature = "structs")]
-    fn ours(&self, case: &[u8]) -> Option<Vec<u8>> {
-        let mut f = Fields(case);
-        let (a, uuid) = (agf(&mut f), f.array());
-        port_encoded(f.rest(), |b| mkfs_xfs::ours::structs::agf(&a, &uuid, b))
+    fn asked(&self, case: &[u8]) -> Option<Asked> {
+        split(encoder::AGF, case, 18 * 4 + 16)
     }
 }
 
@@ -140,11 +144,8 @@ impl Mode for AgiSector {
         encoded(out, number, buf, |b| agi.encode(&uuid, b))
     }
 
-    #[cfg(feature = "structs")]
-    fn ours(&self, case: &[u8]) -> Option<Vec<u8>> {
-        let mut f = Fields(case);
-        let (a, uuid) = (agi(&mut f), f.array());
-        port_encoded(f.rest(), |b| mkfs_xfs::ours::structs::agi(&a, &uuid, b))
+    fn asked(&self, case: &[u8]) -> Option<Asked> {
+        split(encoder::AGI, case, 11 * 4 + 16)
     }
 }
 
@@ -177,13 +178,8 @@ impl Mode for AgflSector {
         encoded(out, number, buf, |b| encode_agfl(seqno, &uuid, first, &list[..count as usize], b))
     }
 
-    #[cfg(feature = "structs")]
-    fn ours(&self, case: &[u8]) -> Option<Vec<u8>> {
-        let mut f = Fields(case);
-        let (seqno, first, uuid, count) = (f.u32(), f.u32(), f.array(), f.u64());
-        let list: [u32; MOST] = std::array::from_fn(|_| f.u32());
-        let count = count as usize;
-        port_encoded(f.rest(), |b| mkfs_xfs::ours::structs::agfl(seqno, &uuid, first, &list, count, b))
+    fn asked(&self, case: &[u8]) -> Option<Asked> {
+        split(encoder::AGFL, case, 4 + 4 + 16 + 8 + 4 * MOST)
     }
 }
 
@@ -221,14 +217,8 @@ impl Mode for Leaf {
         })
     }
 
-    #[cfg(feature = "structs")]
-    fn ours(&self, case: &[u8]) -> Option<Vec<u8>> {
-        use mkfs_xfs::ours::structs::leaf_block;
-        let mut f = Fields(case);
-        let (magic, daddr, agno, uuid, numrecs) = (f.u32(), f.u64(), f.u32(), f.array(), f.u16());
-        let n = f.u32() as usize;
-        let recs = f.bytes(n);
-        port_encoded(f.rest(), |b| leaf_block(magic, daddr, agno, &uuid, recs, numrecs, b))
+    fn asked(&self, case: &[u8]) -> Option<Asked> {
+        split_behind(encoder::LEAF, case, 4 + 8 + 4 + 16 + 2 + 4)
     }
 }
 
@@ -296,16 +286,8 @@ impl Mode for Recs {
         Ok(Told { kind: REC_KINDS[kind], ..told })
     }
 
-    #[cfg(feature = "recs")]
-    fn ours(&self, case: &[u8]) -> Option<Vec<u8>> {
-        use mkfs_xfs::ours::recs::{alloc_recs, inobt_recs, rmap_recs};
-        let (kind, count, recs, buf) = recs_of(case);
-        let count = count as usize;
-        port_encoded(buf, |b| match kind {
-            0 => alloc_recs(&recs.map(alloc), count, b),
-            3 => rmap_recs(&recs.map(rmap), count, b),
-            _ => inobt_recs(&recs.map(inobt), count, kind == 2, b),
-        })
+    fn asked(&self, case: &[u8]) -> Option<Asked> {
+        split(encoder::RECS + case.first()? % 4, &case[1..], 8 + 16 * MOST)
     }
 }
 
@@ -346,14 +328,10 @@ impl Mode for Slices {
         Ok(Told { kind: REC_KINDS[kind], ..told })
     }
 
-    #[cfg(feature = "slices")]
-    fn ours(&self, case: &[u8]) -> Option<Vec<u8>> {
-        use mkfs_xfs::ours::slices::{alloc_recs, rmap_recs};
-        let (kind, recs, buf) = slice_of(case);
-        port_encoded(buf, |b| match kind {
-            0 => alloc_recs(&recs.iter().map(|r| alloc(r)).collect::<Vec<_>>(), b),
-            _ => rmap_recs(&recs.iter().map(|r| rmap(r)).collect::<Vec<_>>(), b),
-        })
+    fn asked(&self, case: &[u8]) -> Option<Asked> {
+        let (kind, recs, _) = slice_of(case);
+        let function = if kind == 3 { encoder::RMAP_SLICE } else { encoder::ALLOC_SLICE };
+        split(function, case.get(2..)?, 16 * recs.len())
     }
 }
 
@@ -368,6 +346,10 @@ fn state(f: &mut Fields) -> SbState {
         fdblocks: f.u64(),
         inprogress: f.u8() != 0,
     }
+}
+
+fn feature_words(g: &Geometry) -> [u32; 4] {
+    [u32::from(sb::versionnum(g)), sb::features2(g), sb::ro_compat(g), sb::incompat(g)]
 }
 
 /// The state (UUID, six numbers of 8 bytes, inprogress in 1), the input records with their length (4 bytes) before
@@ -407,23 +389,36 @@ impl Mode for Sb {
             encoded(out, told.number, buf, |_| {})?;
             return Ok(told);
         };
-        for v in [u32::from(sb::versionnum(&g)), sb::features2(&g), sb::ro_compat(&g), sb::incompat(&g)] {
+        for v in feature_words(&g) {
             out.write_all(&v.to_be_bytes())?;
         }
         let number = if buf.len() == g.sectsize as usize { 0 } else { BAD_LENGTH };
         encoded(out, number, buf, |b| sb::encode(&g, &s, b))
     }
 
-    /// The four numbers before the sector are the Rust's: the sector holds the port's.
-    #[cfg(feature = "sb")]
-    fn ours(&self, case: &[u8]) -> Option<Vec<u8>> {
+    fn asked(&self, case: &[u8]) -> Option<Asked> {
         let mut f = Fields(case);
-        let s = state(&mut f);
+        let state = f.bytes(16 + 6 * 8 + 1);
         let n = f.u32() as usize;
         let g = step(&Request::parse(f.bytes(n))?).1?;
-        let named = [u32::from(sb::versionnum(&g)), sb::features2(&g), sb::ro_compat(&g), sb::incompat(&g)];
-        let mut out: Vec<u8> = named.iter().flat_map(|v| v.to_be_bytes()).collect();
-        out.extend(port_encoded(f.rest(), |b| mkfs_xfs::ours::sb::encode(&g, &s, b))?);
-        Some(out)
+        let params = [&port::geometry(&g)[..], state].concat();
+        Some(Asked { program: port::ENCODERS, function: encoder::SB, params, body: f.rest().to_vec() })
+    }
+
+    /// The four numbers before the sector are the Rust's: the sector holds the port's.
+    fn replied(&self, case: &[u8], reply: Reply) -> Vec<u8> {
+        let mut f = Fields(case);
+        f.bytes(16 + 6 * 8 + 1);
+        let n = f.u32() as usize;
+        let named =
+            Request::parse(f.bytes(n)).and_then(|q| step(&q).1).map_or(Vec::new(), |g| feature_words(&g).to_vec());
+        let named = named.iter().flat_map(|v| v.to_be_bytes());
+        named.chain(numbered(reply.number, &reply.bytes)).collect()
+    }
+
+    fn replayed_answer(&self, _case: &[u8], answer: &[u8]) -> Vec<u8> {
+        let mut f = Fields(answer.get(16..).unwrap_or_default());
+        let number = f.u32();
+        port::line(number, 0, f.rest())
     }
 }

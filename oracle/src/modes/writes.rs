@@ -2,12 +2,11 @@
 
 use std::io;
 
-use mkfs_xfs::crc::crc32c;
-
 use super::geometry::feature_bits;
 use super::plans::{accepted, few, plan, run_of};
 use super::{Mode, Out, Told};
 use crate::frames::Fields;
+use crate::port::{self, Asked};
 use crate::random::Random;
 use crate::recorded::{formatted, Sink};
 use crate::request::{op, Request};
@@ -19,10 +18,6 @@ pub struct Writelist;
 const GROUPS: u64 = 40;
 const MANY_GROUPS: u64 = 2000;
 const MANY_ONCE_IN: u64 = 150;
-
-/// What a replayed case asks for.
-const SUM: u8 = 0;
-const WHOLE: u8 = 1;
 
 /// Writes down what is done to the device, as the scope's written records.
 pub struct Records<'a>(pub Out<'a>);
@@ -124,16 +119,18 @@ impl Mode for Writelist {
         list(out, Request::parse(case))
     }
 
+    /// The list itself is written without a frame.
     fn replayed(&self, case: &[u8]) -> Option<Vec<u8>> {
-        let kind = if case == whole_case() { WHOLE } else { SUM };
-        Some([&[kind][..], &(case.len() as u32).to_be_bytes(), case].concat())
+        let (params, body) = (Vec::new(), case.to_vec());
+        let asked = Asked { program: port::DISKS, function: port::disk::LIST, params, body };
+        Some(asked.frame(if case == whole_case() { port::WHOLE } else { port::LINE }))
     }
 
     fn replayed_answer(&self, case: &[u8], answer: &[u8]) -> Vec<u8> {
         match refusal(answer) {
             _ if case == whole_case() => answer.to_vec(),
-            Some(number) => [number, b"\n"].concat(),
-            None => format!("0 {} {}\n", answer.len(), crc32c(answer)).into_bytes(),
+            Some(number) => [number, b" 0\n"].concat(),
+            None => port::line(0, answer.len() as u64, answer),
         }
     }
 
