@@ -3,7 +3,6 @@
 // two, nothing was changed.
 // `list_apply` says what is to be read next and what is to be done with it; here bytes are only moved.
 mod clock; // a line of progress
-mod device; // a device's sector
 mod input; // reading
 mod output; // writing
 
@@ -12,6 +11,7 @@ ghost use Prim.Native.Nat.{_≤_};
 ghost use lib.ListN.{length};
 ghost use Rattle.list_apply.specs.Applying.{begun};
 ghost use Rattle.list_apply_laws.specs.Turns.{Fed};
+use device_sizes::bytes_to;
 use libc::SEEK_END;
 use libc::STDERR_FILENO;
 use libc::STDOUT_FILENO;
@@ -283,14 +283,6 @@ fn limit_of(fd: i32, extends: bool) -> i64 {
     libc::lseek(fd, 0, SEEK_END)
 }
 
-// An offset that isn't negative, as a number of bytes.
-pub(crate) fn bytes_to(end: i64) -> u64 {
-    if end < 0 {
-        return 0;
-    }
-    end as u64
-}
-
 // As many bytes as one write has at most.
 fn mebibyte() -> [u8; 1048576]
     ensures { λ r. ⌜ 1048576 ≡ length r ⌝ }
@@ -308,10 +300,10 @@ fn apply_from(fd: i32, extends: bool, limit: u64, ahead: &[u8]) {
 
 // The list's first bytes are held back until they say that its sectors aren't smaller than the device's.
 fn apply_to_device(fd: i32, extends: bool, limit: u64, path: &[u8]) {
-    let logical = device::logical_sector(path);
-    if logical == 0 {
+    let sizes = device_sizes::sizes_of(fd);
+    if sizes.failed != 0 {
         io::write_all(STDERR_FILENO, path);
-        io::write_all(STDERR_FILENO, b": its logical sector can't be read\n");
+        io::write_all(STDERR_FILENO, b": its sectors can't be read\n");
         return;
     }
     let none = [0u8; 1];
@@ -323,7 +315,7 @@ fn apply_to_device(fd: i32, extends: bool, limit: u64, path: &[u8]) {
         return;
     }
     let n = i.n;
-    if below_logical(&ahead[..n], logical) {
+    if below_logical(&ahead[..n], sizes.logical) {
         io::write_all(
             STDERR_FILENO,
             b"the list isn't for sectors as large as the device's, and isn't applied\n",
@@ -340,7 +332,7 @@ fn apply_open(fd: i32, extends: bool, path: &[u8]) {
         os::fail(b"size");
         return;
     }
-    if device::is_device(fd) {
+    if device_sizes::is_device(fd) {
         apply_to_device(fd, extends, bytes_to(end), path);
         return;
     }

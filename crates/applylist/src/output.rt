@@ -6,8 +6,8 @@ use crate::DONE;
 use crate::FLUSH_FAILED;
 use crate::NOTHING_TAKEN;
 use crate::WRITE_FAILED;
-use crate::bytes_to;
 use arith::numbers::min_u64;
+use device_sizes::bytes_to;
 use list_holes::in_hole;
 use list_read::within;
 

@@ -17,6 +17,7 @@ use Rattle.params.specs.Params.{noLabel, noUuid}
 use Rattle.request_input.specs.Records.{wellFormed, label, uuid, option, records, lookup as lookupRecord}
 use Rattle.request.specs.Options.{labelGiven, uuidGiven}
 use Rattle.request_words.specs.declared.Word.{Word}
+use Rattle.request_words.specs.Values.{labelKey, sizeKey, logicalKey, physicalKey, uuidKey, codes}
 use Rattle.request_words.specs.Words.{lookup, given, wordsFrom}
 use Rattle.request_words.specs.Asked.{pairs, labelText, wordsRequest}
 
@@ -30,23 +31,23 @@ optionAsked code ws = choose (given code ws) (Given (lookup code ws .value)) Abs
 
 -- each option that is read back is the word's, and absent where there is no word
 unfoldable pub OptionsReadBack : Type 0
-OptionsReadBack = (xs : List ℕ) (code : ℕ) → 1 ≤ code → code ≤ 12 → lookupRecord (option code) (records 0 (wordsRequest xs)) ≡ optionAsked code (wordsFrom 0 xs)
+OptionsReadBack = (xs : List ℕ) (code : ℕ) → 1 ≤ code → code ≤ codes → lookupRecord (option code) (records 0 (wordsRequest xs)) ≡ optionAsked code (wordsFrom 0 xs)
 
 -- so are the device's size and sectors, which no accepted words lack
 unfoldable pub DeviceReadBack : Type 0
-DeviceReadBack = (xs : List ℕ) → given 13 (wordsFrom 0 xs) ≡ true → given 14 (wordsFrom 0 xs) ≡ true → given 15 (wordsFrom 0 xs) ≡ true
-    → (beAt 8 2 (wordsRequest xs) ≡ lookup 13 (wordsFrom 0 xs) .value) × (beAt 4 10 (wordsRequest xs) ≡ lookup 14 (wordsFrom 0 xs) .value)
-    × (beAt 4 14 (wordsRequest xs) ≡ lookup 15 (wordsFrom 0 xs) .value)
+DeviceReadBack = (xs : List ℕ) → given sizeKey (wordsFrom 0 xs) ≡ true → given logicalKey (wordsFrom 0 xs) ≡ true → given physicalKey (wordsFrom 0 xs) ≡ true
+    → (beAt 8 2 (wordsRequest xs) ≡ lookup sizeKey (wordsFrom 0 xs) .value) × (beAt 4 10 (wordsRequest xs) ≡ lookup logicalKey (wordsFrom 0 xs) .value)
+    × (beAt 4 14 (wordsRequest xs) ≡ lookup physicalKey (wordsFrom 0 xs) .value)
 
 -- the label that a word gives: its length, and its bytes filled up with zeros
 abbrev pub labelAsked : List Word → List ℕ → Label
 labelAsked ws xs =
-    let text = labelText (lookup 0 ws) xs in
-    choose (given 0 ws) (record { length = length text; bytes = text ++ replicate (12 - length text) 0 }) noLabel
+    let text = labelText (lookup labelKey ws) xs in
+    choose (given labelKey ws) (record { length = length text; bytes = text ++ replicate (12 - length text) 0 }) noLabel
 
 -- the UUID that a word gives: the bytes that its pairs of digits are
 abbrev pub uuidAsked : List Word → List ℕ → OptUuid
-uuidAsked ws xs = choose (eqb (lookup 16 ws .value) 1) (record { presence = Yes; bytes = pairs 16 0 (lookup 16 ws .from) xs }) noUuid
+uuidAsked ws xs = choose (eqb (lookup uuidKey ws .value) 1) (record { presence = Yes; bytes = pairs 16 0 (lookup uuidKey ws .from) xs }) noUuid
 
 -- the label that is read back is the word's, and there is none where there is no word
 unfoldable pub LabelReadBack : Type 0

@@ -12,7 +12,7 @@ use Rattle.seqs.specs.Lists.{choose}
 use Rattle.endian.specs.Bytes.{patch}
 use Rattle.endian.specs.Fields.{part}
 use Rattle.request.specs.Cases.{dv, op, lb, id}
-use Rattle.request_words.specs.Values.{hex}
+use Rattle.request_words.specs.Values.{labelKey, sizeKey, logicalKey, physicalKey, uuidKey, codes, hex}
 use Rattle.request_words.specs.Words.{lookup, given, wordsFrom, verdictOf, verdict}
 use Rattle.request_words.specs.declared.Word.{Word}
 use Rattle.request_words.specs.declared.Made.{Made}
@@ -35,7 +35,7 @@ pairs (suc n) j from xs = pairAt from j xs ∷ pairs n (j + 1) from xs
 -- ---- the records
 
 unfoldable pub deviceRecord : List Word → List ℕ
-deviceRecord ws = dv (lookup 13 ws .value) (lookup 14 ws .value) (lookup 15 ws .value)
+deviceRecord ws = dv (lookup sizeKey ws .value) (lookup logicalKey ws .value) (lookup physicalKey ws .value)
 
 unfoldable pub optionRecord : ℕ → List Word → List ℕ
 optionRecord code ws = choose (given code ws) (op code (lookup code ws .value)) []
@@ -50,13 +50,13 @@ abbrev pub labelText : Word → List ℕ → List ℕ
 labelText w xs = part (w .from) (min (w .end - w .from) 12) xs
 
 unfoldable pub labelRecord : List Word → List ℕ → List ℕ
-labelRecord ws xs = choose (given 0 ws) (lb (labelText (lookup 0 ws) xs)) []
+labelRecord ws xs = choose (given labelKey ws) (lb (labelText (lookup labelKey ws) xs)) []
 
 unfoldable pub uuidRecord : List Word → List ℕ → List ℕ
-uuidRecord ws xs = choose (eqb (lookup 16 ws .value) 1) (id (pairs 16 0 (lookup 16 ws .from) xs)) []
+uuidRecord ws xs = choose (eqb (lookup uuidKey ws .value) 1) (id (pairs 16 0 (lookup uuidKey ws .from) xs)) []
 
 abbrev pub recordsOf : List Word → List ℕ → List ℕ
-recordsOf ws xs = deviceRecord ws ++ (optionRecords 12 1 ws ++ (labelRecord ws xs ++ uuidRecord ws xs))
+recordsOf ws xs = deviceRecord ws ++ (optionRecords codes 1 ws ++ (labelRecord ws xs ++ uuidRecord ws xs))
 
 -- what the words ask for
 unfoldable pub wordsRequest : List ℕ → List ℕ
@@ -69,21 +69,21 @@ labelOf xs = labelRecord (wordsFrom 0 xs) xs
 abbrev pub uuidOf : List ℕ → List ℕ
 uuidOf xs = uuidRecord (wordsFrom 0 xs) xs
 
--- the records of every word at its longest: the device's 18 bytes, 12 options of 11, a label of 15, a UUID of 18
+-- the records of every word at its longest: the device's 18 bytes, 13 options of 11, a label of 15, a UUID of 18
 abbrev pub longest : ℕ
-longest = 183
+longest = 194
 
 -- ---- the answer
 
-abbrev pub made : ℕ → ℕ → ℕ → Made
-made number index length = record { number = number; index = index; length = length }
+abbrev pub made : ℕ → ℕ → ℕ → ℕ → Made
+made number index key length = record { number = number; index = index; key = key; length = length }
 
 -- number 0 and the records' length; or 27 for a buffer of fewer than `longest` bytes, or what is wrong, and then no byte of the buffer has changed
 abbrev pub answerOf : Verdict → List ℕ → List ℕ → Made
 answerOf v xs old =
     choose (leb longest (length old))
-    (choose (eqb (v .number) 0) (made 0 0 (length (wordsRequest xs))) (made (v .number) (v .index) 0))
-    (made wrongLength 0 0)
+    (choose (eqb (v .number) 0) (made 0 0 0 (length (wordsRequest xs))) (made (v .number) (v .index) (v .key) 0))
+    (made wrongLength 0 0 0)
 
 abbrev pub leftOf : Verdict → List ℕ → List ℕ → List ℕ
 leftOf v xs old = choose (leb longest (length old)) (choose (eqb (v .number) 0) (patch 0 (wordsRequest xs) old) old) old

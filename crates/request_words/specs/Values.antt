@@ -17,7 +17,40 @@ indexIn table name = firstIndex (λ n. eqb n name) table
 
 -- ---- keys
 
--- The words' names. The key of a word is its name's index: 1 to 12 are the codes of the options.
+-- The keys that are named below; 1 to 13 are the codes of the options.
+abbrev pub labelKey : ℕ
+labelKey = 0
+
+abbrev pub featuresKey : ℕ
+featuresKey = 9
+
+abbrev pub sizingKey : ℕ
+sizingKey = 12
+
+abbrev pub profileKey : ℕ
+profileKey = 13
+
+abbrev pub sizeKey : ℕ
+sizeKey = 14
+
+abbrev pub logicalKey : ℕ
+logicalKey = 15
+
+abbrev pub physicalKey : ℕ
+physicalKey = 16
+
+abbrev pub uuidKey : ℕ
+uuidKey = 17
+
+-- the key of no word: how many keys there are
+abbrev pub noKey : ℕ
+noKey = 18
+
+-- the largest code of an option
+abbrev pub codes : ℕ
+codes = 13
+
+-- THE WORDS' NAMES: the key of a word is its name's index
 unfoldable pub names : List ℕ
 names =
     packed (108 ∷ 97 ∷ 98 ∷ 101 ∷ 108 ∷ [])  -- 0 label
@@ -33,32 +66,34 @@ names =
     ∷ packed (116 ∷ 105 ∷ 109 ∷ 101 ∷ [])  -- 10 time
     ∷ packed (110 ∷ 97 ∷ 110 ∷ 111 ∷ 115 ∷ 101 ∷ 99 ∷ 111 ∷ 110 ∷ 100 ∷ 115 ∷ [])  -- 11 nanoseconds
     ∷ packed (115 ∷ 105 ∷ 122 ∷ 105 ∷ 110 ∷ 103 ∷ [])  -- 12 sizing
-    ∷ packed (115 ∷ 105 ∷ 122 ∷ 101 ∷ [])  -- 13 size
-    ∷ packed (108 ∷ 111 ∷ 103 ∷ 105 ∷ 99 ∷ 97 ∷ 108 ∷ [])  -- 14 logical
-    ∷ packed (112 ∷ 104 ∷ 121 ∷ 115 ∷ 105 ∷ 99 ∷ 97 ∷ 108 ∷ [])  -- 15 physical
-    ∷ packed (117 ∷ 117 ∷ 105 ∷ 100 ∷ [])  -- 16 uuid
+    ∷ packed (112 ∷ 114 ∷ 111 ∷ 102 ∷ 105 ∷ 108 ∷ 101 ∷ [])  -- 13 profile
+    ∷ packed (115 ∷ 105 ∷ 122 ∷ 101 ∷ [])  -- 14 size
+    ∷ packed (108 ∷ 111 ∷ 103 ∷ 105 ∷ 99 ∷ 97 ∷ 108 ∷ [])  -- 15 logical
+    ∷ packed (112 ∷ 104 ∷ 121 ∷ 115 ∷ 105 ∷ 99 ∷ 97 ∷ 108 ∷ [])  -- 16 physical
+    ∷ packed (117 ∷ 117 ∷ 105 ∷ 100 ∷ [])  -- 17 uuid
     ∷ []
 
 -- the largest value of each key; of a label it is the length
 unfoldable pub largest : List ℕ
 largest =
-    12
-    ∷ (2 ^ 64 - 1)
-    ∷ (2 ^ 32 - 1)
-    ∷ (2 ^ 32 - 1)
-    ∷ (2 ^ 32 - 1)
-    ∷ (2 ^ 64 - 1)
-    ∷ (2 ^ 64 - 1)
-    ∷ 255
-    ∷ (2 ^ 64 - 1)
-    ∷ 127
-    ∷ (2 ^ 64 - 1)
-    ∷ (2 ^ 32 - 1)
-    ∷ 1
-    ∷ (2 ^ 64 - 1)
-    ∷ (2 ^ 32 - 1)
-    ∷ (2 ^ 32 - 1)
-    ∷ 1
+    12  -- label
+    ∷ (2 ^ 64 - 1)  -- use
+    ∷ (2 ^ 32 - 1)  -- block
+    ∷ (2 ^ 32 - 1)  -- sector
+    ∷ (2 ^ 32 - 1)  -- inode
+    ∷ (2 ^ 64 - 1)  -- agcount
+    ∷ (2 ^ 64 - 1)  -- agsize
+    ∷ 255  -- imaxpct
+    ∷ (2 ^ 64 - 1)  -- seed
+    ∷ 127  -- features
+    ∷ (2 ^ 64 - 1)  -- time
+    ∷ (2 ^ 32 - 1)  -- nanoseconds
+    ∷ 1  -- sizing
+    ∷ 1  -- profile
+    ∷ (2 ^ 64 - 1)  -- size
+    ∷ (2 ^ 32 - 1)  -- logical
+    ∷ (2 ^ 32 - 1)  -- physical
+    ∷ 1  -- uuid
     ∷ []
 
 -- ---- features
@@ -130,6 +165,13 @@ sizings = packed (112 ∷ 108 ∷ 97 ∷ 105 ∷ 110 ∷ []) ∷ packed (114 ∷
 unfoldable pub sizingIn : List ℕ → Value
 sizingIn text = choose (ltb (indexIn sizings (packed text)) 2) (good (indexIn sizings (packed text))) malformed
 
+-- ---- the profile: `station`
+abbrev pub station : ℕ
+station = packed (115 ∷ 116 ∷ 97 ∷ 116 ∷ 105 ∷ 111 ∷ 110 ∷ [])
+
+unfoldable pub profileIn : List ℕ → Value
+profileIn text = choose (eqb (packed text) station) (good 1) malformed
+
 -- ---- the UUID: 36 characters, hexadecimal but for four dashes; or `none`
 
 -- the value of a hexadecimal digit; 16 of any other byte
@@ -164,10 +206,11 @@ uuidIn text =
 -- the text's value, before its size is asked for; of a label it is the length
 unfoldable pub valueIn : ℕ → List ℕ → Value
 valueIn key text =
-    choose (eqb key 0) (good (length text))
-    (choose (eqb key 9) (featuresIn text)
-    (choose (eqb key 12) (sizingIn text)
-    (choose (eqb key 16) (uuidIn text) (numberIn text))))
+    choose (eqb key labelKey) (good (length text))
+    (choose (eqb key featuresKey) (featuresIn text)
+    (choose (eqb key sizingKey) (sizingIn text)
+    (choose (eqb key profileKey) (profileIn text)
+    (choose (eqb key uuidKey) (uuidIn text) (numberIn text)))))
 
 -- a value that isn't larger than its key allows
 unfoldable pub limited : ℕ → Value → Value
