@@ -25,11 +25,15 @@ fn refused() -> Taken {
     }
 }
 
+fn too_long() -> Taken {
+    say(b"mkrequest: the words have more bytes than any request needs\n");
+    refused()
+}
+
 // What was put, or that it had no room.
 fn taken(w: Written) -> Taken {
     if w.number != 0 {
-        say(b"mkrequest: the words have more bytes than any request needs\n");
-        return refused();
+        return too_long();
     }
     Taken {
         n: w.end,
@@ -152,8 +156,7 @@ fn take_word(i: usize, n: usize, words: &mut [u8]) -> Taken {
     let mut word = io::buffer();
     let got = os::arg(i, &mut word);
     if os::errno() != 0 {
-        os::fail(b"mkrequest: a word");
-        return refused();
+        return too_long();
     }
     push_word(&word[..got], i, n, words)
 }

@@ -1,15 +1,13 @@
 -- A number's sentence is its line of the page.
 -- Assumes nothing.
-use mathlib.Core.Path.{_≡_, refl, sym, ap, _∙_}
+use mathlib.Core.Path.{_≡_, refl, ap, _∙_}
 use mathlib.Core.Bool.{true}
 use mathlib.Core.List.{List, [], _∷_}
 use mathlib.Core.Logic.{_⊎_, inl, inr}
 use Prim.Native.Nat.{ℕ, zero, suc, _-_, _≤_, _<_}
-use Prim.Native.String.{String}
 use native.Mathlib.Omega.{arith}
 use lib.ListN.{length, getD, drop}
 use borrow.Author.Tests.{eq-eqb, ne-eqb}
-use Rattle.seqs.specs.Lists.{both}
 use Rattle.seqs.proofs.Laws.{lt-or-le}
 use Rattle.table_lines.specs.Lines.{PutLine}
 use Rattle.text_pages.specs.Pages.{bytesOf, page, inOneLine, linesEach, lineAt, textAt}
@@ -22,16 +20,17 @@ row-of : (rows : List Row) (j k n : ℕ) → numbersOf rows ≡ counted j k → 
 unfolding sentenceIn textsOf textAt
 row-of [] j k n e h = refl
 row-of ((m says text) ∷ rows) zero k n e h = absurd (let l = ap length e in omega (arith, l))
-row-of ((m says text) ∷ rows) (suc j) k n e h = by (lt-or-le k n)
+row-of ((m says text) ∷ rows) (suc j) k n e h = by (lt-or-le k n) (row-of rows j (suc k) n (ap (drop 1) e))
   where
     here : m ≡ k
     here = ap (λ (ns : List ℕ). getD ns 0 0) e
 
-    by : (k < n) ⊎ (n ≤ k) → sentenceIn ((m says text) ∷ rows) n ≡ textAt unknown (n - k) (text ∷ textsOf rows)
-    by (inl l) =
+    by : (k < n) ⊎ (n ≤ k) → (k < n → sentenceIn rows n ≡ textAt unknown (n - suc k) (textsOf rows))
+        → sentenceIn ((m says text) ∷ rows) n ≡ textAt unknown (n - k) (text ∷ textsOf rows)
+    by (inl l) ih =
         let d : n - k ≡ suc (n - suc k) = omega arith in
-        rw (ne-eqb n m (λ f. omega (arith, f, here)), d) (row-of rows j (suc k) n (ap (drop 1) e) l)
-    by (inr l) =
+        rw (ne-eqb n m (λ f. omega (arith, f, here)), d) (ih l)
+    by (inr l) ih =
         let d : n - k ≡ 0 = omega arith in
         rw (eq-eqb n m (omega (arith, here)), d) refl
 
@@ -42,7 +41,7 @@ of-line zero = no-sentence
 of-line (suc n) = row-of sentences 43 1 (suc n) each-once (omega arith) ∙ ap (λ (k : ℕ). textAt unknown k (textsOf sentences)) (let e : suc n - 1 ≡ n = omega arith in e)
 
 in-lines : linesEach texts ≡ true
-unfolding texts sentences textsOf linesEach inOneLine bytesOf both
+unfolding texts sentences textsOf linesEach inOneLine bytesOf
 in-lines = refl
 
 as-many : length texts ≡ 44

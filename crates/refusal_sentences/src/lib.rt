@@ -10,7 +10,7 @@ use text_pages::put_line;
 const LAST: u32 = 43;
 
 // The page, a line for each number: line 0 is said of a number that has none.
-fn page() -> [u8; 1976]
+fn lines() -> [u8; 1976]
     ensures { λ r. ⌜ r ≡ pageOf texts ⌝ }
 {
     *b"\
@@ -64,7 +64,7 @@ fn page() -> [u8; 1976]
 pub fn put_sentence(number: u32, buf: &mut [u8], at: usize) -> Written
     ensures { λ r. ⌜ PutLine at (bytesOf (sentence number)) (now (buf .entry)) (r .number) (r .end) (now (buf .exit)) ⌝ }
 {
-    let page = page();
+    let page = lines();
     if LAST < number {
         return put_line(&page, 0, buf, at);
     }

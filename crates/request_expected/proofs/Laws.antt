@@ -5,7 +5,6 @@ use mathlib.Core.Bool.{true}
 use mathlib.Core.List.{List}
 use Prim.Native.Nat.{ℕ, min}
 use lib.ListN.{length}
-use Rattle.seqs.specs.Lists.{both}
 use Rattle.table_lines.specs.Lines.{PutLine}
 use Rattle.text_pages.specs.Pages.{bytesOf, page, inOneLine, linesEach, lineAt}
 use Rattle.text_pages.proofs.Lines.{last-line}

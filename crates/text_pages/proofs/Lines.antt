@@ -12,6 +12,7 @@ use lib.Seq.{drop-drop, drop-append-add, take-at}
 use Rattle.endian.specs.Fields.{part}
 use Rattle.seqs.specs.Lists.{both, choose, firstIndex}
 use Rattle.seqs.proofs.Laws.{never, both-left, both-right, lt-or-le}
+use Rattle.table_lines.specs.Lines.{PutLine}
 use Rattle.text_pages.specs.Pages.{bytesOf, newline, isNewline, page, inOneLine, linesEach, placeOf, firstLine, behindLines, lineAt, textAt}
 use Rattle.text_pages.proofs.Places.{rest-nil}
 
@@ -37,9 +38,9 @@ line-turn n ys zs h e =
     let k : n ≡ suc (n - 1) = omega arith in
     ap (λ (m : ℕ). behindLines m ys) k ∙ ap (behindLines (n - 1)) e
 
-pub line-none : (ys : List ℕ) → behindLines 0 ys ≡ ys
+pub lines-done : (n : ℕ) (ys : List ℕ) → n ≡ 0 → behindLines n ys ≡ ys
 unfolding behindLines
-line-none ys = refl
+lines-done n ys e = ap (λ (m : ℕ). behindLines m ys) e
 
 behind-nothing : (n : ℕ) → behindLines n [] ≡ []
 unfolding behindLines firstIndex
@@ -49,6 +50,10 @@ behind-nothing (suc n) = behind-nothing n
 pub lines-past : (n : ℕ) (xs : List ℕ) (at : ℕ) → length xs ≤ at → behindLines n (drop at xs) ≡ drop at xs
 lines-past n xs at h = rw (rest-nil xs at h) (behind-nothing n)
 
+-- what is put for some bytes is put for their equals
+pub same-bytes : {at : ℕ} {xs ys old left : List ℕ} {number end : ℕ} → xs ≡ ys → PutLine at ys old number end left → PutLine at xs old number end left
+same-bytes e p = rw e p
+
 -- the bytes of a line
 pub line-part : (n from end : ℕ) (xs : List ℕ) → drop from xs ≡ behindLines n xs → end ≡ placeOf newline from xs → part from (end - from) xs ≡ lineAt n xs
 unfolding firstLine placeOf
@@ -57,14 +62,14 @@ line-part n from end xs b e =
     ap (λ (m : ℕ). take m (drop from xs)) k ∙ ap firstLine b
 
 -- ---- a page
+ends-at : (t : Bool) (n m : ℕ) (bs : List ℕ) → both (not t) (inOneLine bs) ≡ true → (inOneLine bs ≡ true → n ≡ m) → choose t 0 (suc n) ≡ suc m
+ends-at true n m bs h e = never h
+ends-at false n m bs h e = ap suc (e h)
+
 line-end : (bs rest : List ℕ) → inOneLine bs ≡ true → firstIndex isNewline (bs ++ (newline ∷ rest)) ≡ length bs
 unfolding firstIndex inOneLine
 line-end [] rest h = refl
-line-end (b ∷ bs) rest h = by (isNewline b) h
-  where
-    by : (t : Bool) → both (not t) (inOneLine bs) ≡ true → choose t 0 (suc (firstIndex isNewline (bs ++ (newline ∷ rest)))) ≡ suc (length bs)
-    by true g = never g
-    by false g = ap suc (line-end bs rest g)
+line-end (b ∷ bs) rest h = ends-at (isNewline b) (firstIndex isNewline (bs ++ (newline ∷ rest))) (length bs) bs h (line-end bs rest)
 
 first-of : (bs rest : List ℕ) → inOneLine bs ≡ true → firstLine (bs ++ (newline ∷ rest)) ≡ bs
 unfolding firstLine
