@@ -7,16 +7,8 @@ use libc::STDERR_FILENO;
 use libc::STDOUT_FILENO;
 use said::explain;
 use said::usage;
-use words::Taken;
+use said::write_first;
 use words::take_words;
-
-// Writes the first n bytes; false where that failed.
-fn write_first(records: &[u8], n: usize) -> bool {
-    if n <= records.len() {
-        return io::write_all(STDOUT_FILENO, &records[..n]);
-    }
-    false
-}
 
 // Writes the records of the words, or which one is refused; false where a write failed.
 fn answer(words: &[u8], device: usize) -> bool {
@@ -26,7 +18,7 @@ fn answer(words: &[u8], device: usize) -> bool {
         explain(made, device);
         return true;
     }
-    write_first(&records, made.length)
+    write_first(STDOUT_FILENO, &records, made.length)
 }
 
 // The same of the first n bytes.

@@ -13,11 +13,12 @@ pub(crate) fn say(text: &[u8]) {
     io::write_all(STDERR_FILENO, text);
 }
 
-// Writes the first n bytes.
-fn write_first(fd: i32, text: &[u8], n: usize) {
+// Writes the first n bytes; false where that failed.
+pub(crate) fn write_first(fd: i32, text: &[u8], n: usize) -> bool {
     if n <= text.len() {
-        io::write_all(fd, &text[..n]);
+        return io::write_all(fd, &text[..n]);
     }
+    false
 }
 
 // The name of a key.
@@ -90,13 +91,18 @@ pub(crate) fn explain(made: Made, device: usize) {
     write_expected(STDERR_FILENO, made.key);
 }
 
-// Every word with what it takes.
+// A word with what it takes.
+fn write_word(fd: i32, key: usize) {
+    write_name(fd, key);
+    io::write_all(fd, b" ");
+    write_expected(fd, key);
+}
+
+// Every word.
 fn write_words(fd: i32) {
     let mut key = 0;
     while key < KEYS {
-        write_name(fd, key);
-        io::write_all(fd, b" ");
-        write_expected(fd, key);
+        write_word(fd, key);
         key += 1;
     }
 }

@@ -31,7 +31,7 @@ fn too_long() -> Taken {
 }
 
 // What was put, or that it had no room.
-fn taken(w: Written) -> Taken {
+fn put_to(w: Written) -> Taken {
     if w.number != 0 {
         return too_long();
     }
@@ -44,20 +44,20 @@ fn taken(w: Written) -> Taken {
 
 // A text and a zero byte, behind the first `n` bytes.
 fn push(text: &[u8], n: usize, words: &mut [u8]) -> Taken {
-    let t = taken(put_text(text, words, n));
+    let t = put_to(put_text(text, words, n));
     if t.failed {
         return t;
     }
-    taken(put_text(&[0], words, t.n))
+    put_to(put_text(&[0], words, t.n))
 }
 
 // A name, a number and a zero byte.
 fn push_number(name: &[u8], value: u64, n: usize, words: &mut [u8]) -> Taken {
-    let t = taken(put_text(name, words, n));
+    let t = put_to(put_text(name, words, n));
     if t.failed {
         return t;
     }
-    taken(put_number(value, 0, words, t.n))
+    put_to(put_number(value, 0, words, t.n))
 }
 
 // A device's size and sectors.
@@ -110,18 +110,29 @@ fn push_device(path: &[u8], i: usize, n: usize, words: &mut [u8]) -> Taken {
     }
 }
 
-// The UUID that the system draws: a line of 36 characters.
-fn push_uuid(n: usize, words: &mut [u8]) -> Taken {
-    let mut text = [0u8; 41];
-    endian::put_bytes(&mut text, 0, b"uuid=");
+// Whether the system drew a UUID: 36 characters.
+fn draws(uuid: &mut [u8]) -> bool {
     let fd = os::open_read(b"/proc/sys/kernel/random/uuid");
-    let got = io::read_full(fd, &mut text[5..]);
+    if fd < 0 {
+        return false;
+    }
+    let got = io::read_full(fd, uuid);
     libc::close(fd);
-    if got != 36 {
+    got == 36
+}
+
+// A UUID that the system draws.
+fn push_uuid(n: usize, words: &mut [u8]) -> Taken {
+    let mut uuid = [0u8; 36];
+    if !draws(&mut uuid) {
         say(b"mkrequest: uuid=random: the system draws none\n");
         return refused();
     }
-    push(&text, n, words)
+    let t = put_to(put_text(b"uuid=", words, n));
+    if t.failed {
+        return t;
+    }
+    push(&uuid, t.n, words)
 }
 
 // The system's clock, in seconds since 1970.

@@ -7,7 +7,7 @@ use borrow.Author.Needs.{needs}
 use Rattle.applylist.proofs.apply_to_device.Statement.{statement}
 use Rattle.applylist.proofs.apply_to_device.Tie as tie
 
-sizes-of-requires : tie.Need-logical-sector-requires
+sizes-of-requires : tie.Need-sizes-of-requires
 sizes-of-requires c κs = search needs
 
 write-all-requires : tie.Need-write-all-requires
