@@ -1,11 +1,11 @@
--- `applylist::output::lies_in_hole` meets its contract.
+-- `applylist::output::hole_end` meets its contract.
 -- Assumes nothing.
 use mathlib.Core.Path.{sym, _∙_}
 use native.Mathlib.Omega.{arith}
 use borrow.Author.Needs.{needs}
 use Rattle.list_read.proofs.Heads.{within-end}
-use Rattle.applylist.proofs.output.lies_in_hole.Statement.{statement}
-use Rattle.applylist.proofs.output.lies_in_hole.Tie as tie
+use Rattle.applylist.proofs.output.hole_end.Statement.{statement}
+use Rattle.applylist.proofs.output.hole_end.Tie as tie
 
 within-requires : tie.Need-within-requires
 within-requires c κs = search needs
@@ -26,8 +26,11 @@ returns c = search needs
 returns-2 : tie.Need-returns-2
 returns-2 c = search needs
 
-pub lies-in-hole-spec : {M : Type 1} → statement M
-lies-in-hole-spec =
+returns-3 : tie.Need-returns-3
+returns-3 c = search needs
+
+pub hole-end-spec : {M : Type 1} → statement M
+hole-end-spec =
     tie.close
     (tie.spec
     within-requires
@@ -35,4 +38,5 @@ lies-in-hole-spec =
     next-place-requires-2
     in-hole-requires
     returns
-    returns-2)
+    returns-2
+    returns-3)
