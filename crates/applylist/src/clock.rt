@@ -1,5 +1,5 @@
 // A line of progress on standard error, where that is a terminal and the list takes longer than a second.
-use crate::bytes_to;
+use device_sizes::bytes_to;
 use libc::STDERR_FILENO;
 
 // Whether lines are shown, whether one was, and the second of the start or of the last one.

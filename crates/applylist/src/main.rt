@@ -1,9 +1,9 @@
 // Applies a list of written records, read from standard input, in order to an existing file or device. It makes no file and shortens none,
 // and extends a plain file only where it is told to: a record that ends behind the file or device stops it, and where that is one of a
-// run's first two, nothing was changed. `list_apply` says what is to be read next and what is to be done with it; here bytes are only
-// moved.
+// run's first two, nothing was changed. Where it is told to, it also leaves alone what isn't empty. `list_apply` says what is to be read
+// next and what is to be done with it; here bytes are only moved.
 mod clock; // a line of progress
-mod device; // a device's sector
+mod ends; // a device that is empty
 mod input; // reading
 mod output; // writing
 
@@ -12,6 +12,7 @@ ghost use Prim.Native.Nat.{_≤_};
 ghost use lib.ListN.{length};
 ghost use Rattle.list_apply.specs.Applying.{applyingBegun};
 ghost use Rattle.list_apply_laws.specs.Turns.{Fed};
+use device_sizes::bytes_to;
 use libc::SEEK_END;
 use libc::STDERR_FILENO;
 use libc::STDOUT_FILENO;
@@ -35,6 +36,8 @@ use list_read::FLUSH;
 use list_read::ZEROS;
 use list_sector::below_logical;
 use list_sector::enough;
+use output::Piece;
+use output::done;
 
 // What became of a piece: it is done, or the call that failed.
 pub(crate) const DONE: u8 = 0;
@@ -47,14 +50,15 @@ pub(crate) const NOTHING_TAKEN: u8 = 3; // a write that took no byte, and named 
 
 pub(crate) const FLUSH_FAILED: u8 = 4;
 
-// The list so far, which call failed, the record in hand or at which it failed, whether the list goes on, and how many of the bytes that
-// were read ahead are used.
+// The list so far, which call failed, the record in hand or at which it failed, whether the list goes on, how many of the bytes that were
+// read ahead are used, and, behind zeros in a hole of the file, where that hole ends.
 struct Progress {
     applying: Applying,
     failed: u8,
     record: u64,
     goes_on: bool,
     used: usize,
+    until: u64,
 }
 
 // Zeros, and then a flush.
@@ -67,20 +71,20 @@ fn put_and_flush(fd: i32, zeros: &[u8], len: usize, at: u64, extends: bool) -> u
 }
 
 // What a step asks for: the first record's zeros and a flush, zeros, the bytes that were read, or a flush.
-fn perform(fd: i32, extends: bool, s: Step, zeros: &[u8], buf: &[u8]) -> u8 {
+fn perform(fd: i32, extends: bool, s: Step, until: u64, zeros: &[u8], buf: &[u8]) -> Piece {
     if s.action == FIRST {
-        return put_and_flush(fd, zeros, s.len, s.at, extends);
+        return done(put_and_flush(fd, zeros, s.len, s.at, extends));
     }
     if s.action == FLUSH {
-        return output::flush(fd);
+        return done(output::flush(fd));
     }
     if s.action == ZEROS {
-        return output::put_blank(fd, zeros, s.len, s.at, extends);
+        return output::put_blank(fd, zeros, s.len, s.at, extends, until);
     }
     if s.action == BYTES {
-        return output::put_bytes(fd, buf, s.len, s.at);
+        return done(output::put_bytes(fd, buf, s.len, s.at));
     }
-    DONE
+    done(DONE)
 }
 
 // The record that a step is for.
@@ -101,6 +105,7 @@ fn halted(a: Applying, failed: u8, record: u64) -> Progress
         record,
         goes_on: false,
         used: 0,
+        until: 0,
     }
 }
 
@@ -111,6 +116,7 @@ fn feed_first(
     a: Applying,
     n: usize,
     used: usize,
+    until: u64,
     zeros: &[u8],
     buf: &[u8],
 ) -> Progress
@@ -118,9 +124,9 @@ fn feed_first(
     ensures { λ r. ⌜ Fed (length (now (buf .entry))) a (r .applying) ⌝ }
 {
     let s = feed(a, &buf[..n], buf.len());
-    let failed = perform(fd, extends, s, zeros, buf);
-    if failed != DONE {
-        return halted(a, failed, record_for(a, s.action));
+    let piece = perform(fd, extends, s, until, zeros, buf);
+    if piece.failed != DONE {
+        return halted(a, piece.failed, record_for(a, s.action));
     }
     let next = s.applying;
     Progress {
@@ -129,6 +135,7 @@ fn feed_first(
         record: record_of(next),
         goes_on: stop_of(next) == GOES_ON,
         used,
+        until: piece.until,
     }
 }
 
@@ -139,6 +146,7 @@ fn take_turn(
     a: Applying,
     ahead: &[u8],
     used: usize,
+    until: u64,
     zeros: &[u8],
     buf: &mut [u8],
 ) -> Progress
@@ -148,7 +156,7 @@ fn take_turn(
     if i.failed {
         return halted(a, READ_FAILED, record_of(a));
     }
-    feed_first(fd, extends, a, i.n, i.used, zeros, buf)
+    feed_first(fd, extends, a, i.n, i.used, until, zeros, buf)
 }
 
 // All records, as far as the limit. A proved loop has to end, so it counts its turns down from a number that no list uses up.
@@ -161,11 +169,12 @@ fn apply(fd: i32, extends: bool, limit: u64, ahead: &[u8], zeros: &[u8], buf: &m
         record: 1,
         goes_on: true,
         used: 0,
+        until: 0,
     };
     let mut clock = clock::start();
     let mut turns = u64::MAX;
     while 0 < turns && p.goes_on {
-        p = take_turn(fd, extends, p.applying, ahead, p.used, zeros, buf);
+        p = take_turn(fd, extends, p.applying, ahead, p.used, p.until, zeros, buf);
         clock = clock.show(p.record);
         turns -= 1;
     }
@@ -252,10 +261,14 @@ fn finish(p: Progress) {
 }
 
 fn usage(fd: i32) {
-    io::write_all(fd, b"usage: applylist [--extend] PATH < LIST\n");
+    io::write_all(fd, b"usage: applylist [--extend | --empty] PATH < LIST\n");
     io::write_all(
         fd,
-        b"Applies a list to a file or device that is there. --extend: a plain file may become longer.\n",
+        b"Applies a list to a file or device that is there. --extend: a plain file may become longer. --empty: nothing is applied, and that\n",
+    );
+    io::write_all(
+        fd,
+        b"is said on standard output, where a byte of the first or last 128 KiB isn't zero.\n",
     );
 }
 
@@ -283,14 +296,6 @@ fn limit_of(fd: i32, extends: bool) -> i64 {
     libc::lseek(fd, 0, SEEK_END)
 }
 
-// An offset that isn't negative, as a number of bytes.
-pub(crate) fn bytes_to(end: i64) -> u64 {
-    if end < 0 {
-        return 0;
-    }
-    end as u64
-}
-
 // As many bytes as one write has at most.
 fn mebibyte() -> [u8; 1048576]
     ensures { λ r. ⌜ 1048576 ≡ length r ⌝ }
@@ -308,10 +313,10 @@ fn apply_from(fd: i32, extends: bool, limit: u64, ahead: &[u8]) {
 
 // The list's first bytes are held back until they say that its sectors aren't smaller than the device's.
 fn apply_to_device(fd: i32, extends: bool, limit: u64, path: &[u8]) {
-    let logical = device::logical_sector(path);
-    if logical == 0 {
+    let sizes = device_sizes::sizes_of(fd);
+    if sizes.failed != 0 {
         io::write_all(STDERR_FILENO, path);
-        io::write_all(STDERR_FILENO, b": its logical sector can't be read\n");
+        io::write_all(STDERR_FILENO, b": its sectors can't be read\n");
         return;
     }
     let none = [0u8; 1];
@@ -323,7 +328,7 @@ fn apply_to_device(fd: i32, extends: bool, limit: u64, path: &[u8]) {
         return;
     }
     let n = i.n;
-    if below_logical(&ahead[..n], logical) {
+    if below_logical(&ahead[..n], sizes.logical) {
         io::write_all(
             STDERR_FILENO,
             b"the list isn't for sectors as large as the device's, and isn't applied\n",
@@ -334,13 +339,20 @@ fn apply_to_device(fd: i32, extends: bool, limit: u64, path: &[u8]) {
 }
 
 // Applies the list to an open file or device.
-fn apply_open(fd: i32, extends: bool, path: &[u8]) {
+fn apply_open(fd: i32, extends: bool, empty: bool, path: &[u8]) {
     let end = limit_of(fd, extends);
     if end < 0 {
         os::fail(b"size");
         return;
     }
-    if device::is_device(fd) {
+    if empty && !ends::are_blank(fd, bytes_to(end)) {
+        io::write_all(
+            STDOUT_FILENO,
+            b"nothing applied: a byte of the first or last 128 KiB isn't zero\n",
+        );
+        return;
+    }
+    if device_sizes::is_device(fd) {
         apply_to_device(fd, extends, bytes_to(end), path);
         return;
     }
@@ -349,7 +361,7 @@ fn apply_open(fd: i32, extends: bool, path: &[u8]) {
 }
 
 // Applies the list to what argument i names, the last of `count` words.
-fn apply_to(i: usize, count: usize, extends: bool) {
+fn apply_to(i: usize, count: usize, extends: bool, empty: bool) {
     if os::arg_count() != count {
         usage(STDERR_FILENO);
         return;
@@ -358,7 +370,7 @@ fn apply_to(i: usize, count: usize, extends: bool) {
     if 0 <= fd {
         let mut path = io::buffer();
         let n = os::arg(i, &mut path);
-        apply_open(fd, extends, &path[..n]);
+        apply_open(fd, extends, empty, &path[..n]);
     }
 }
 
@@ -375,8 +387,12 @@ fn main() {
         return;
     }
     if is_word(b"--extend") {
-        apply_to(2, 3, true);
+        apply_to(2, 3, true, false);
         return;
     }
-    apply_to(1, 2, false);
+    if is_word(b"--empty") {
+        apply_to(2, 3, false, true);
+        return;
+    }
+    apply_to(1, 2, false, false);
 }

@@ -6,8 +6,8 @@ use crate::DONE;
 use crate::FLUSH_FAILED;
 use crate::NOTHING_TAKEN;
 use crate::WRITE_FAILED;
-use crate::bytes_to;
 use arith::numbers::min_u64;
+use device_sizes::bytes_to;
 use list_holes::in_hole;
 use list_read::within;
 
@@ -19,14 +19,22 @@ const SEEK_HOLE: i32 = 4;
 // Its error where no data follows.
 const ENXIO: i32 = 6;
 
+// What became of a piece: it is done, or the call that failed. Where it was zeros in a hole of the file, `until` is where that hole ends;
+// else 0.
+pub(crate) struct Piece {
+    pub(crate) failed: u8,
+    pub(crate) until: u64,
+}
+
 // How many bytes one write took, and why it stopped where that is none.
 struct Put {
     n: usize,
     stop: u8,
 }
 
+// Waits until the bytes can be read again after a loss of power; the file's times may come later.
 pub(crate) fn flush(fd: i32) -> u8 {
-    if libc::fsync(fd) < 0 {
+    if libc::fdatasync(fd) < 0 {
         return FLUSH_FAILED;
     }
     DONE
@@ -92,42 +100,74 @@ fn next_place(fd: i32, at: u64, whence: i32) -> u64
     0
 }
 
-// Whether the bytes are in a hole of a plain file; a device has none.
-fn lies_in_hole(fd: i32, n: usize, at: u64) -> bool {
+// Where the hole of a plain file ends in which the bytes lie; 0 where they lie in none. A device has no holes.
+fn hole_end(fd: i32, n: usize, at: u64) -> u64 {
     if within(at, n as u64) {
         let hole = next_place(fd, at, SEEK_HOLE);
         let data = next_place(fd, at, SEEK_DATA);
-        return in_hole(hole, data, at, n as u64);
+        if in_hole(hole, data, at, n as u64) {
+            return data;
+        }
+        return 0;
     }
-    false
+    0
 }
 
-// So many zeros; none where they lie in a hole, unless the file is to be extended.
-pub(crate) fn put_blank(fd: i32, zeros: &[u8], n: usize, at: u64, extends: bool) -> u8 {
-    if !extends && lies_in_hole(fd, n, at) {
-        return DONE;
+// What isn't in a hole.
+pub(crate) fn done(failed: u8) -> Piece {
+    Piece { failed, until: 0 }
+}
+
+// So many zeros; none where they lie in a hole, unless the file is to be extended. Where the piece before this one ends lies in a hole up
+// to `until`, and nothing was written since.
+pub(crate) fn put_blank(
+    fd: i32,
+    zeros: &[u8],
+    n: usize,
+    at: u64,
+    extends: bool,
+    until: u64,
+) -> Piece {
+    if extends {
+        return done(put_bytes(fd, zeros, n, at));
     }
-    put_bytes(fd, zeros, n, at)
+    if in_hole(at, until, at, n as u64) {
+        return Piece {
+            failed: DONE,
+            until,
+        };
+    }
+    let end = hole_end(fd, n, at);
+    if end != 0 {
+        return Piece {
+            failed: DONE,
+            until: end,
+        };
+    }
+    done(put_bytes(fd, zeros, n, at))
 }
 
 // The same of any number, as many at a time as are lent.
 pub(crate) fn put_zeros(fd: i32, zeros: &[u8], len: u64, at: u64, extends: bool) -> u8 {
     let mut left = len;
+    let mut until = 0;
     while 0 < left {
         let n = min_u64(left, zeros.len() as u64);
         if n == 0 {
             return NOTHING_TAKEN;
         }
-        let failed = put_blank(
+        let piece = put_blank(
             fd,
             zeros,
             n as usize,
             std::num::wrapping_add_u64(at, len - left),
             extends,
+            until,
         );
-        if failed != DONE {
-            return failed;
+        if piece.failed != DONE {
+            return piece.failed;
         }
+        until = piece.until;
         left -= n;
     }
     DONE

@@ -1,8 +1,8 @@
--- Zeros over a hole of a file: where they need no write.
+-- Zeros over a hole of a file: where they need no write. Bytes that are zeros alone.
 -- Assumes nothing.
-use mathlib.Core.Bool.{Bool, _&&_}
+use mathlib.Core.Bool.{Bool, true, _&&_}
 use mathlib.Core.Path.{_≡_}
-use mathlib.Core.List.{[], _∷_}
+use mathlib.Core.List.{List, [], _∷_}
 use Prim.Native.Nat.{ℕ, _+_, _≤_, _<_}
 use lib.Dec.{eqb, leb}
 use Rattle.list_records.specs.Records.{WZ}
@@ -19,3 +19,8 @@ ZerosIn d hole next = (x : ℕ) → hole ≤ x → x < next → d x ≡ 0
 -- zeros written there leave every byte as it was
 abbrev pub Unchanged : Device → ℕ → ℕ → Type 0
 Unchanged d at len = (x : ℕ) → applied (WZ at len ∷ []) d x ≡ d x
+
+-- every byte is zero
+unfoldable pub isBlank : List ℕ → Bool
+isBlank [] = true
+isBlank (b ∷ bs) = eqb b 0 && isBlank bs

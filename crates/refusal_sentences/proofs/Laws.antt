@@ -1,27 +1,61 @@
--- Rows that are passed over, and bytes that are the same.
+-- A number's sentence is its line of the page.
 -- Assumes nothing.
-use mathlib.Core.Path.{_≡_, refl, _∙_}
-use mathlib.Core.List.{List, [], _∷_, _++_}
-use Prim.Native.Nat.{ℕ}
-use Prim.Native.String.{String}
-use borrow.Author.Tests.{ne-eqb}
+use mathlib.Core.Path.{_≡_, refl, ap, _∙_}
+use mathlib.Core.Bool.{true}
+use mathlib.Core.List.{List, [], _∷_}
+use mathlib.Core.Logic.{_⊎_, inl, inr}
+use Prim.Native.Nat.{ℕ, zero, suc, _-_, _≤_, _<_}
+use native.Mathlib.Omega.{arith}
+use lib.ListN.{length, getD, drop}
+use borrow.Author.Tests.{eq-eqb, ne-eqb}
+use Rattle.seqs.proofs.Laws.{lt-or-le}
 use Rattle.table_lines.specs.Lines.{PutLine}
-use Rattle.refusal_sentences.specs.Sentences.{Row, _says_, sentenceIn}
+use Rattle.text_pages.specs.Pages.{asciiBytes, page, inOneLine, linesEach, lineAt, textAt}
+use Rattle.text_pages.proofs.Lines.{page-line, text-past}
+use Rattle.refusal_sentences.specs.Sentences.{Row, _says_, sentences, unknownNumber, sentenceIn, sentence, textsOf, texts}
+use Rattle.refusal_sentences.proofs.Page.{numbersOf, counted, each-once, no-sentence}
 
--- n is the number of none of the rows
-abbrev pub NoneOf : ℕ → List Row → Type 0
-NoneOf n [] = Unit {0}
-NoneOf n ((m says text) ∷ rows) = (n ≡ m → ⊥) × NoneOf n rows
+-- the row of n, where the rows' numbers follow each other from k on
+row-of : (rows : List Row) (j k n : ℕ) → numbersOf rows ≡ counted j k → k ≤ n → sentenceIn rows n ≡ textAt unknownNumber (n - k) (textsOf rows)
+unfolding sentenceIn textsOf textAt
+row-of [] j k n e h = refl
+row-of ((m says text) ∷ rows) zero k n e h = absurd (let l = ap length e in omega (arith, l))
+row-of ((m says text) ∷ rows) (suc j) k n e h = by (lt-or-le k n) (row-of rows j (suc k) n (ap (drop 1) e))
+  where
+    here : m ≡ k
+    here = ap (λ (ns : List ℕ). getD ns 0 0) e
 
-one-passed : (rows : List Row) (m n : ℕ) (text : String) → (n ≡ m → ⊥) → sentenceIn ((m says text) ∷ rows) n ≡ sentenceIn rows n
-unfolding sentenceIn
-one-passed rows m n text h = rw (ne-eqb n m h) refl
+    by : (k < n) ⊎ (n ≤ k) → (k < n → sentenceIn rows n ≡ textAt unknownNumber (n - suc k) (textsOf rows))
+        → sentenceIn ((m says text) ∷ rows) n ≡ textAt unknownNumber (n - k) (text ∷ textsOf rows)
+    by (inl l) ih =
+        let d : n - k ≡ suc (n - suc k) = omega arith in
+        rw (ne-eqb n m (λ f. omega (arith, f, here)), d) (ih l)
+    by (inr l) ih =
+        let d : n - k ≡ 0 = omega arith in
+        rw (eq-eqb n m (omega (arith, here)), d) refl
 
--- rows of other numbers are passed over
-pub passed : (rows behind : List Row) (n : ℕ) → NoneOf n rows → sentenceIn (rows ++ behind) n ≡ sentenceIn behind n
-passed [] behind n h = refl
-passed ((m says text) ∷ rows) behind n h = one-passed (rows ++ behind) m n text (h .0) ∙ passed rows behind n (h .1)
+-- THE SENTENCE OF n IS LINE n
+of-line : (n : ℕ) → sentence n ≡ textAt unknownNumber n texts
+unfolding texts textAt
+of-line zero = no-sentence
+of-line (suc n) = row-of sentences 43 1 (suc n) each-once (omega arith) ∙ ap (λ (k : ℕ). textAt unknownNumber k (textsOf sentences)) (let e : suc n - 1 ≡ n = omega arith in e)
 
--- what is put for some bytes is put for their equals
-pub same-bytes : {at : ℕ} {xs ys old left : List ℕ} {number end : ℕ} → xs ≡ ys → PutLine at ys old number end left → PutLine at xs old number end left
-same-bytes e p = rw e p
+in-lines : linesEach texts ≡ true
+unfolding texts sentences textsOf linesEach inOneLine asciiBytes
+in-lines = refl
+
+as-many : length texts ≡ 44
+unfolding texts sentences textsOf
+as-many = refl
+
+-- what is put for a line is put for its number
+module _ {xs old left : List ℕ} {at number end : ℕ} (is : xs ≡ page texts) where
+  pub line-put : (n : ℕ) → n ≤ 43 → PutLine at (lineAt n xs) old number end left → PutLine at (asciiBytes (sentence n)) old number end left
+  line-put n h p =
+      let l : n < length texts = (let m = as-many in omega (arith, m)) in
+      rw (of-line n, ← page-line unknownNumber texts n in-lines l, ← is) p
+
+  pub no-line-put : (n : ℕ) → 43 < n → PutLine at (lineAt 0 xs) old number end left → PutLine at (asciiBytes (sentence n)) old number end left
+  no-line-put n h p =
+      let l : length texts ≤ n = (let m = as-many in omega (arith, m)) in
+      rw (of-line n, text-past unknownNumber texts n l, ← no-sentence) (line-put 0 (omega arith) p)

@@ -1,2 +1,2 @@
-pub mod Laws
 pub mod Page
+pub mod Laws

@@ -3,15 +3,16 @@
 use mathlib.Core.Path.{_≡_, refl}
 use mathlib.Core.List.{List, [], _∷_}
 use Prim.Native.Nat.{ℕ, zero, suc}
-use Rattle.refusal_sentences.specs.Sentences.{Row, _says_, sentences, sentenceIn, sentence, asciiBytes}
+use Rattle.text_pages.specs.Pages.{asciiBytes}
+use Rattle.refusal_sentences.specs.Sentences.{Row, _says_, sentences, sentenceIn, sentence}
 
 -- the numbers of some rows
-abbrev numbersOf : List Row → List ℕ
+abbrev pub numbersOf : List Row → List ℕ
 numbersOf [] = []
 numbersOf ((n says text) ∷ rows) = n ∷ numbersOf rows
 
 -- n numbers that follow each other, the first being k
-abbrev counted : ℕ → ℕ → List ℕ
+abbrev pub counted : ℕ → ℕ → List ℕ
 counted zero k = []
 counted (suc n) k = k ∷ counted n (suc k)
 

@@ -4,10 +4,8 @@
 use mathlib.Core.Bool.{cond}
 use mathlib.Core.List.{List, [], _∷_}
 use Prim.Native.Nat.{ℕ}
-use Prim.Native.Char.{code}
-use Prim.Native.String.{String, [] as []ˢ, _∷_ as _∷ˢ_}
+use Prim.Native.String.{String}
 use lib.Dec.{eqb}
-use lib.ListN.{drop}
 use Rattle.refusals.specs.Numbers.{inobtcountAlone, blockNoPower, blockOf512, blockTooLarge, badSector, blockBelowSector, sectorBelowLogical, badInode, sizeAboveDevice, tooFewBlocks, agsizeNoMultiple, agsizeZero, agcountZero, lastGroupShort, groupTooSmall, groupTooLarge, groupAboveDisk, tooManyGroups, imaxpctAbove100, labelTooLong, diskTooSmall, logTooSmall, tooFewGroups, agcountUnlike, freeListShort, timeOutOfRange, wrongLength, malformed, noPlace, notLeft, noAnswer, notValid, notFree, tooManyRecords, sunitTooLarge, badRange, notInProfile, noneReaches, badSizes, areaTooSmall, tooManyDisks, notHoldable, notHeld}
 
 -- a number beside its sentence
@@ -76,11 +74,11 @@ sentenceIn ((m says text) ∷ rows) n = cond (eqb n m) text (sentenceIn rows n)
 abbrev pub sentence : ℕ → String
 sentence n = sentenceIn sentences n
 
--- the same without the first k rows
-abbrev pub sentenceFrom : ℕ → ℕ → String
-sentenceFrom k n = sentenceIn (drop k sentences) n
+-- the texts of some rows
+unfoldable pub textsOf : List Row → List String
+textsOf [] = []
+textsOf ((n says text) ∷ rows) = text ∷ textsOf rows
 
--- the bytes of a text in ASCII
-unfoldable pub asciiBytes : String → List ℕ
-asciiBytes []ˢ = []
-asciiBytes (c ∷ˢ s) = code c ∷ asciiBytes s
+-- THE PAGE'S LINES: line n is the sentence of n, line 0 that of a number that has none
+unfoldable pub texts : List String
+texts = unknownNumber ∷ textsOf sentences

@@ -20,7 +20,7 @@ use Rattle.params.specs.declared.OptU64.{OptU64}
 use Rattle.params.specs.declared.OptU64.the-variants.{Absent, Given}
 use Rattle.request_input.specs.Records.{optionBits, optionFits, recordKnown, valueWith as lookupRecord, sound, startsWithDevice, records, wellFormed}
 use Rattle.request_words.specs.declared.Word.{Word}
-use Rattle.request_words.specs.Values.{largestValues}
+use Rattle.request_words.specs.Values.{labelKey, sizeKey, logicalKey, physicalKey, uuidKey, codes, largestValues}
 use Rattle.request_words.specs.Words.{wordWith, given, wordsFrom}
 use Rattle.request_words.specs.Asked.{pairs, deviceRecord, optionRecord, optionRecords, labelWordText, labelRecord, uuidRecord, wordsRequest}
 use Rattle.request_words.proofs.Writing.{found-small, length-pairs}
@@ -127,7 +127,7 @@ uuid-given true pre bytes post h = ap (λ (u : List ℕ). record { presence = Ye
 uuid-given false pre bytes post h = refl
 
 -- ---- numbers fit their options
-fits-code : (code v : ℕ) → 1 ≤ code → code ≤ 12 → v ≤ getD largestValues code 0 → optionFits code v ≡ true
+fits-code : (code v : ℕ) → 1 ≤ code → code ≤ codes → v ≤ getD largestValues code 0 → optionFits code v ≡ true
 unfolding optionFits optionBits largestValues
 fits-code zero v a b h = absurd (omega arith)
 fits-code (suc zero) v a b h = lt-ltb v (2 ^ 64) (omega arith)
@@ -142,9 +142,10 @@ fits-code (suc (suc (suc (suc (suc (suc (suc (suc (suc zero))))))))) v a b h = l
 fits-code (suc (suc (suc (suc (suc (suc (suc (suc (suc (suc zero)))))))))) v a b h = lt-ltb v (2 ^ 64) (omega arith)
 fits-code (suc (suc (suc (suc (suc (suc (suc (suc (suc (suc (suc zero))))))))))) v a b h = lt-ltb v (2 ^ 32) (omega arith)
 fits-code (suc (suc (suc (suc (suc (suc (suc (suc (suc (suc (suc (suc zero)))))))))))) v a b h = lt-ltb v (2 ^ 1) (omega arith)
-fits-code (suc (suc (suc (suc (suc (suc (suc (suc (suc (suc (suc (suc (suc n))))))))))))) v a b h = absurd (omega arith)
+fits-code (suc (suc (suc (suc (suc (suc (suc (suc (suc (suc (suc (suc (suc zero))))))))))))) v a b h = lt-ltb v (2 ^ 1) (omega arith)
+fits-code (suc (suc (suc (suc (suc (suc (suc (suc (suc (suc (suc (suc (suc (suc n)))))))))))))) v a b h = absurd (omega arith)
 
-below-64 : (code v : ℕ) → code ≤ 12 → v ≤ getD largestValues code 0 → v < 2 ^ 64
+below-64 : (code v : ℕ) → code ≤ codes → v ≤ getD largestValues code 0 → v < 2 ^ 64
 unfolding largestValues
 below-64 zero v b h = omega arith
 below-64 (suc zero) v b h = omega arith
@@ -159,7 +160,8 @@ below-64 (suc (suc (suc (suc (suc (suc (suc (suc (suc zero))))))))) v b h = omeg
 below-64 (suc (suc (suc (suc (suc (suc (suc (suc (suc (suc zero)))))))))) v b h = omega arith
 below-64 (suc (suc (suc (suc (suc (suc (suc (suc (suc (suc (suc zero))))))))))) v b h = omega arith
 below-64 (suc (suc (suc (suc (suc (suc (suc (suc (suc (suc (suc (suc zero)))))))))))) v b h = omega arith
-below-64 (suc (suc (suc (suc (suc (suc (suc (suc (suc (suc (suc (suc (suc n))))))))))))) v b h = absurd (omega arith)
+below-64 (suc (suc (suc (suc (suc (suc (suc (suc (suc (suc (suc (suc (suc zero))))))))))))) v b h = omega arith
+below-64 (suc (suc (suc (suc (suc (suc (suc (suc (suc (suc (suc (suc (suc (suc n)))))))))))))) v b h = absurd (omega arith)
 
 -- ---- the words' pieces
 module _ (xs : List ℕ) where
@@ -181,7 +183,7 @@ module _ (xs : List ℕ) where
       kept-joined (given code (wordsFrom 0 xs)) (option-piece code (value-of code)) (option-pieces n (code + 1) rest)
       ∙ rw (options-joined n (code + 1) rest) (sym (append-assoc (optionRecord code (wordsFrom 0 xs)) (optionRecords n (code + 1) (wordsFrom 0 xs)) (joined rest)))
 
-  options-all : (n code : ℕ) (rest : List Piece) → code + n ≤ 13 → All rest → All (option-pieces n code rest)
+  options-all : (n code : ℕ) (rest : List Piece) → code + n ≤ codes + 1 → All rest → All (option-pieces n code rest)
   unfolding option-pieces
   options-all zero code rest h a = a
   options-all (suc n) code rest h a =
@@ -201,7 +203,7 @@ module _ (xs : List ℕ) where
       let e : 3 + code - 3 ≡ code = omega arith in
       rw (le-ltb (3 + code) 3 (omega arith), e, f)
 
-  options-good : (n code : ℕ) (rest : List Piece) → 1 ≤ code → code + n ≤ 13 → ((key : ℕ) → 3 ≤ key → Fresh key rest) → Good rest → Good (option-pieces n code rest)
+  options-good : (n code : ℕ) (rest : List Piece) → 1 ≤ code → code + n ≤ codes + 1 → ((key : ℕ) → 3 ≤ key → Fresh key rest) → Good rest → Good (option-pieces n code rest)
   unfolding option-pieces
   options-good zero code rest b h f g = g
   options-good (suc n) code rest b h f g =
@@ -211,66 +213,66 @@ module _ (xs : List ℕ) where
       (options-good n (code + 1) rest (omega arith) (omega arith) f g)
 
   uuid-text : List ℕ
-  uuid-text = pairs 16 0 (wordWith 16 (wordsFrom 0 xs) .from) xs
+  uuid-text = pairs 16 0 (wordWith uuidKey (wordsFrom 0 xs) .from) xs
 
   label-flag : Bool
-  label-flag = given 0 (wordsFrom 0 xs)
+  label-flag = given labelKey (wordsFrom 0 xs)
 
   uuid-flag : Bool
-  uuid-flag = eqb (wordWith 16 (wordsFrom 0 xs) .value) 1
+  uuid-flag = eqb (wordWith uuidKey (wordsFrom 0 xs) .value) 1
 
   names : List Piece
-  names = kept label-flag (label-piece (labelWordText (wordWith 0 (wordsFrom 0 xs)) xs)) (kept uuid-flag (uuid-piece uuid-text) [])
+  names = kept label-flag (label-piece (labelWordText (wordWith labelKey (wordsFrom 0 xs)) xs)) (kept uuid-flag (uuid-piece uuid-text) [])
 
   device : Piece
-  device = device-piece (value-of 13) (value-of 14) (value-of 15)
+  device = device-piece (value-of sizeKey) (value-of logicalKey) (value-of physicalKey)
 
   pieces : List Piece
-  pieces = device ∷ option-pieces 12 1 names
+  pieces = device ∷ option-pieces codes 1 names
 
   names-joined : joined names ≡ labelRecord (wordsFrom 0 xs) xs ++ uuidRecord (wordsFrom 0 xs) xs
   unfolding names label-flag uuid-flag uuid-text labelRecord uuidRecord joined
   names-joined =
-      kept-joined label-flag (label-piece (labelWordText (wordWith 0 (wordsFrom 0 xs)) xs)) (kept uuid-flag (uuid-piece uuid-text) [])
+      kept-joined label-flag (label-piece (labelWordText (wordWith labelKey (wordsFrom 0 xs)) xs)) (kept uuid-flag (uuid-piece uuid-text) [])
       ∙ ap (λ (l : List ℕ). labelRecord (wordsFrom 0 xs) xs ++ l) (kept-joined uuid-flag (uuid-piece uuid-text) [] ∙ append-nil (uuidRecord (wordsFrom 0 xs) xs))
 
   all-joined : joined pieces ≡ wordsRequest xs
   unfolding pieces device value-of wordsRequest deviceRecord joined
-  all-joined = ap (λ (l : List ℕ). deviceRecord (wordsFrom 0 xs) ++ l) (options-joined 12 1 names ∙ ap (λ (l : List ℕ). optionRecords 12 1 (wordsFrom 0 xs) ++ l) names-joined)
+  all-joined = ap (λ (l : List ℕ). deviceRecord (wordsFrom 0 xs) ++ l) (options-joined codes 1 names ∙ ap (λ (l : List ℕ). optionRecords codes 1 (wordsFrom 0 xs) ++ l) names-joined)
 
   names-all : All names
   unfolding names uuid-text
   names-all =
-      kept-all label-flag (label-piece (labelWordText (wordWith 0 (wordsFrom 0 xs)) xs)) (kept uuid-flag (uuid-piece uuid-text) [])
-      (λ e. label-reads (labelWordText (wordWith 0 (wordsFrom 0 xs)) xs))
-      (kept-all uuid-flag (uuid-piece uuid-text) [] (λ e. uuid-reads uuid-text (length-pairs 16 0 (wordWith 16 (wordsFrom 0 xs) .from) xs)) tt)
+      kept-all label-flag (label-piece (labelWordText (wordWith labelKey (wordsFrom 0 xs)) xs)) (kept uuid-flag (uuid-piece uuid-text) [])
+      (λ e. label-reads (labelWordText (wordWith labelKey (wordsFrom 0 xs)) xs))
+      (kept-all uuid-flag (uuid-piece uuid-text) [] (λ e. uuid-reads uuid-text (length-pairs 16 0 (wordWith uuidKey (wordsFrom 0 xs) .from) xs)) tt)
 
   names-fresh : (key : ℕ) → 3 ≤ key → Fresh key names
   unfolding names
   names-fresh key h =
-      kept-fresh key label-flag (label-piece (labelWordText (wordWith 0 (wordsFrom 0 xs)) xs)) (kept uuid-flag (uuid-piece uuid-text) []) (λ e. omega arith)
+      kept-fresh key label-flag (label-piece (labelWordText (wordWith labelKey (wordsFrom 0 xs)) xs)) (kept uuid-flag (uuid-piece uuid-text) []) (λ e. omega arith)
       (kept-fresh key uuid-flag (uuid-piece uuid-text) [] (λ e. omega arith) tt)
 
   names-good : Good names
   unfolding names
   names-good =
-      kept-good label-flag (label-piece (labelWordText (wordWith 0 (wordsFrom 0 xs)) xs)) (kept uuid-flag (uuid-piece uuid-text) []) (λ e at. refl)
+      kept-good label-flag (label-piece (labelWordText (wordWith labelKey (wordsFrom 0 xs)) xs)) (kept uuid-flag (uuid-piece uuid-text) []) (λ e at. refl)
       (kept-fresh 1 uuid-flag (uuid-piece uuid-text) [] (λ e. omega arith) tt)
       (kept-good uuid-flag (uuid-piece uuid-text) [] (λ e at. refl) tt tt)
 
   all-read : All pieces
   unfolding pieces device
-  all-read = (device-reads (value-of 13) (value-of 14) (value-of 15), options-all 12 1 names (omega arith) names-all)
+  all-read = (device-reads (value-of sizeKey) (value-of logicalKey) (value-of physicalKey), options-all codes 1 names (omega arith) names-all)
 
   zero-fresh : Fresh 0 names
   unfolding names
   zero-fresh =
-      kept-fresh 0 label-flag (label-piece (labelWordText (wordWith 0 (wordsFrom 0 xs)) xs)) (kept uuid-flag (uuid-piece uuid-text) []) (λ e. omega arith)
+      kept-fresh 0 label-flag (label-piece (labelWordText (wordWith labelKey (wordsFrom 0 xs)) xs)) (kept uuid-flag (uuid-piece uuid-text) []) (λ e. omega arith)
       (kept-fresh 0 uuid-flag (uuid-piece uuid-text) [] (λ e. omega arith) tt)
 
   all-good : Good pieces
   unfolding pieces device
-  all-good = ((λ at. refl), options-fresh 0 12 1 names (omega arith) zero-fresh, options-good 12 1 names (omega arith) (omega arith) names-fresh names-good)
+  all-good = ((λ at. refl), options-fresh 0 codes 1 names (omega arith) zero-fresh, options-good codes 1 names (omega arith) (omega arith) names-fresh names-good)
 
   words-records : records 0 (wordsRequest xs) ≡ entries 0 pieces
   words-records = rw (sym all-joined) (records-are [] pieces all-read)
@@ -298,11 +300,11 @@ module _ (xs : List ℕ) where
   options-found k (suc n) code rest a b f at =
       found-turn k n code rest at a (lt-or-le code k) (λ l. options-found k n (code + 1) rest (omega arith) (omega arith) f) f
 
-  pieces-found : (k : ℕ) → 1 ≤ k → k ≤ 12 → lookupRecord (3 + k) (entries 0 pieces) ≡ asked k
+  pieces-found : (k : ℕ) → 1 ≤ k → k ≤ codes → lookupRecord (3 + k) (entries 0 pieces) ≡ asked k
   unfolding pieces device entries lookupRecord
   pieces-found k a b =
       rw (ne-eqb (3 + k) 0 (λ e. omega arith))
-      (options-found k 12 1 names a (omega arith) (names-fresh (3 + k) (omega arith)) (0 + length (device-piece (value-of 13) (value-of 14) (value-of 15) .bytes)))
+      (options-found k codes 1 names a (omega arith) (names-fresh (3 + k) (omega arith)) (0 + length (device-piece (value-of sizeKey) (value-of logicalKey) (value-of physicalKey) .bytes)))
 
   options-passed : (key n code : ℕ) (rest : List Piece) → key < 3 + code → (at : ℕ)
       → lookupRecord key (entries at (option-pieces n code rest)) ≡ lookupRecord key (entries (at + length (optionRecords n code (wordsFrom 0 xs))) rest)
@@ -315,23 +317,23 @@ module _ (xs : List ℕ) where
 
   -- what stands before label and UUID
   before : List ℕ
-  before = deviceRecord (wordsFrom 0 xs) ++ optionRecords 12 1 (wordsFrom 0 xs)
+  before = deviceRecord (wordsFrom 0 xs) ++ optionRecords codes 1 (wordsFrom 0 xs)
 
   behind : wordsRequest xs ≡ before ++ (labelRecord (wordsFrom 0 xs) xs ++ uuidRecord (wordsFrom 0 xs) xs)
   unfolding wordsRequest before
-  behind = sym (append-assoc (deviceRecord (wordsFrom 0 xs)) (optionRecords 12 1 (wordsFrom 0 xs)) (labelRecord (wordsFrom 0 xs) xs ++ uuidRecord (wordsFrom 0 xs) xs))
+  behind = sym (append-assoc (deviceRecord (wordsFrom 0 xs)) (optionRecords codes 1 (wordsFrom 0 xs)) (labelRecord (wordsFrom 0 xs) xs ++ uuidRecord (wordsFrom 0 xs) xs))
 
   names-found : (key : ℕ) → 1 ≤ key → key ≤ 2 → lookupRecord key (records 0 (wordsRequest xs)) ≡ lookupRecord key (entries (length before) names)
   unfolding pieces device entries lookupRecord before deviceRecord value-of
   names-found key a b =
-      let d = length (dv (value-of 13) (value-of 14) (value-of 15)) in
-      let o = length (optionRecords 12 1 (wordsFrom 0 xs)) in
-      let l : 0 + d + o ≡ length before = rw (length-append (dv (value-of 13) (value-of 14) (value-of 15)) (optionRecords 12 1 (wordsFrom 0 xs))) (omega arith) in
+      let d = length (dv (value-of sizeKey) (value-of logicalKey) (value-of physicalKey)) in
+      let o = length (optionRecords codes 1 (wordsFrom 0 xs)) in
+      let l : 0 + d + o ≡ length before = rw (length-append (dv (value-of sizeKey) (value-of logicalKey) (value-of physicalKey)) (optionRecords codes 1 (wordsFrom 0 xs))) (omega arith) in
       rw (words-records, ne-eqb key 0 (λ e. omega arith))
-      (options-passed key 12 1 names (omega arith) (0 + d) ∙ ap (λ (k : ℕ). lookupRecord key (entries k names)) l)
+      (options-passed key codes 1 names (omega arith) (0 + d) ∙ ap (λ (k : ℕ). lookupRecord key (entries k names)) l)
 
   label-text : List ℕ
-  label-text = labelWordText (wordWith 0 (wordsFrom 0 xs)) xs
+  label-text = labelWordText (wordWith labelKey (wordsFrom 0 xs)) xs
 
   label-short : length label-text ≤ 12
   unfolding label-text
@@ -355,24 +357,24 @@ module _ (xs : List ℕ) where
       (names-found 2 (omega arith) (omega arith) ∙ uuid-found label-flag uuid-flag label-text uuid-text (length before)
       ∙ ap (λ (k : ℕ). cond uuid-flag (Given (k + 2)) Absent) l)
       ∙ ap (uuidGiven (cond uuid-flag (Given (length pre + 2)) Absent)) w
-      ∙ uuid-given uuid-flag pre uuid-text [] (length-pairs 16 0 (wordWith 16 ws .from) xs)
+      ∙ uuid-given uuid-flag pre uuid-text [] (length-pairs 16 0 (wordWith uuidKey ws .from) xs)
 
-  found-asked : (k : ℕ) → 1 ≤ k → k ≤ 12 → lookupRecord (3 + k) (records 0 (wordsRequest xs)) ≡ optionAsked k (wordsFrom 0 xs)
+  found-asked : (k : ℕ) → 1 ≤ k → k ≤ codes → lookupRecord (3 + k) (records 0 (wordsRequest xs)) ≡ optionAsked k (wordsFrom 0 xs)
   unfolding asked value-of
   found-asked k a b = rw words-records (pieces-found k a b)
 
-  device-read : given 13 (wordsFrom 0 xs) ≡ true → given 14 (wordsFrom 0 xs) ≡ true → given 15 (wordsFrom 0 xs) ≡ true
-      → (beAt 8 2 (wordsRequest xs) ≡ value-of 13) × (beAt 4 10 (wordsRequest xs) ≡ value-of 14) × (beAt 4 14 (wordsRequest xs) ≡ value-of 15)
+  device-read : given sizeKey (wordsFrom 0 xs) ≡ true → given logicalKey (wordsFrom 0 xs) ≡ true → given physicalKey (wordsFrom 0 xs) ≡ true
+      → (beAt 8 2 (wordsRequest xs) ≡ value-of sizeKey) × (beAt 4 10 (wordsRequest xs) ≡ value-of logicalKey) × (beAt 4 14 (wordsRequest xs) ≡ value-of physicalKey)
   unfolding wordsRequest deviceRecord dv beBytes value-of largestValues
   device-read a b c =
       let ws = wordsFrom 0 xs in
-      let size = wordWith 13 ws .value in
-      let logical = wordWith 14 ws .value in
-      let physical = wordWith 15 ws .value in
-      let rest = optionRecords 12 1 ws ++ (labelRecord ws xs ++ uuidRecord ws xs) in
-      let h = value-small 13 a in
-      let i = value-small 14 b in
-      let j = value-small 15 c in (
+      let size = wordWith sizeKey ws .value in
+      let logical = wordWith logicalKey ws .value in
+      let physical = wordWith physicalKey ws .value in
+      let rest = optionRecords codes 1 ws ++ (labelRecord ws xs ++ uuidRecord ws xs) in
+      let h = value-small sizeKey a in
+      let i = value-small logicalKey b in
+      let j = value-small physicalKey c in (
         field-at 8 size 2 [] (68 ∷ 86 ∷ []) (beBytes 4 logical ++ (beBytes 4 physical ++ rest)) refl (omega arith),
         field-at 4 logical 10 [] (68 ∷ 86 ∷ beBytes 8 size) (beBytes 4 physical ++ rest) refl (omega arith),
         field-at 4 physical 14 [] (68 ∷ 86 ∷ (beBytes 8 size ++ beBytes 4 logical)) rest refl (omega arith),

@@ -16,6 +16,7 @@ use Rattle.params.specs.Params.{noLabel, noUuid}
 use Rattle.request_input.specs.Records.{wellFormed, label, uuid, option, records, valueWith as lookupRecord}
 use Rattle.request.specs.Options.{labelGiven, uuidGiven}
 use Rattle.request_words.specs.declared.Word.{Word}
+use Rattle.request_words.specs.Values.{labelKey, sizeKey, logicalKey, physicalKey, uuidKey, codes}
 use Rattle.request_words.specs.Words.{wordWith, given, wordsFrom}
 use Rattle.request_words.specs.Asked.{pairs, labelWordText, wordsRequest}
 
@@ -29,25 +30,27 @@ optionAsked code ws = cond (given code ws) (Given (wordWith code ws .value)) Abs
 
 -- each option that is read back is the word's, and absent where there is no word
 unfoldable pub OptionsReadBack : Type 0
-OptionsReadBack = (xs : List ℕ) (code : ℕ) → 1 ≤ code → code ≤ 12
+OptionsReadBack = (xs : List ℕ) (code : ℕ) → 1 ≤ code → code ≤ codes
     → lookupRecord (option code) (records 0 (wordsRequest xs)) ≡ optionAsked code (wordsFrom 0 xs)
 
 -- so are the device's size and sectors, which no accepted words lack
 unfoldable pub DeviceReadBack : Type 0
-DeviceReadBack = (xs : List ℕ) → given 13 (wordsFrom 0 xs) ≡ true → given 14 (wordsFrom 0 xs) ≡ true → given 15 (wordsFrom 0 xs) ≡ true
-    → (beAt 8 2 (wordsRequest xs) ≡ wordWith 13 (wordsFrom 0 xs) .value)
-    × (beAt 4 10 (wordsRequest xs) ≡ wordWith 14 (wordsFrom 0 xs) .value)
-    × (beAt 4 14 (wordsRequest xs) ≡ wordWith 15 (wordsFrom 0 xs) .value)
+DeviceReadBack = (xs : List ℕ) → given sizeKey (wordsFrom 0 xs) ≡ true → given logicalKey (wordsFrom 0 xs) ≡ true
+    → given physicalKey (wordsFrom 0 xs) ≡ true
+    → (beAt 8 2 (wordsRequest xs) ≡ wordWith sizeKey (wordsFrom 0 xs) .value)
+    × (beAt 4 10 (wordsRequest xs) ≡ wordWith logicalKey (wordsFrom 0 xs) .value)
+    × (beAt 4 14 (wordsRequest xs) ≡ wordWith physicalKey (wordsFrom 0 xs) .value)
 
 -- the label that a word gives: its length, and its bytes filled up with zeros
 abbrev pub labelAsked : List Word → List ℕ → Label
 labelAsked ws xs =
-    let text = labelWordText (wordWith 0 ws) xs in
-    cond (given 0 ws) (record { length = length text; bytes = text ++ replicate (12 - length text) 0 }) noLabel
+    let text = labelWordText (wordWith labelKey ws) xs in
+    cond (given labelKey ws) (record { length = length text; bytes = text ++ replicate (12 - length text) 0 }) noLabel
 
 -- the UUID that a word gives: the bytes that its pairs of digits are
 abbrev pub uuidAsked : List Word → List ℕ → OptUuid
-uuidAsked ws xs = cond (eqb (wordWith 16 ws .value) 1) (record { presence = Yes; bytes = pairs 16 0 (wordWith 16 ws .from) xs }) noUuid
+uuidAsked ws xs = cond (eqb (wordWith uuidKey ws .value) 1)
+    (record { presence = Yes; bytes = pairs 16 0 (wordWith uuidKey ws .from) xs }) noUuid
 
 -- the label that is read back is the word's, and there is none where there is no word
 unfoldable pub LabelReadBack : Type 0

@@ -13,16 +13,9 @@ use lib.Seq.{drop-cons}
 use borrow.Author.Tests.{lt-ltb, le-ltb, le-leb, lt-leb, eq-eqb, ne-eqb, ltb-true, ltb-false}
 use Rattle.seqs.specs.Lists.{firstIndex, fold}
 use Rattle.table_lines.specs.Decimal.{valueAfter}
+use Rattle.text_pages.proofs.Places.{rest-cons, rest-nil}
 use Rattle.request_texts.specs.declared.Value.{Value}
 use Rattle.request_texts.specs.Texts.{said, goodValue, malformedValue, tooLarge, within, letter, notName, named, packedName, isDigit, leading, suffix, factor, numberText}
-
--- ---- the rest of a list, from index i on
-module _ {A : Type 0} (xs : List A) (z : A) (i : ℕ) where
-  pub rest-cons : i < length xs → drop i xs ≡ getD xs i z ∷ drop (i + 1) xs
-  rest-cons h = rw add-one (drop-cons xs i z h)
-
-pub rest-nil : {A : Type 0} (xs : List A) (i : ℕ) → length xs ≤ i → drop i xs ≡ []
-rest-nil xs i h = drop-of-length-le xs h
 
 -- ---- a loop over a whole list
 module _ {S : Type 0} (f : S → ℕ → S) (s : S) (xs : List ℕ) (i : ℕ) where
@@ -33,19 +26,6 @@ module _ {S : Type 0} (f : S → ℕ → S) (s : S) (xs : List ℕ) (i : ℕ) wh
   pub fold-done : length xs ≤ i → fold f s (drop i xs) ≡ s
   unfolding fold
   fold-done h = rw (rest-nil xs i h)
-
-module _ (p : ℕ → Bool) (xs : List ℕ) (i : ℕ) where
-  pub index-here : i < length xs → p (getD xs i 0) ≡ true → i + firstIndex p (drop i xs) ≡ i
-  unfolding firstIndex
-  index-here h e = rw (rest-cons xs 0 i h, e, add-zero)
-
-  pub index-later : i < length xs → p (getD xs i 0) ≡ false → i + firstIndex p (drop i xs) ≡ i + 1 + firstIndex p (drop (i + 1) xs)
-  unfolding firstIndex
-  index-later h e = rw (rest-cons xs 0 i h, e) (omega arith)
-
-  pub index-past : length xs ≤ i → i + firstIndex p (drop i xs) ≡ i
-  unfolding firstIndex
-  index-past h = rw (rest-nil xs i h, add-zero)
 
 -- ---- a letter, a byte more of a name
 module _ (b x : ℕ) (e : x ≡ b) where

@@ -13,8 +13,8 @@ use Rattle.arith.specs.Choice.{when}
 use Rattle.request_texts.specs.declared.Value.{Value}
 use Rattle.request_words.specs.declared.Names.{Names}
 use Rattle.request_texts.specs.Texts.{goodValue, malformedValue, tooLarge, named, packedName, numberText}
-use Rattle.request_words.specs.Values.{indexIn, names, largestValues, featureNames, weights, noFeatureList, turned, featuresRead, lastFeature, nextByte, featureMask, noneName, allName, featuresText, sizings, sizingIn, hex, isDash, fitsAt, shaped, uuidIn, valueIn, limited}
-use Rattle.request_texts.proofs.Saying.{rest-cons, rest-nil}
+use Rattle.request_words.specs.Values.{labelKey, featuresKey, sizingKey, profileKey, uuidKey, noKey, indexIn, names, largestValues, featureNames, weights, noFeatureList, turned, featuresRead, lastFeature, nextByte, featureMask, noneName, allName, featuresText, sizings, sizingIn, stationName, profileIn, hex, isDash, fitsAt, shaped, uuidIn, valueIn, limited}
+use Rattle.text_pages.proofs.Places.{rest-cons, rest-nil}
 
 -- ---- tables
 pub no-weight : (bit : ℕ) → 7 ≤ bit → 0 ≡ getD weights bit 0
@@ -32,7 +32,7 @@ weight-small (suc (suc (suc (suc (suc zero))))) = omega arith
 weight-small (suc (suc (suc (suc (suc (suc zero)))))) = omega arith
 weight-small (suc (suc (suc (suc (suc (suc (suc n))))))) = omega arith
 
-pub no-largest : (key : ℕ) → 17 ≤ key → 0 ≡ getD largestValues key 0
+pub no-largest : (key : ℕ) → noKey ≤ key → 0 ≡ getD largestValues key 0
 unfolding largestValues
 no-largest key h = sym (List·getD-eq-default largestValues 0 h)
 
@@ -91,6 +91,16 @@ module _ (text : List ℕ) (i : ℕ) (at : i ≡ indexIn sizings (packedName tex
   pub sizing-bad : 2 ≤ i → malformedValue ≡ sizingIn text
   unfolding sizingIn
   sizing-bad h = rw (← at, le-ltb i 2 h)
+
+-- ---- the profile
+module _ (text : List ℕ) (name : ℕ) (is : name ≡ packedName text) where
+  pub profile-is : name ≡ stationName → goodValue 1 ≡ profileIn text
+  unfolding profileIn
+  profile-is h = rw (← is, eq-eqb name stationName h)
+
+  pub profile-bad : (name ≡ stationName → ⊥) → malformedValue ≡ profileIn text
+  unfolding profileIn
+  profile-bad ne = rw (← is, ne-eqb name stationName ne)
 
 -- ---- the UUID
 module _ (b : ℕ) where
@@ -197,25 +207,29 @@ module _ (text : List ℕ) (name : ℕ) (is : name ≡ packedName text) where
 
 -- ---- by the key
 module _ (key : ℕ) (text : List ℕ) where
-  pub of-label : key ≡ 0 → goodValue (length text) ≡ valueIn key text
+  pub of-label : key ≡ labelKey → goodValue (length text) ≡ valueIn key text
   unfolding valueIn
-  of-label e = rw (eq-eqb key 0 e)
+  of-label e = rw (eq-eqb key labelKey e)
 
-  pub of-features : key ≡ 9 → featuresText text ≡ valueIn key text
+  pub of-features : key ≡ featuresKey → featuresText text ≡ valueIn key text
   unfolding valueIn
   of-features e = rw e
 
-  pub of-sizing : key ≡ 12 → sizingIn text ≡ valueIn key text
+  pub of-sizing : key ≡ sizingKey → sizingIn text ≡ valueIn key text
   unfolding valueIn
   of-sizing e = rw e
 
-  pub of-uuid : key ≡ 16 → uuidIn text ≡ valueIn key text
+  pub of-profile : key ≡ profileKey → profileIn text ≡ valueIn key text
+  unfolding valueIn
+  of-profile e = rw e
+
+  pub of-uuid : key ≡ uuidKey → uuidIn text ≡ valueIn key text
   unfolding valueIn
   of-uuid e = rw e
 
-  pub of-number : (key ≡ 0 → ⊥) → (key ≡ 9 → ⊥) → (key ≡ 12 → ⊥) → (key ≡ 16 → ⊥) → numberText text ≡ valueIn key text
+  pub of-number : (key ≡ labelKey → ⊥) → (key ≡ featuresKey → ⊥) → (key ≡ sizingKey → ⊥) → (key ≡ profileKey → ⊥) → (key ≡ uuidKey → ⊥) → numberText text ≡ valueIn key text
   unfolding valueIn
-  of-number a b c d = rw (ne-eqb key 0 a, ne-eqb key 9 b, ne-eqb key 12 c, ne-eqb key 16 d)
+  of-number a b c d e = rw (ne-eqb key labelKey a, ne-eqb key featuresKey b, ne-eqb key sizingKey c, ne-eqb key profileKey d, ne-eqb key uuidKey e)
 
 module _ (key : ℕ) (v w : Value) (e : v ≡ w) (m : ℕ) (of : m ≡ getD largestValues key 0) where
   pub limited-is : v .value ≤ m → v ≡ limited key w

@@ -15,22 +15,23 @@ use Rattle.request_texts.specs.declared.Value.{Value}
 use Rattle.request_words.specs.declared.Word.{Word}
 use Rattle.request_words.specs.declared.Verdict.{Verdict}
 use Rattle.request_texts.specs.Texts.{packedName}
-use Rattle.request_words.specs.Values.{indexIn, names, valueIn, limited}
-use Rattle.request_words.specs.Words.{unknownName, twice, missing, noKey, placeOfByte, word, noWord, withValue, meant, wordBy, wordAt, wordThen, splitWords, wordsFrom, wordWith, given, verdict, judged, complete, wordsVerdict}
+use Rattle.text_pages.specs.Pages.{placeOfByte}
+use Rattle.request_words.specs.Values.{sizeKey, logicalKey, physicalKey, uuidKey, noKey, indexIn, names, valueIn, limited}
+use Rattle.request_words.specs.Words.{unknownName, twice, missing, word, noWord, withValue, meant, wordBy, wordAt, wordThen, splitWords, wordsFrom, wordWith, given, verdict, right, judged, complete, wordsVerdict}
 
 -- ---- one word
 module _ (key from end next : ℕ) (xs : List ℕ) where
-  pub meant-known : key < 17 → (v : Value) → v ≡ limited key (valueIn key (part from (end - from) xs)) → withValue key v from end next ≡ meant key from end next xs
+  pub meant-known : key < noKey → (v : Value) → v ≡ limited key (valueIn key (part from (end - from) xs)) → withValue key v from end next ≡ meant key from end next xs
   unfolding meant
-  meant-known h v e = rw (lt-ltb key 17 h, e)
+  meant-known h v e = rw (lt-ltb key noKey h, e)
 
-  pub meant-unknown : 17 ≤ key → word unknownName noKey 0 from end next ≡ meant key from end next xs
+  pub meant-unknown : noKey ≤ key → word unknownName noKey 0 from end next ≡ meant key from end next xs
   unfolding meant
-  meant-unknown h = rw (le-ltb key 17 h)
+  meant-unknown h = rw (le-ltb key noKey h)
 
   meant-next : meant key from end next xs .next ≡ next
   unfolding meant
-  meant-next = choose-elim (λ (w : Word). w .next ≡ next) (ltb key 17) _ _ (λ e. refl) (λ e. refl)
+  meant-next = choose-elim (λ (w : Word). w .next ≡ next) (ltb key noKey) _ _ (λ e. refl) (λ e. refl)
 
 module _ (at : ℕ) (xs : List ℕ) (h : at < length xs) where
   next-by : (end eq : ℕ) → wordBy at end eq xs .next ≡ min (end + 1) (length xs)
@@ -105,12 +106,12 @@ module _ (at : ℕ) (xs : List ℕ) (w : Word) (here : w ≡ wordAt at xs) (h : 
     lookup-later ne = rw (this, ne-eqb (w .key) key ne) refl
 
   module _ (i : ℕ) where
-    pub judged-wrong : (w .number ≡ 0 → ⊥) → judged i (wordsFrom at xs) ≡ verdict (w .number) i
+    pub judged-wrong : (w .number ≡ 0 → ⊥) → judged i (wordsFrom at xs) ≡ verdict (w .number) i (w .key)
     unfolding judged
     judged-wrong ne = rw (this, ne-eqb (w .number) 0 ne) refl
 
     module _ (again : Word) (found : again ≡ wordWith (w .key) (wordsFrom (w .next) xs)) (z : w .number ≡ 0) where
-      pub judged-twice : again .key ≡ w .key → judged i (wordsFrom at xs) ≡ verdict twice i
+      pub judged-twice : again .key ≡ w .key → judged i (wordsFrom at xs) ≡ verdict twice i (w .key)
       unfolding judged
       judged-twice e = rw (this, eq-eqb (w .number) 0 z, ← found, eq-eqb (again .key) (w .key) e) refl
 
@@ -122,7 +123,7 @@ pub lookup-end : (key at : ℕ) (xs : List ℕ) → length xs ≤ at → wordWit
 unfolding wordWith
 lookup-end key at xs h = rw (words-end xs at h) refl
 
-pub judged-end : (i at : ℕ) (xs : List ℕ) → length xs ≤ at → judged i (wordsFrom at xs) ≡ verdict 0 0
+pub judged-end : (i at : ℕ) (xs : List ℕ) → length xs ≤ at → judged i (wordsFrom at xs) ≡ right
 unfolding judged
 judged-end i at xs h = rw (words-end xs at h) refl
 
@@ -137,25 +138,25 @@ module _ (xs : List ℕ) (v : Verdict) (by : v ≡ judged 0 (wordsFrom 0 xs)) wh
   verdict-good z = rw (← by, eq-eqb (v .number) 0 z)
 
 module _ (ws : List Word) where
-  pub without-size : given 13 ws ≡ false → verdict missing 13 ≡ complete ws
+  pub without-size : given sizeKey ws ≡ false → verdict missing 0 sizeKey ≡ complete ws
   unfolding complete
   without-size e = rw e
 
-  module _ (a : given 13 ws ≡ true) where
-    pub without-logical : given 14 ws ≡ false → verdict missing 14 ≡ complete ws
+  module _ (a : given sizeKey ws ≡ true) where
+    pub without-logical : given logicalKey ws ≡ false → verdict missing 0 logicalKey ≡ complete ws
     unfolding complete
     without-logical e = rw (a, e)
 
-    module _ (b : given 14 ws ≡ true) where
-      pub without-physical : given 15 ws ≡ false → verdict missing 15 ≡ complete ws
+    module _ (b : given logicalKey ws ≡ true) where
+      pub without-physical : given physicalKey ws ≡ false → verdict missing 0 physicalKey ≡ complete ws
       unfolding complete
       without-physical e = rw (a, b, e)
 
-      module _ (c : given 15 ws ≡ true) where
-        pub without-uuid : given 16 ws ≡ false → verdict missing 16 ≡ complete ws
+      module _ (c : given physicalKey ws ≡ true) where
+        pub without-uuid : given uuidKey ws ≡ false → verdict missing 0 uuidKey ≡ complete ws
         unfolding complete
         without-uuid e = rw (a, b, c, e)
 
-        pub with-all : given 16 ws ≡ true → verdict 0 0 ≡ complete ws
+        pub with-all : given uuidKey ws ≡ true → right ≡ complete ws
         unfolding complete
         with-all e = rw (a, b, c, e)

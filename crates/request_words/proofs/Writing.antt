@@ -23,9 +23,10 @@ use Rattle.request_words.specs.declared.Word.{Word}
 use Rattle.request_words.specs.declared.Verdict.{Verdict}
 use Rattle.request_words.specs.declared.Made.{Made}
 use Rattle.request_texts.specs.Texts.{packedName}
-use Rattle.request_words.specs.Values.{indexIn, names, largestValues, valueIn, limited}
-use Rattle.request_words.specs.Words.{noWord, placeOfByte, meant, wordBy, wordAt, wordThen, splitWords, wordsFrom, wordWith, given, wordsVerdict}
-use Rattle.request_words.specs.Asked.{digitsAt, pairAt, pairs, deviceRecord, optionRecord, optionRecords, labelWordText, labelRecord, uuidRecord, wordsRecords, wordsRequest, madeAs, Puts, Makes}
+use Rattle.text_pages.specs.Pages.{placeOfByte}
+use Rattle.request_words.specs.Values.{sizeKey, logicalKey, physicalKey, uuidKey, noKey, codes, indexIn, names, largestValues, valueIn, limited}
+use Rattle.request_words.specs.Words.{noWord, meant, wordBy, wordAt, wordThen, splitWords, wordsFrom, wordWith, given, wordsVerdict}
+use Rattle.request_words.specs.Asked.{digitsAt, pairAt, pairs, deviceRecord, optionRecord, optionRecords, labelWordText, labelRecord, uuidRecord, wordsRecords, wordsRequest, longest, madeAs, Puts, Makes}
 
 -- ---- bytes written behind others
 or-right : (a b : Bool) → b ≡ true → T (a || b)
@@ -79,7 +80,7 @@ limited-small key v = choose-elim (λ (w : Value). w .value ≤ getD largestValu
 meant-small : (key from end next : ℕ) (xs : List ℕ) → Small (meant key from end next xs)
 unfolding meant
 meant-small key from end next xs =
-    choose-elim Small (ltb key 17) _ _ (λ e. limited-small key (valueIn key (part from (end - from) xs))) (λ e. omega arith)
+    choose-elim Small (ltb key noKey) _ _ (λ e. limited-small key (valueIn key (part from (end - from) xs))) (λ e. omega arith)
 
 by-small : (at end eq : ℕ) (xs : List ℕ) → Small (wordBy at end eq xs)
 unfolding wordBy
@@ -101,7 +102,7 @@ Inside xs w = (w .from ≤ w .end) × (w .end ≤ length xs)
 module _ (xs : List ℕ) where
   meant-inside : (key from end next : ℕ) → from ≤ end → end ≤ length xs → Inside xs (meant key from end next xs)
   unfolding meant
-  meant-inside key from end next h k = choose-elim (Inside xs) (ltb key 17) _ _ (λ e. (h, k)) (λ e. (h, k))
+  meant-inside key from end next h k = choose-elim (Inside xs) (ltb key noKey) _ _ (λ e. (h, k)) (λ e. (h, k))
 
   by-inside : (at end eq : ℕ) → at ≤ end → end ≤ length xs → Inside xs (wordBy at end eq xs)
   unfolding wordBy
@@ -200,20 +201,20 @@ options-short (suc n) code ws =
     simp length-append (omega arith)
 
 -- a turn of the loop over the codes: `mid` has the record of this code
-module _ (ws : List Word) (code end next : ℕ) (buf mid : List ℕ) (p : Puts end (optionRecord code ws) 11 buf next mid) (h : code ≤ 12) where
-  turn-records : optionRecords (13 - code) code ws ≡ optionRecord code ws ++ optionRecords (13 - (code + 1)) (code + 1) ws
+module _ (ws : List Word) (code end next : ℕ) (buf mid : List ℕ) (p : Puts end (optionRecord code ws) 11 buf next mid) (h : code ≤ codes) where
+  turn-records : optionRecords (codes + 1 - code) code ws ≡ optionRecord code ws ++ optionRecords (codes + 1 - (code + 1)) (code + 1) ws
   unfolding optionRecords
   turn-records =
-      let e : 13 - code ≡ suc (13 - (code + 1)) = omega arith in
+      let e : codes + 1 - code ≡ suc (codes + 1 - (code + 1)) = omega arith in
       rw e refl
 
-  pub turn-left : patch end (optionRecords (13 - code) code ws) buf ≡ patch next (optionRecords (13 - (code + 1)) (code + 1) ws) mid
-  turn-left = rw (turn-records, p .left-is, p .ends) (sym (patch-then end (optionRecord code ws) (optionRecords (13 - (code + 1)) (code + 1) ws) buf))
+  pub turn-left : patch end (optionRecords (codes + 1 - code) code ws) buf ≡ patch next (optionRecords (codes + 1 - (code + 1)) (code + 1) ws) mid
+  turn-left = rw (turn-records, p .left-is, p .ends) (sym (patch-then end (optionRecord code ws) (optionRecords (codes + 1 - (code + 1)) (code + 1) ws) buf))
 
-  pub turn-end : end + length (optionRecords (13 - code) code ws) ≡ next + length (optionRecords (13 - (code + 1)) (code + 1) ws)
+  pub turn-end : end + length (optionRecords (codes + 1 - code) code ws) ≡ next + length (optionRecords (codes + 1 - (code + 1)) (code + 1) ws)
   turn-end =
       let e = p .ends in
-      let l = length-append (optionRecord code ws) (optionRecords (13 - (code + 1)) (code + 1) ws) in
+      let l = length-append (optionRecord code ws) (optionRecords (codes + 1 - (code + 1)) (code + 1) ws) in
       rw turn-records (omega arith)
 
   pub turn-room : next ≤ end + 11
@@ -223,16 +224,16 @@ module _ (ws : List Word) (code end next : ℕ) (buf mid : List ℕ) (p : Puts e
   turn-length = rw (p .left-is) (length-patch end (optionRecord code ws) buf)
 
 -- all codes are done
-pub options-done : (ws : List Word) (code end : ℕ) (buf : List ℕ) → 13 ≤ code → patch end (optionRecords (13 - code) code ws) buf ≡ buf
+pub options-done : (ws : List Word) (code end : ℕ) (buf : List ℕ) → codes + 1 ≤ code → patch end (optionRecords (codes + 1 - code) code ws) buf ≡ buf
 unfolding optionRecords patch
 options-done ws code end buf h =
-    let e : 13 - code ≡ 0 = omega arith in
+    let e : codes + 1 - code ≡ 0 = omega arith in
     rw e refl
 
-pub options-ended : (ws : List Word) (code : ℕ) → 13 ≤ code → length (optionRecords (13 - code) code ws) ≡ 0
+pub options-ended : (ws : List Word) (code : ℕ) → codes + 1 ≤ code → length (optionRecords (codes + 1 - code) code ws) ≡ 0
 unfolding optionRecords
 options-ended ws code h =
-    let e : 13 - code ≡ 0 = omega arith in
+    let e : codes + 1 - code ≡ 0 = omega arith in
     rw e refl
 
 module _ (at : ℕ) (ws : List Word) (xs : List ℕ) (w : Word) (found : w ≡ wordWith 0 ws) (old : List ℕ) where
@@ -251,7 +252,7 @@ module _ (at : ℕ) (ws : List Word) (xs : List ℕ) (w : Word) (found : w ≡ w
   unfolding labelRecord
   label-skip ne = rw (← found, ne-eqb (w .key) 0 ne) (puts-none at 15 old)
 
-module _ (at : ℕ) (ws : List Word) (xs : List ℕ) (w : Word) (found : w ≡ wordWith 16 ws) (old : List ℕ) where
+module _ (at : ℕ) (ws : List Word) (xs : List ℕ) (w : Word) (found : w ≡ wordWith uuidKey ws) (old : List ℕ) where
   pub uuid-put : w .value ≡ 1 → (mid left : List ℕ) → mid ≡ patch at (73 ∷ 68 ∷ []) old → left ≡ patch (at + 2) (pairs 16 0 (w .from) xs) mid → Puts at (uuidRecord ws xs) 18 old (at + 18) left
   unfolding uuidRecord id beBytes
   uuid-put e mid left i l =
@@ -264,7 +265,7 @@ module _ (at : ℕ) (ws : List Word) (xs : List ℕ) (w : Word) (found : w ≡ w
   unfolding uuidRecord
   uuid-skip ne = rw (← found, ne-eqb (w .value) 1 ne) (puts-none at 18 old)
 
-pub device-put : (ws : List Word) (a b c : Word) → a ≡ wordWith 13 ws → b ≡ wordWith 14 ws → c ≡ wordWith 15 ws → (bs old left : List ℕ) → bs ≡ dv (a .value) (b .value) (c .value)
+pub device-put : (ws : List Word) (a b c : Word) → a ≡ wordWith sizeKey ws → b ≡ wordWith logicalKey ws → c ≡ wordWith physicalKey ws → (bs old left : List ℕ) → bs ≡ dv (a .value) (b .value) (c .value)
     → left ≡ patch 0 bs old → left ≡ patch 0 (deviceRecord ws) old
 unfolding deviceRecord
 device-put ws a b c d e f bs old left g l = l ∙ rw (g, d, e, f) refl
@@ -274,26 +275,26 @@ unfolding deviceRecord dv beBytes
 device-puts ws old left l = record { ends = refl; fits = omega arith; left-is = l }
 
 -- all records, one behind the other
-pub records-put : (xs old a b c left : List ℕ) (e f g : ℕ) → a ≡ patch 0 (deviceRecord (wordsFrom 0 xs)) old → Puts 18 (optionRecords 12 1 (wordsFrom 0 xs)) 132 a e b
+pub records-put : (xs old a b c left : List ℕ) (e f g : ℕ) → a ≡ patch 0 (deviceRecord (wordsFrom 0 xs)) old → Puts 18 (optionRecords codes 1 (wordsFrom 0 xs)) 143 a e b
     → Puts e (labelRecord (wordsFrom 0 xs) xs) 15 b f c → Puts f (uuidRecord (wordsFrom 0 xs) xs) 18 c g left → (g ≡ length (wordsRequest xs)) × (left ≡ patch 0 (wordsRequest xs) old)
 unfolding wordsRequest
 records-put xs old a b c left e f g d o l u =
     let ws = wordsFrom 0 xs in
-    let p = puts-then 0 (deviceRecord ws) (optionRecords 12 1 ws ++ (labelRecord ws xs ++ uuidRecord ws xs)) 18 165 old a left 18 g (device-puts ws old a d)
-    (puts-then 18 (optionRecords 12 1 ws) (labelRecord ws xs ++ uuidRecord ws xs) 132 33 a b left e g o
+    let p = puts-then 0 (deviceRecord ws) (optionRecords codes 1 ws ++ (labelRecord ws xs ++ uuidRecord ws xs)) 18 176 old a left 18 g (device-puts ws old a d)
+    (puts-then 18 (optionRecords codes 1 ws) (labelRecord ws xs ++ uuidRecord ws xs) 143 33 a b left e g o
     (puts-then e (labelRecord ws xs) (uuidRecord ws xs) 15 18 b c left f g l u)) in
     (let z = p .ends in omega arith, p .left-is)
 
 -- ---- the answer
 module _ (xs old : List ℕ) where
-  pub makes-short : length old < 183 → Makes xs old (madeAs 27 0 0) old
-  makes-short h = record { answer = rw (lt-leb 183 (length old) h) refl; bytes = rw (lt-leb 183 (length old) h) refl }
+  pub makes-short : length old < longest → Makes xs old (madeAs 27 0 0 0) old
+  makes-short h = record { answer = rw (lt-leb longest (length old) h) refl; bytes = rw (lt-leb longest (length old) h) refl }
 
-  module _ (h : 183 ≤ length old) (v : Verdict) (by : v ≡ wordsVerdict xs) where
-    pub makes-wrong : (v .number ≡ 0 → ⊥) → Makes xs old (madeAs (v .number) (v .index) 0) old
+  module _ (h : longest ≤ length old) (v : Verdict) (by : v ≡ wordsVerdict xs) where
+    pub makes-wrong : (v .number ≡ 0 → ⊥) → Makes xs old (madeAs (v .number) (v .index) (v .key) 0) old
     makes-wrong ne =
-        record { answer = rw (le-leb 183 (length old) h, ← by, ne-eqb (v .number) 0 ne) refl; bytes = rw (le-leb 183 (length old) h, ← by, ne-eqb (v .number) 0 ne) refl }
+        record { answer = rw (le-leb longest (length old) h, ← by, ne-eqb (v .number) 0 ne) refl; bytes = rw (le-leb longest (length old) h, ← by, ne-eqb (v .number) 0 ne) refl }
 
-    pub makes-records : v .number ≡ 0 → (n : ℕ) → n ≡ length (wordsRequest xs) → (left : List ℕ) → left ≡ patch 0 (wordsRequest xs) old → Makes xs old (madeAs 0 0 n) left
+    pub makes-records : v .number ≡ 0 → (n : ℕ) → n ≡ length (wordsRequest xs) → (left : List ℕ) → left ≡ patch 0 (wordsRequest xs) old → Makes xs old (madeAs 0 0 0 n) left
     makes-records z n e left l =
-        record { answer = rw (le-leb 183 (length old) h, ← by, eq-eqb (v .number) 0 z, e) refl; bytes = rw (le-leb 183 (length old) h, ← by, eq-eqb (v .number) 0 z) l }
+        record { answer = rw (le-leb longest (length old) h, ← by, eq-eqb (v .number) 0 z, e) refl; bytes = rw (le-leb longest (length old) h, ← by, eq-eqb (v .number) 0 z) l }

@@ -11,7 +11,7 @@ use Rattle.arith.specs.Choice.{when}
 use Rattle.endian.specs.Bytes.{patch}
 use Rattle.endian.specs.Fields.{part}
 use Rattle.request.specs.Cases.{dv, op, lb, id}
-use Rattle.request_words.specs.Values.{hex}
+use Rattle.request_words.specs.Values.{labelKey, sizeKey, logicalKey, physicalKey, uuidKey, codes, hex}
 use Rattle.request_words.specs.Words.{wordWith, given, wordsFrom, wordsVerdict, verdict}
 use Rattle.request_words.specs.declared.Word.{Word}
 use Rattle.request_words.specs.declared.Made.{Made}
@@ -34,7 +34,7 @@ pairs (suc n) j from xs = pairAt from j xs ∷ pairs n (j + 1) from xs
 -- ---- the records
 
 unfoldable pub deviceRecord : List Word → List ℕ
-deviceRecord ws = dv (wordWith 13 ws .value) (wordWith 14 ws .value) (wordWith 15 ws .value)
+deviceRecord ws = dv (wordWith sizeKey ws .value) (wordWith logicalKey ws .value) (wordWith physicalKey ws .value)
 
 unfoldable pub optionRecord : ℕ → List Word → List ℕ
 optionRecord code ws = cond (given code ws) (op code (wordWith code ws .value)) []
@@ -49,13 +49,13 @@ abbrev pub labelWordText : Word → List ℕ → List ℕ
 labelWordText w xs = part (w .from) (min (w .end - w .from) 12) xs
 
 unfoldable pub labelRecord : List Word → List ℕ → List ℕ
-labelRecord ws xs = cond (given 0 ws) (lb (labelWordText (wordWith 0 ws) xs)) []
+labelRecord ws xs = cond (given labelKey ws) (lb (labelWordText (wordWith labelKey ws) xs)) []
 
 unfoldable pub uuidRecord : List Word → List ℕ → List ℕ
-uuidRecord ws xs = cond (eqb (wordWith 16 ws .value) 1) (id (pairs 16 0 (wordWith 16 ws .from) xs)) []
+uuidRecord ws xs = cond (eqb (wordWith uuidKey ws .value) 1) (id (pairs 16 0 (wordWith uuidKey ws .from) xs)) []
 
 abbrev pub wordsRecords : List Word → List ℕ → List ℕ
-wordsRecords ws xs = deviceRecord ws ++ (optionRecords 12 1 ws ++ (labelRecord ws xs ++ uuidRecord ws xs))
+wordsRecords ws xs = deviceRecord ws ++ (optionRecords codes 1 ws ++ (labelRecord ws xs ++ uuidRecord ws xs))
 
 -- what the words ask for
 unfoldable pub wordsRequest : List ℕ → List ℕ
@@ -68,22 +68,22 @@ labelRecordOf xs = labelRecord (wordsFrom 0 xs) xs
 abbrev pub uuidRecordOf : List ℕ → List ℕ
 uuidRecordOf xs = uuidRecord (wordsFrom 0 xs) xs
 
--- the records of every word at its longest: the device's 18 bytes, 12 options of 11, a label of 15, a UUID of 18
+-- the records of every word at its longest: the device's 18 bytes, 13 options of 11, a label of 15, a UUID of 18
 abbrev pub longest : ℕ
-longest = 183
+longest = 194
 
 -- ---- the answer
 
-abbrev pub madeAs : ℕ → ℕ → ℕ → Made
-madeAs number index length = record { number = number; index = index; length = length }
+abbrev pub madeAs : ℕ → ℕ → ℕ → ℕ → Made
+madeAs number index key length = record { number = number; index = index; key = key; length = length }
 
 -- number 0 and the records' length; or 27 for a buffer of fewer than `longest` bytes, or what is wrong, and then no byte of the buffer has
 -- changed
 abbrev pub madeOf : Verdict → List ℕ → List ℕ → Made
 madeOf v xs old =
     cond (leb longest (length old))
-    (cond (eqb (v .number) 0) (madeAs 0 0 (length (wordsRequest xs))) (madeAs (v .number) (v .index) 0))
-    (madeAs wrongLength 0 0)
+    (cond (eqb (v .number) 0) (madeAs 0 0 0 (length (wordsRequest xs))) (madeAs (v .number) (v .index) (v .key) 0))
+    (madeAs wrongLength 0 0 0)
 
 abbrev pub leftOf : Verdict → List ℕ → List ℕ → List ℕ
 leftOf v xs old = cond (leb longest (length old)) (cond (eqb (v .number) 0) (patch 0 (wordsRequest xs) old) old) old

@@ -17,7 +17,40 @@ indexIn table name = firstIndex (λ n. eqb n name) table
 
 -- ---- keys
 
--- The words' names. The key of a word is its name's index: 1 to 12 are the codes of the options.
+-- The keys that are named below; 1 to 13 are the codes of the options.
+abbrev pub labelKey : ℕ
+labelKey = 0
+
+abbrev pub featuresKey : ℕ
+featuresKey = 9
+
+abbrev pub sizingKey : ℕ
+sizingKey = 12
+
+abbrev pub profileKey : ℕ
+profileKey = 13
+
+abbrev pub sizeKey : ℕ
+sizeKey = 14
+
+abbrev pub logicalKey : ℕ
+logicalKey = 15
+
+abbrev pub physicalKey : ℕ
+physicalKey = 16
+
+abbrev pub uuidKey : ℕ
+uuidKey = 17
+
+-- the key of no word: how many keys there are
+abbrev pub noKey : ℕ
+noKey = 18
+
+-- the largest code of an option
+abbrev pub codes : ℕ
+codes = 13
+
+-- THE WORDS' NAMES: the key of a word is its name's index
 unfoldable pub names : List ℕ
 names =
     packedName (108 ∷ 97 ∷ 98 ∷ 101 ∷ 108 ∷ [])  -- 0 label
@@ -33,32 +66,34 @@ names =
     ∷ packedName (116 ∷ 105 ∷ 109 ∷ 101 ∷ [])  -- 10 time
     ∷ packedName (110 ∷ 97 ∷ 110 ∷ 111 ∷ 115 ∷ 101 ∷ 99 ∷ 111 ∷ 110 ∷ 100 ∷ 115 ∷ [])  -- 11 nanoseconds
     ∷ packedName (115 ∷ 105 ∷ 122 ∷ 105 ∷ 110 ∷ 103 ∷ [])  -- 12 sizing
-    ∷ packedName (115 ∷ 105 ∷ 122 ∷ 101 ∷ [])  -- 13 size
-    ∷ packedName (108 ∷ 111 ∷ 103 ∷ 105 ∷ 99 ∷ 97 ∷ 108 ∷ [])  -- 14 logical
-    ∷ packedName (112 ∷ 104 ∷ 121 ∷ 115 ∷ 105 ∷ 99 ∷ 97 ∷ 108 ∷ [])  -- 15 physical
-    ∷ packedName (117 ∷ 117 ∷ 105 ∷ 100 ∷ [])  -- 16 uuid
+    ∷ packedName (112 ∷ 114 ∷ 111 ∷ 102 ∷ 105 ∷ 108 ∷ 101 ∷ [])  -- 13 profile
+    ∷ packedName (115 ∷ 105 ∷ 122 ∷ 101 ∷ [])  -- 14 size
+    ∷ packedName (108 ∷ 111 ∷ 103 ∷ 105 ∷ 99 ∷ 97 ∷ 108 ∷ [])  -- 15 logical
+    ∷ packedName (112 ∷ 104 ∷ 121 ∷ 115 ∷ 105 ∷ 99 ∷ 97 ∷ 108 ∷ [])  -- 16 physical
+    ∷ packedName (117 ∷ 117 ∷ 105 ∷ 100 ∷ [])  -- 17 uuid
     ∷ []
 
 -- the largest value of each key; of a label it is the length
 unfoldable pub largestValues : List ℕ
 largestValues =
-    12
-    ∷ (2 ^ 64 - 1)
-    ∷ (2 ^ 32 - 1)
-    ∷ (2 ^ 32 - 1)
-    ∷ (2 ^ 32 - 1)
-    ∷ (2 ^ 64 - 1)
-    ∷ (2 ^ 64 - 1)
-    ∷ 255
-    ∷ (2 ^ 64 - 1)
-    ∷ 127
-    ∷ (2 ^ 64 - 1)
-    ∷ (2 ^ 32 - 1)
-    ∷ 1
-    ∷ (2 ^ 64 - 1)
-    ∷ (2 ^ 32 - 1)
-    ∷ (2 ^ 32 - 1)
-    ∷ 1
+    12  -- label
+    ∷ (2 ^ 64 - 1)  -- use
+    ∷ (2 ^ 32 - 1)  -- block
+    ∷ (2 ^ 32 - 1)  -- sector
+    ∷ (2 ^ 32 - 1)  -- inode
+    ∷ (2 ^ 64 - 1)  -- agcount
+    ∷ (2 ^ 64 - 1)  -- agsize
+    ∷ 255  -- imaxpct
+    ∷ (2 ^ 64 - 1)  -- seed
+    ∷ 127  -- features
+    ∷ (2 ^ 64 - 1)  -- time
+    ∷ (2 ^ 32 - 1)  -- nanoseconds
+    ∷ 1  -- sizing
+    ∷ 1  -- profile
+    ∷ (2 ^ 64 - 1)  -- size
+    ∷ (2 ^ 32 - 1)  -- logical
+    ∷ (2 ^ 32 - 1)  -- physical
+    ∷ 1  -- uuid
     ∷ []
 
 -- ---- features
@@ -130,7 +165,14 @@ sizings = packedName (112 ∷ 108 ∷ 97 ∷ 105 ∷ 110 ∷ []) ∷ packedName 
 unfoldable pub sizingIn : List ℕ → Value
 sizingIn text = cond (ltb (indexIn sizings (packedName text)) 2) (goodValue (indexIn sizings (packedName text))) malformedValue
 
--- ---- the UUID: 36 characters, hexadecimal but for four dashes; or `noneName`
+-- ---- the profile: `station`
+abbrev pub stationName : ℕ
+stationName = packedName (115 ∷ 116 ∷ 97 ∷ 116 ∷ 105 ∷ 111 ∷ 110 ∷ [])
+
+unfoldable pub profileIn : List ℕ → Value
+profileIn text = cond (eqb (packedName text) stationName) (goodValue 1) malformedValue
+
+-- ---- the UUID: 36 characters, hexadecimal but for four dashes; or `none`
 
 -- the value of a hexadecimal digit; 16 of any other byte
 unfoldable pub hex : ℕ → ℕ
@@ -164,10 +206,11 @@ uuidIn text =
 -- the text's value, before its size is asked for; of a label it is the length
 unfoldable pub valueIn : ℕ → List ℕ → Value
 valueIn key text =
-    cond (eqb key 0) (goodValue (length text))
-    (cond (eqb key 9) (featuresText text)
-    (cond (eqb key 12) (sizingIn text)
-    (cond (eqb key 16) (uuidIn text) (numberText text))))
+    cond (eqb key labelKey) (goodValue (length text))
+    (cond (eqb key featuresKey) (featuresText text)
+    (cond (eqb key sizingKey) (sizingIn text)
+    (cond (eqb key profileKey) (profileIn text)
+    (cond (eqb key uuidKey) (uuidIn text) (numberText text)))))
 
 -- a value that isn't larger than its key allows
 unfoldable pub limited : ℕ → Value → Value

@@ -4,11 +4,11 @@ use mathlib.Core.List.{List, [], _∷_}
 use mathlib.Core.Bool.{Bool, true, false, cond}
 use Prim.Native.Nat.{ℕ, zero, suc, _+_, _-_, min}
 use lib.Dec.{ltb, eqb}
-use lib.ListN.{length, drop}
+use lib.ListN.{length}
 use Rattle.endian.specs.Fields.{part}
-use Rattle.seqs.specs.Lists.{firstIndex}
+use Rattle.text_pages.specs.Pages.{placeOfByte}
 use Rattle.request_texts.specs.Texts.{packedName}
-use Rattle.request_words.specs.Values.{indexIn, names, valueIn, limited}
+use Rattle.request_words.specs.Values.{sizeKey, logicalKey, physicalKey, uuidKey, noKey, indexIn, names, valueIn, limited}
 use Rattle.request_texts.specs.declared.Value.{Value}
 use Rattle.request_words.specs.declared.Word.{Word}
 use Rattle.request_words.specs.declared.Verdict.{Verdict}
@@ -24,14 +24,6 @@ twice = 2
 
 abbrev pub missing : ℕ
 missing = 5
-
--- the key of no word
-abbrev pub noKey : ℕ
-noKey = 17
-
--- where the first byte b stands, from an offset on; the length where it doesn't
-unfoldable pub placeOfByte : ℕ → ℕ → List ℕ → ℕ
-placeOfByte b at xs = at + firstIndex (λ c. eqb c b) (drop at xs)
 
 abbrev pub word : ℕ → ℕ → ℕ → ℕ → ℕ → ℕ → Word
 word number key value from end next = record { number = number; key = key; value = value; from = from; end = end; next = next }
@@ -85,25 +77,30 @@ given key ws = eqb (wordWith key ws .key) key
 
 -- ---- which word is refused
 
-abbrev pub verdict : ℕ → ℕ → Verdict
-verdict number index = record { number = number; index = index }
+-- what is wrong, the index of the word and its key; of a missing word the key alone
+abbrev pub verdict : ℕ → ℕ → ℕ → Verdict
+verdict number index key = record { number = number; index = index; key = key }
+
+-- nothing is wrong
+abbrev pub right : Verdict
+right = verdict 0 0 0
 
 -- the first of the words from index i on that is refused: by itself, or because its name stands again behind it
 unfoldable pub judged : ℕ → List Word → Verdict
-judged i [] = verdict 0 0
+judged i [] = right
 judged i (w ∷ ws) =
-    cond (eqb (w .number) 0) (cond (given (w .key) ws) (verdict twice i) (judged (i + 1) ws)) (verdict (w .number) i)
+    cond (eqb (w .number) 0) (cond (given (w .key) ws) (verdict twice i (w .key)) (judged (i + 1) ws)) (verdict (w .number) i (w .key))
 
--- Nobody guesses the device's size, its sectors (13 to 15) and the UUID (16): the first that is missing, by its key.
+-- Nobody guesses the device's size, its sectors and the UUID: the first that is missing, by its key.
 unfoldable pub complete : List Word → Verdict
 complete ws =
-    cond (given 13 ws)
-    (cond (given 14 ws)
-    (cond (given 15 ws)
-    (cond (given 16 ws) (verdict 0 0) (verdict missing 16))
-    (verdict missing 15))
-    (verdict missing 14))
-    (verdict missing 13)
+    cond (given sizeKey ws)
+    (cond (given logicalKey ws)
+    (cond (given physicalKey ws)
+    (cond (given uuidKey ws) right (verdict missing 0 uuidKey))
+    (verdict missing 0 physicalKey))
+    (verdict missing 0 logicalKey))
+    (verdict missing 0 sizeKey)
 
 abbrev pub allJudged : Verdict → List Word → Verdict
 allJudged v ws = cond (eqb (v .number) 0) (complete ws) v

@@ -23,15 +23,18 @@ pub struct Word {
     pub next: usize,
 }
 
-// Whether words are a request: `number` is 0, or says what is wrong with the word of this index.
+// Whether words are a request: `number` is 0, or says what is wrong with the word of this index and key; a missing one has its key alone.
 pub struct Verdict {
     pub number: u8,
     pub index: usize,
+    pub key: usize,
 }
 
-// The records that words ask for: `number` is 0 beside their length; or says what is wrong, with which word, or, of a missing one, its key.
+// The records that words ask for: `number` is 0 beside their length; or says what is wrong with the word of this index and key, or, of a
+// missing one, its key.
 pub struct Made {
     pub number: u32,
     pub index: usize,
+    pub key: usize,
     pub length: usize,
 }

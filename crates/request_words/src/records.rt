@@ -5,8 +5,9 @@ ghost use Prim.Native.Nat.{_+_, _*_, _≤_, _<_};
 ghost use lib.ListN.{length, getD};
 ghost use Rattle.endian.specs.Bytes.{patch};
 ghost use Rattle.request.specs.Cases.{dv, op};
+ghost use Rattle.request_words.specs.Values.{codes};
 ghost use Rattle.request_words.specs.Words.{wordsFrom};
-ghost use Rattle.request_words.specs.Asked.{digitsAt, pairAt, pairs, deviceRecord, optionRecord, optionRecords, labelRecordOf, uuidRecordOf, wordsRequest, Puts, Makes};
+ghost use Rattle.request_words.specs.Asked.{digitsAt, pairAt, pairs, deviceRecord, optionRecord, optionRecords, labelRecordOf, uuidRecordOf, wordsRequest, longest, Puts, Makes};
 use crate::Made;
 use crate::Word;
 use crate::values::LABEL;
@@ -32,10 +33,10 @@ const DEVICE_TABLE: [usize; 8] = [0, 2, 2, 8, 10, 4, 14, 4];
 const OPTION_TABLE: [usize; 6] = [0, 2, 2, 1, 3, 8];
 
 // Bytes of the longest records, which the buffer has to have.
-pub const LONGEST: usize = 183;
+pub const LONGEST: usize = 194;
 
 // The codes of the options.
-const CODES: usize = 12;
+const CODES: usize = 13;
 
 fn device_record(size: u64, logical: u64, physical: u64) -> [u8; 18]
     ensures { λ r. ⌜ r ≡ dv size logical physical ⌝ }
@@ -124,7 +125,7 @@ fn put_device(words: &[u8], buf: &mut [u8])
 
 // The option's record, where its word is there; says where the next record begins.
 fn put_option(words: &[u8], code: usize, buf: &mut [u8], at: usize) -> usize
-    requires { ⌜ (code < 17) × (at + 11 ≤ length (now buf)) ⌝ }
+    requires { ⌜ (code < 18) × (at + 11 ≤ length (now buf)) ⌝ }
     ensures { λ r. ⌜ Puts at (optionRecord code (wordsFrom 0 (now (words .entry)))) 11 (now (buf .entry)) r (now (buf .exit)) ⌝ }
 {
     let w = find(words, 0, code);
@@ -138,8 +139,8 @@ fn put_option(words: &[u8], code: usize, buf: &mut [u8], at: usize) -> usize
 
 // The records of the options by their codes.
 fn put_options(words: &[u8], buf: &mut [u8], at: usize) -> usize
-    requires { ⌜ at + 132 ≤ length (now buf) ⌝ }
-    ensures { λ r. ⌜ Puts at (optionRecords 12 1 (wordsFrom 0 (now (words .entry)))) 132 (now (buf .entry)) r (now (buf .exit)) ⌝ }
+    requires { ⌜ at + 143 ≤ length (now buf) ⌝ }
+    ensures { λ r. ⌜ Puts at (optionRecords codes 1 (wordsFrom 0 (now (words .entry)))) 143 (now (buf .entry)) r (now (buf .exit)) ⌝ }
 {
     let mut end = at;
     let mut code = 1;
@@ -183,7 +184,7 @@ fn put_uuid(words: &[u8], buf: &mut [u8], at: usize) -> usize
 
 // All records, in a buffer that has room for the longest.
 fn put_records(words: &[u8], buf: &mut [u8]) -> usize
-    requires { ⌜ 183 ≤ length (now buf) ⌝ }
+    requires { ⌜ longest ≤ length (now buf) ⌝ }
     ensures { λ r. ⌜ r ≡ length (wordsRequest (now (words .entry))) ⌝ }
     ensures { λ r. ⌜ now (buf .exit) ≡ patch 0 (wordsRequest (now (words .entry))) (now (buf .entry)) ⌝ }
 {
@@ -194,7 +195,7 @@ fn put_records(words: &[u8], buf: &mut [u8]) -> usize
 }
 
 // Writes the input records that the words ask for, each word ended by a zero byte: number 0 and the records' length; or 27 for a buffer
-// of fewer than 183 bytes, or what is wrong with which word, and then nothing has changed.
+// of fewer than 194 bytes, or what is wrong with which word, and then nothing has changed.
 pub fn make_records(words: &[u8], buf: &mut [u8]) -> Made
     ensures { λ r. ⌜ Makes (now (words .entry)) (now (buf .entry)) r (now (buf .exit)) ⌝ }
 {
@@ -202,6 +203,7 @@ pub fn make_records(words: &[u8], buf: &mut [u8]) -> Made
         return Made {
             number: refusals::WRONG_LENGTH,
             index: 0,
+            key: 0,
             length: 0,
         };
     }
@@ -210,6 +212,7 @@ pub fn make_records(words: &[u8], buf: &mut [u8]) -> Made
         return Made {
             number: v.number as u32,
             index: v.index,
+            key: v.key,
             length: 0,
         };
     }
@@ -217,6 +220,7 @@ pub fn make_records(words: &[u8], buf: &mut [u8]) -> Made
     Made {
         number: 0,
         index: 0,
+        key: 0,
         length,
     }
 }

@@ -3,7 +3,7 @@ ghost use mathlib.Core.Path.{_≡_};
 ghost use Prim.Native.Nat.{_≤_, _<_};
 ghost use lib.ListN.{length, getD};
 ghost use Rattle.request_texts.specs.Texts.{goodValue as goodDef, packedName};
-ghost use Rattle.request_words.specs.Values.{indexIn, names, largestValues as largestDef, featureNames, weights, turned as turnedDef, lastFeature as finishedDef, nextByte, featureMask as listedDef, featuresText, sizings, sizingIn, hex as hexDef, isDash, fitsAt, shaped as shapedDef, uuidIn, valueIn, limited as limitedDef};
+ghost use Rattle.request_words.specs.Values.{indexIn, names, largestValues as largestDef, featureNames, weights, turned as turnedDef, lastFeature as finishedDef, nextByte, featureMask as listedDef, featuresText, sizings, sizingIn, profileIn, hex as hexDef, isDash, fitsAt, shaped as shapedDef, uuidIn, valueIn, limited as limitedDef};
 use crate::Names;
 use arith::choice::pick_u64;
 use request_texts::MALFORMED;
@@ -21,19 +21,21 @@ pub const FEATURES: usize = 9;
 
 pub const SIZING: usize = 12;
 
-pub const SIZE: usize = 13;
+pub const PROFILE: usize = 13;
 
-pub const LOGICAL: usize = 14;
+pub const SIZE: usize = 14;
 
-pub const PHYSICAL: usize = 15;
+pub const LOGICAL: usize = 15;
 
-pub const UUID: usize = 16;
+pub const PHYSICAL: usize = 16;
+
+pub const UUID: usize = 17;
 
 // How many keys there are.
-pub const KEYS: usize = 17;
+pub const KEYS: usize = 18;
 
 // The words' names as numbers, by key.
-const NAMES: [u64; 17] = [
+const NAMES: [u64; 18] = [
     22543520,
     29457,
     4376815,
@@ -47,6 +49,7 @@ const NAMES: [u64; 17] = [
     1025867,
     67500790746080019,
     1335732456,
+    42328242873,
     975695,
     31842455423,
     1541205513417,
@@ -54,7 +57,7 @@ const NAMES: [u64; 17] = [
 ];
 
 // The largest value of each key.
-const LARGEST: [u64; 17] = [
+const LARGEST: [u64; 18] = [
     12,
     0xffff_ffff_ffff_ffff,
     0xffff_ffff,
@@ -67,6 +70,7 @@ const LARGEST: [u64; 17] = [
     127,
     0xffff_ffff_ffff_ffff,
     0xffff_ffff,
+    1,
     1,
     0xffff_ffff_ffff_ffff,
     0xffff_ffff,
@@ -90,8 +94,10 @@ const WEIGHTS: [u64; 7] = [1, 2, 4, 8, 16, 32, 64];
 // The features of a text that is no list.
 const NO_FEATURES: u64 = 128;
 
-// `plain`, `roomy`, `none` and `all`.
+// `plain`, `roomy`, `station`, `none` and `all`.
 const SIZINGS: [u64; 2] = [30596128, 34515734];
+
+const STATION: u64 = 50138581022;
 
 const NONE: u64 = 730200;
 
@@ -117,9 +123,9 @@ fn index_in(table: &[u64], name: u64) -> usize
     i
 }
 
-// The key of a name; 17 where it is no word's.
+// The key of a name; 18 where it is no word's.
 pub(crate) fn key_of(name: &[u8]) -> usize
-    ensures { λ r. ⌜ (r ≡ indexIn names (packedName (now (name .entry)))) × (r ≤ 17) ⌝ }
+    ensures { λ r. ⌜ (r ≡ indexIn names (packedName (now (name .entry)))) × (r ≤ 18) ⌝ }
 {
     index_in(&NAMES, pack(name))
 }
@@ -232,6 +238,16 @@ fn sizing(text: &[u8]) -> Value
     refused(MALFORMED)
 }
 
+// The profile, by its name.
+fn profile(text: &[u8]) -> Value
+    ensures { λ r. ⌜ r ≡ profileIn (now (text .entry)) ⌝ }
+{
+    if pack(text) == STATION {
+        return good(1);
+    }
+    refused(MALFORMED)
+}
+
 // The value of a hexadecimal digit; 16 of any other byte.
 pub(crate) fn hex(b: u8) -> u8
     ensures { λ r. ⌜ (r ≡ hexDef b) × (r ≤ 16) ⌝ }
@@ -323,6 +339,9 @@ fn value_in(key: usize, text: &[u8]) -> Value
     }
     if key == SIZING {
         return sizing(text);
+    }
+    if key == PROFILE {
+        return profile(text);
     }
     if key == UUID {
         return uuid(text);

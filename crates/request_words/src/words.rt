@@ -2,7 +2,7 @@
 ghost use mathlib.Core.Path.{_≡_};
 ghost use Prim.Native.Nat.{_+_, _≤_, _<_, min};
 ghost use lib.ListN.{length};
-ghost use Rattle.request_words.specs.Words.{placeOfByte, noWord, meant as meantDef, wordAt, wordsFrom, wordWith, given, judged, wordsVerdict, verdict as verdictDef, missing as missingDef};
+ghost use Rattle.request_words.specs.Words.{noWord, meant as meantDef, wordAt, wordsFrom, wordWith, given, judged, wordsVerdict, verdict as verdictDef, missing as missingDef};
 use crate::Verdict;
 use crate::Word;
 use crate::values::KEYS;
@@ -12,6 +12,7 @@ use crate::values::SIZE;
 use crate::values::UUID;
 use crate::values::key_of;
 use crate::values::value_of;
+use text_pages::place_of;
 
 // A word whose name is no key's, a word whose name stands again behind it, and a word that is missing.
 pub const UNKNOWN: u8 = 1;
@@ -19,21 +20,6 @@ pub const UNKNOWN: u8 = 1;
 pub const TWICE: u8 = 2;
 
 pub const MISSING: u8 = 5;
-
-// Where the first byte b stands, from an offset on.
-fn place_of(words: &[u8], at: usize, b: u8) -> usize
-    requires { ⌜ at ≤ length (now words) ⌝ }
-    ensures { λ r. ⌜ (r ≡ placeOfByte b at (now (words .entry))) × (at ≤ r) × (r ≤ length (now (words .entry))) ⌝ }
-{
-    let mut i = at;
-    while i < words.len() {
-        if words[i] == b {
-            return i;
-        }
-        i += 1;
-    }
-    i
-}
 
 // Where the word behind one that ends at `end` begins.
 fn next_of(len: usize, end: usize) -> usize
@@ -136,6 +122,7 @@ fn judge(words: &[u8]) -> Verdict
             return Verdict {
                 number: w.number,
                 index,
+                key: w.key,
             };
         }
         let again = find(words, w.next, w.key);
@@ -143,6 +130,7 @@ fn judge(words: &[u8]) -> Verdict
             return Verdict {
                 number: TWICE,
                 index,
+                key: w.key,
             };
         }
         at = w.next;
@@ -151,19 +139,21 @@ fn judge(words: &[u8]) -> Verdict
     Verdict {
         number: 0,
         index: 0,
+        key: 0,
     }
 }
 
 fn missing(key: usize) -> Verdict
-    ensures { λ r. ⌜ r ≡ verdictDef missingDef key ⌝ }
+    ensures { λ r. ⌜ r ≡ verdictDef missingDef 0 key ⌝ }
 {
     Verdict {
         number: MISSING,
-        index: key,
+        index: 0,
+        key,
     }
 }
 
-// Whether the words are a request: 0; or what is wrong, beside the index of the word or, of a missing one, its key.
+// Whether the words are a request: 0; or what is wrong, beside the index and the key of the word or, of a missing one, its key.
 pub(crate) fn verdict(words: &[u8]) -> Verdict
     ensures { λ r. ⌜ r ≡ wordsVerdict (now (words .entry)) ⌝ }
 {
@@ -186,5 +176,6 @@ pub(crate) fn verdict(words: &[u8]) -> Verdict
     Verdict {
         number: 0,
         index: 0,
+        key: 0,
     }
 }

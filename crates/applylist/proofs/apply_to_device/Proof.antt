@@ -7,8 +7,8 @@ use borrow.Author.Needs.{needs}
 use Rattle.applylist.proofs.apply_to_device.Statement.{statement}
 use Rattle.applylist.proofs.apply_to_device.Tie as tie
 
-logical-sector-requires : tie.Need-logical-sector-requires
-logical-sector-requires c κs = search needs
+sizes-of-requires : tie.Need-sizes-of-requires
+sizes-of-requires c κs = search needs
 
 write-all-requires : tie.Need-write-all-requires
 write-all-requires c κs = search needs
@@ -80,7 +80,7 @@ pub apply-to-device-spec : {M : Type 1} → statement M
 apply-to-device-spec =
     tie.close
     (tie.spec
-    logical-sector-requires
+    sizes-of-requires
     write-all-requires
     slice-aggregate-write-all
     write-all-requires-2

@@ -15,7 +15,7 @@ returns : tie.Need-returns
 returns c = none-fed _ _ _ (c .halted .ensures)
 
 returns-2 : tie.Need-returns-2
-returns-2 c = one-fed _ _ _ _ (ap (λ (s : Step). s .applying) (c .before .before .before .before .before .feed .ensures))
+returns-2 c = one-fed _ _ _ _ (ap (λ (s : Step). s .applying) (c .before .before .before .before .before .before .feed .ensures))
 
 pub feed-first-spec : {M : Type 1} → statement M
 feed-first-spec =

@@ -1,6 +1,7 @@
 -- `request_texts::leading` meets its contract. Invariant: what comes before i is digits.
 -- Assumes nothing.
-use Rattle.request_texts.proofs.Saying.{index-here, index-later, index-past, digit-low, digit-high, digit-is}
+use Rattle.text_pages.proofs.Places.{index-here, index-later, index-past}
+use Rattle.request_texts.proofs.Saying.{digit-low, digit-high, digit-is}
 use Rattle.request_texts.specs.Texts.{isDigit, leading}
 use Rattle.seqs.specs.Lists.{firstIndex}
 use mathlib.Core.Bool.{not}

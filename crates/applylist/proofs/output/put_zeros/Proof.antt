@@ -7,10 +7,10 @@ use Rattle.applylist.proofs.output.put_zeros.Statement.{statement}
 use Rattle.applylist.proofs.output.put_zeros.Tie as tie
 
 abbrev Inv-loop : tie.InvT-loop
-Inv-loop fd zeros len at extends left₀ left = left ≤ len
+Inv-loop fd zeros len at extends left₀ until₀ left until = left ≤ len
 
 abbrev μ-loop : tie.MeasureT-loop
-μ-loop fd zeros len at extends left₀ left = left
+μ-loop fd zeros len at extends left₀ until₀ left until = left
 
 pub put-zeros-spec : {M : Type 1} → statement M
 put-zeros-spec =

@@ -2,6 +2,7 @@
 -- Assumes nothing.
 use Rattle.request_words.proofs.Writing.{put-here, options-short, turn-left, turn-end, turn-room, turn-length, options-done, options-ended}
 use Rattle.request_words.specs.Asked.{optionRecords}
+use Rattle.request_words.specs.Values.{codes}
 use Rattle.request_words.specs.Words.{wordsFrom}
 use Rattle.endian.specs.Bytes.{patch}
 use lib.ListN.{length}
@@ -12,10 +13,10 @@ use Rattle.request_words.proofs.records.put_options.Statement.{statemen
 use Rattle.request_words.proofs.records.put_options.Tie as tie
 
 abbrev Inv-loop : tie.InvT-loop
-Inv-loop words buf₀ at end₀ code₀ buf end code = (patch at (optionRecords 12 1 (wordsFrom 0 words)) buf₀ ≡ patch end (optionRecords (13 - code) code (wordsFrom 0 words)) buf) × (at + length (optionRecords 12 1 (wordsFrom 0 words)) ≡ end + length (optionRecords (13 - code) code (wordsFrom 0 words))) × (1 ≤ code) × (code ≤ 13) × (end + 11 * (13 - code) ≤ at + 132) × (length buf ≡ length buf₀)
+Inv-loop words buf₀ at end₀ code₀ buf end code = (patch at (optionRecords codes 1 (wordsFrom 0 words)) buf₀ ≡ patch end (optionRecords (codes + 1 - code) code (wordsFrom 0 words)) buf) × (at + length (optionRecords codes 1 (wordsFrom 0 words)) ≡ end + length (optionRecords (codes + 1 - code) code (wordsFrom 0 words))) × (1 ≤ code) × (code ≤ codes + 1) × (end + 11 * (codes + 1 - code) ≤ at + 143) × (length buf ≡ length buf₀)
 
 abbrev μ-loop : tie.MeasureT-loop
-μ-loop words buf₀ at end₀ code₀ buf end code = 13 - code
+μ-loop words buf₀ at end₀ code₀ buf end code = codes + 1 - code
 
 loop-holds : tie.Need-loop-holds Inv-loop μ-loop
 loop-holds c = (refl, refl, omega arith, omega arith, omega arith, refl)
@@ -36,7 +37,7 @@ same-length : tie.Need-same-length Inv-loop μ-loop
 same-length c = c .before .loop .inv .5
 
 returns : tie.Need-returns Inv-loop μ-loop
-returns c = put-here _ _ 132 _ _ _ (let z = options-ended (wordsFrom 0 (c .before .before .before .before .args .words .now)) (c .before .loop .code) (omega arith) in omega arith) (options-short 12 1 (wordsFrom 0 (c .before .before .before .before .args .words .now))) (sym (c .before .loop .inv .0 ∙ options-done (wordsFrom 0 (c .before .before .before .before .args .words .now)) (c .before .loop .code) (c .before .loop .end) (c .before .loop .buf) (omega arith)))
+returns c = put-here _ _ 143 _ _ _ (let z = options-ended (wordsFrom 0 (c .before .before .before .before .args .words .now)) (c .before .loop .code) (omega arith) in omega arith) (options-short codes 1 (wordsFrom 0 (c .before .before .before .before .args .words .now))) (sym (c .before .loop .inv .0 ∙ options-done (wordsFrom 0 (c .before .before .before .before .args .words .now)) (c .before .loop .code) (c .before .loop .end) (c .before .loop .buf) (omega arith)))
 
 pub put-options-spec : {M : Type 1} → statement M
 put-options-spec =

@@ -1,6 +1,6 @@
 -- `request_words::values::index_in` meets its contract. Invariant: no name before i is the one.
 -- Assumes nothing.
-use Rattle.request_texts.proofs.Saying.{index-here, index-later, index-past}
+use Rattle.text_pages.proofs.Places.{index-here, index-later, index-past}
 use Rattle.request_words.specs.Values.{indexIn}
 use Rattle.seqs.specs.Lists.{firstIndex}
 use lib.ListN.{length, drop}
