@@ -1,4 +1,4 @@
--- Two parts of a line, the second written first: what the whole answers.
+-- Two parts of a line, the second written first: what the whole answers; and how long a part is.
 -- Assumes nothing.
 use mathlib.Core.Path.{_≡_, refl, sym, ap, _∙_}
 use mathlib.Core.Bool.{Bool, true, false}
@@ -11,7 +11,10 @@ use borrow.Author.Tests.{leb-false, le-leb, lt-leb}
 use Rattle.endian.specs.Answer.{answer}
 use Rattle.endian.specs.Bytes.{patch}
 use Rattle.endian.proofs.Laws.{patch-append}
-use Rattle.table_lines.specs.Lines.{PutLine}
+use Rattle.seqs.specs.Lists.{choose}
+use Rattle.table_lines.specs.Decimal.{decimal}
+use Rattle.table_lines.specs.Lines.{space, newline, PutLine}
+use Rattle.inquire_lines.specs.Items.{followed, itemBytes}
 
 -- 0 says that there was room, another number that there was none
 room-of : (t : Bool) → answer t ≡ 0 → t ≡ true
@@ -61,3 +64,16 @@ module _ (at n : ℕ) (first second old : List ℕ) (long : n ≡ length first) 
         let t = room-of (leb (at + n + length second) (length old)) (sym (p .number-is) ∙ z) in
         put-whole at whole old (ap (λ (k : ℕ). leb k (length old)) (sym ends) ∙ t) z (p .end-is ∙ rw t ends)
         (l ∙ ap (patch at first) (p .bytes-are ∙ rw t (ap (λ (k : ℕ). patch (at + k) second old) long)) ∙ sym (patch-append at first second old))
+
+-- the bytes of a word and its number, and the one behind them
+pub item-size : (word : List ℕ) (number d : ℕ) (last : Bool) → d ≡ length (decimal number) → length word + 1 + d + 1 ≡ length (itemBytes word number last)
+unfolding itemBytes
+item-size word number d last e =
+    let b = choose last newline space in
+    omega (
+      arith,
+      e,
+      length-append (followed word space) (followed (decimal number) b),
+      length-append word (space ∷ []),
+      length-append (decimal number) (b ∷ []),
+    )
