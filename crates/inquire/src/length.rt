@@ -1,8 +1,8 @@
-// `inquire length`: how much `writelist` will send for the input records on standard input. The numbers are `list_size`'s, the line's parts
+// `inquire length`: how much `writelist` will send for the input records on standard input. The numbers are `list_size`'s, the line
 // `inquire_lines`'.
 use crate::output::say_refused;
 use crate::output::write_line;
-use inquire_lines::put_item;
+use inquire_lines::put_size;
 use libc::STDIN_FILENO;
 use list_size::ListSize;
 use list_size::list_size;
@@ -16,10 +16,8 @@ pub(crate) fn usage(fd: i32) {
 
 fn say_size(s: ListSize) -> bool {
     let mut line = io::buffer();
-    let records = put_item(b"records", s.records, false, &mut line, 0);
-    let bytes = put_item(b"bytes", s.bytes, false, &mut line, records.end);
-    let payload = put_item(b"payload", s.payload, true, &mut line, bytes.end);
-    write_line(payload, &line)
+    let w = put_size(s, &mut line, 0);
+    write_line(w, &line)
 }
 
 // False where a write failed.

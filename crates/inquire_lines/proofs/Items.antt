@@ -1,7 +1,7 @@
--- Two parts of a line, the second written first: what the whole answers.
+-- Two parts of a line, the second written first: what the whole answers; and how long a part is.
 -- Assumes nothing.
 use mathlib.Core.Path.{_≡_, refl, sym, ap, _∙_}
-use mathlib.Core.Bool.{Bool, true, false}
+use mathlib.Core.Bool.{Bool, true, false, cond}
 use mathlib.Core.List.{List, [], _∷_, _++_}
 use Prim.Native.Nat.{ℕ, _+_, _≤_, _<_}
 use native.Mathlib.Omega.{arith}
@@ -12,7 +12,9 @@ use Rattle.refusals.specs.Numbers.{wrongLength}
 use Rattle.endian.specs.Answer.{answer}
 use Rattle.endian.specs.Bytes.{patch}
 use Rattle.endian.proofs.Laws.{patch-append}
-use Rattle.table_lines.specs.Lines.{PutLine}
+use Rattle.table_lines.specs.Decimal.{decimal}
+use Rattle.table_lines.specs.Lines.{space, newline, PutLine}
+use Rattle.inquire_lines.specs.Items.{withByte, itemBytes}
 
 -- 0 says that there was room, another number that there was none
 room-of : (t : Bool) → answer t ≡ 0 → t ≡ true
@@ -62,3 +64,16 @@ module _ (at n : ℕ) (first second old : List ℕ) (long : n ≡ length first) 
         let t = room-of (leb (at + n + length second) (length old)) (sym (p .number-is) ∙ z) in
         put-whole at whole old (ap (λ (k : ℕ). leb k (length old)) (sym ends) ∙ t) z (p .end-is ∙ rw t ends)
         (l ∙ ap (patch at first) (p .bytes-are ∙ rw t (ap (λ (k : ℕ). patch (at + k) second old) long)) ∙ sym (patch-append at first second old))
+
+-- the bytes of a word and its number, and the one behind them
+pub item-size : (word : List ℕ) (number d : ℕ) (last : Bool) → d ≡ length (decimal number) → length word + 1 + d + 1 ≡ length (itemBytes word number last)
+unfolding itemBytes
+item-size word number d last e =
+    let b = cond last newline space in
+    omega (
+      arith,
+      e,
+      length-append (withByte word space) (withByte (decimal number) b),
+      length-append word (space ∷ []),
+      length-append (decimal number) (b ∷ []),
+    )

@@ -5,8 +5,8 @@ use mathlib.Core.Bool.{Bool, true, false, cond}
 use mathlib.Core.List.{List, [], _∷_, _++_, append-nil}
 use Prim.Native.Nat.{ℕ, suc, _+_, _-_, _≤_, _<_}
 use native.Mathlib.Omega.{arith}
-use borrow.Author.Tests.{lt-ltb, ltb-true, leb-true}
-use lib.Dec.{ltb}
+use borrow.Author.Tests.{lt-ltb, le-ltb, ltb-true, leb-true}
+use lib.Dec.{ltb, eqb}
 use lib.ListN.{length, getD, set, replicate, length-append, length-take}
 use lib.Seq.{slice, set-append-seam, append-snoc, take-append-seam}
 use Rattle.arith.proofs.Both.{left-true}
@@ -14,12 +14,13 @@ use Rattle.seqs.specs.Lists.{fold}
 use Rattle.seqs.proofs.Laws.{rest-cons, rest-nil}
 use Rattle.btree.specs.declared.records.AllocRec.{AllocRec}
 use Rattle.geometry.specs.declared.Geometry.{Geometry}
-use Rattle.plan_free.specs.Free.{zeroFreeRec}
+use Rattle.plan_free.specs.declared.Taken.{Taken}
+use Rattle.plan_free.specs.Free.{zeroFreeRec, taken}
 use Rattle.plan_holds.specs.declared.HeldList.{HeldList}
 use Rattle.plan_holds.specs.declared.Holds.{Holds}
 use Rattle.plan_holds.specs.declared.Held.{Held}
 use Rattle.plan_holds.specs.Adding.{addedIf, addedSide}
-use Rattle.plan_holds.specs.Holding.{heldOf, packHeld, isRun, anyRun, startsOn, side, putRun, dropRun, isState}
+use Rattle.plan_holds.specs.Holding.{heldOf, packHeld, isRun, anyRun, startsOn, side, putRun, dropRun, holdRefused, heldWith, isState}
 
 -- ---- the runs of a packed list
 pub held-packed : (xs : List AllocRec) → heldOf (packHeld xs) ≡ xs
@@ -112,6 +113,20 @@ module _ (a n : ℕ) (xs : List AllocRec) (k i : ℕ) where
   pub any-end : i ≡ k → anyRun a n (slice i k xs) ≡ false
   unfolding anyRun
   any-end e = rw (rest-nil xs zeroFreeRec k i e)
+
+-- ---- a run that isn't held: 42 where it is empty or not free, before 34 where eight are held
+module _ (s : Holds) (a n : ℕ) where
+  pub empty-refused : n ≤ 0 → holdRefused 42 ≡ heldWith s a n
+  unfolding heldWith
+  empty-refused h = rw (le-ltb 0 n h) refl
+
+  pub unfree-refused : 0 < n → eqb (taken (s .free) a n .number) 0 ≡ false → holdRefused 42 ≡ heldWith s a n
+  unfolding heldWith
+  unfree-refused h t = rw (lt-ltb 0 n h, t) refl
+
+  pub full-refused : 0 < n → eqb (taken (s .free) a n .number) 0 ≡ true → 8 ≤ s .held .len → holdRefused 34 ≡ heldWith s a n
+  unfolding heldWith
+  full-refused h t l = rw (lt-ltb 0 n h, t, le-ltb (s .held .len) 8 l) refl
 
 -- ---- a state holds at most eight runs
 pub state-few : (g : Geometry) (s : Holds) → isState g s ≡ true → s .held .len ≤ 8

@@ -1,7 +1,6 @@
 -- `inquire_holds::open` meets its contract.
 -- Assumes nothing.
-use Rattle.inquire_holds.specs.Calls.{holdsOpened, openedOf}
-use Rattle.run.specs.Runs.{stepOf}
+use Rattle.inquire_holds.proofs.Laws.{opened-by}
 use borrow.Author.Needs.{needs}
 use Rattle.inquire_holds.proofs.open.Statement.{statement}
 use Rattle.inquire_holds.proofs.open.Tie as tie
@@ -22,8 +21,8 @@ or-next-requires-2 : tie.Need-or-next-requires-2
 or-next-requires-2 c κs = search needs
 
 returns : tie.Need-returns
-unfolding holdsOpened openedOf stepOf
-returns c = rw (c .or-next2 .ensures, c .before .or-next .ensures, c .before .before .before .start .ensures, c .before .before .before .before .before .compute .ensures, c .before .before .before .before .before .before .parse .ensures)
+returns c =
+    opened-by _ _ _ _ _ _ _ (c .before .before .before .before .before .before .parse .ensures) (c .before .before .before .before .before .compute .ensures) (c .before .before .before .start .ensures) (c .before .or-next .ensures) (c .or-next2 .ensures)
 
 pub open-spec : {M : Type 1} → statement M
 open-spec =

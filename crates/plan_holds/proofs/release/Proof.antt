@@ -1,6 +1,6 @@
 -- `plan_holds::release` meets its contract.
 -- Assumes nothing.
-use mathlib.Core.Path.{_∙_, sym}
+use mathlib.Core.Path.{refl, _∙_, sym}
 use borrow.Author.Needs.{needs}
 use Rattle.plan_holds.specs.declared.HeldList.{HeldList}
 use Rattle.plan_holds.specs.Holding.{heldOf, dropRun, releaseDef}
@@ -25,7 +25,7 @@ unfolding releaseDef
 returns c =
     let s = c .before .before .before .before .before .before .before in
     c .replay .ensures
-    ∙ rw (sym (c .before .before .before .before .before .before .is-state .ensures) ∙ c .before .before .before .before .before .if1 .taken, sym (c .before .before .before .is-held .ensures) ∙ c .before .before .if2 .taken, c .before .drop-run .ensures, held-packed (dropRun (s .args .at) (heldOf (s .args .s .held))))
+    ∙ rw (sym (c .before .before .before .before .before .before .is-state .ensures) ∙ c .before .before .before .before .before .if1 .taken, sym (c .before .before .before .is-held .ensures) ∙ c .before .before .if2 .taken, c .before .drop-run .ensures, held-packed (dropRun (s .args .at) (heldOf (s .args .s .held)))) refl
 
 returns-2 : tie.Need-returns-2
 unfolding releaseDef

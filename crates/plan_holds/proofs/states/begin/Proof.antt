@@ -1,6 +1,6 @@
 -- `plan_holds::states::begin` meets its contract.
 -- Assumes nothing.
-use mathlib.Core.Path.{_≡_, sym, ap, _∙_}
+use mathlib.Core.Path.{_≡_, refl, sym, ap, _∙_}
 use mathlib.Core.Bool.{true, false}
 use lib.Dec.{eqb}
 use Rattle.plan.specs.declared.Planned.{Planned}
@@ -25,7 +25,7 @@ returns-2 c =
     let s = c .before .before .before in
     let p = c .before .before .plan-ag .ensures in
     let t : eqb (planned (s .args .g) (s .args .agno) .number) 0 ≡ false = ap (λ (x : Planned). eqb (x .number) 0) (sym p) ∙ ne-eqb _ 0 (c .before .if1 .left) in
-    c .refused .ensures ∙ rw (t, ← p)
+    c .refused .ensures ∙ rw (t, ← p) refl
 
 pub begin-spec : {M : Type 1} → statement M
 begin-spec = tie.close (tie.spec

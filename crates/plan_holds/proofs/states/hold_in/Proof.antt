@@ -4,39 +4,37 @@ use mathlib.Core.Path.{_≡_, _∙_, sym, ap}
 use mathlib.Core.Bool.{true, false}
 use lib.Dec.{eqb}
 use Rattle.plan_free.specs.Free.{taken}
-use Prim.Native.Nat.{_<_, _≤_}
+use Prim.Native.Nat.{_<_}
 use borrow.Author.Needs.{needs}
-use borrow.Author.Tests.{eq-eqb, ne-eqb, lt-ltb, le-ltb}
+use borrow.Author.Tests.{eq-eqb, ne-eqb, lt-ltb}
 use native.Mathlib.Omega.{arith}
 use Rattle.plan_free.specs.declared.Taken.{Taken}
 use Rattle.plan_free.proofs.Laws.{taken-ends}
 use Rattle.plan_holds.specs.Holding.{heldWith}
+use Rattle.plan_holds.proofs.Laws.{empty-refused, unfree-refused, full-refused}
 use Rattle.plan_holds.proofs.states.hold_in.Statement.{statement}
 use Rattle.plan_holds.proofs.states.hold_in.Tie as tie
 
 returns : tie.Need-returns
-unfolding heldWith
 returns c =
-    let n : c .before .before .args .length ≤ 0 = omega (arith, c .before .if1 .taken) in
-    c .refused .ensures ∙ rw (le-ltb 0 _ n)
+    let s = c .before .before in
+    c .refused .ensures ∙ empty-refused (s .args .s) (s .args .at) (s .args .length) (omega (arith, c .before .if1 .taken))
 
 returns-2 : tie.Need-returns-2
-unfolding heldWith
 returns-2 c =
     let s = c .before .before .before .before .before .before in
     let t : eqb (taken (s .args .s .free) (s .args .at) (s .args .length) .number) 0 ≡ false =
     ap (λ (x : Taken). eqb (x .number) 0) (sym (c .before .before .before .take .ensures)) ∙ ne-eqb _ 0 (c .before .if2 .taken) in
     let n : 0 < s .args .length = omega (arith, c .before .before .before .before .before .if1 .left) in
-    c .refused2 .ensures ∙ rw (lt-ltb 0 _ n, t)
+    c .refused2 .ensures ∙ unfree-refused (s .args .s) (s .args .at) (s .args .length) n t
 
 returns-3 : tie.Need-returns-3
-unfolding heldWith
 returns-3 c =
     let s = c .before .before .before .before .before .before .before .before .before in
     let t : eqb (taken (s .args .s .free) (s .args .at) (s .args .length) .number) 0 ≡ true =
     ap (λ (x : Taken). eqb (x .number) 0) (sym (c .before .before .before .before .before .before .take .ensures)) ∙ eq-eqb _ 0 (c .before .before .before .before .if2 .left) in
     let n : 0 < s .args .length = omega (arith, c .before .before .before .before .before .before .before .before .if1 .left) in
-    c .refused3 .ensures ∙ rw (lt-ltb 0 _ n, t, le-ltb _ 8 (c .before .if3 .taken))
+    c .refused3 .ensures ∙ full-refused (s .args .s) (s .args .at) (s .args .length) n t (c .before .if3 .taken)
 
 cast-t12 : tie.Need-cast-t12
 cast-t12 c =

@@ -1,5 +1,6 @@
 -- `plan_holds::states::is_state` meets its contract.
 -- Assumes nothing.
+use mathlib.Core.Path.{refl}
 use borrow.Author.Needs.{needs}
 use borrow.Author.Tests.{le-leb, lt-leb}
 use Rattle.plan_holds.specs.Holding.{isState}
@@ -12,7 +13,7 @@ returns c = simp (lt-leb _ 8 (c .if1 .taken))
 
 returns-2 : tie.Need-returns-2
 unfolding isState
-returns-2 c = rw (c .both .ensures, c .before .same-state .ensures, c .before .before .before .before .replay .ensures, le-leb _ 8 (c .before .before .before .before .before .if1 .left))
+returns-2 c = rw (c .both .ensures, c .before .same-state .ensures, c .before .before .before .before .replay .ensures, le-leb _ 8 (c .before .before .before .before .before .if1 .left)) refl
 
 pub is-state-spec : {M : Type 1} → statement M
 is-state-spec = tie.close (tie.spec
