@@ -21,7 +21,7 @@ use Rattle.run.specs.Runs.{runOf}
 use Rattle.list_records.specs.Records.{Record, FL, Among, byKind, blockRecords}
 use Rattle.list_records.proofs.Sums.{count-total}
 use Rattle.list_records.specs.Device.{Device, applied}
-use Rattle.list_spec.specs.Listing.{headerBlocks, headFinished, headerRecords, closing, listOf, recordCount}
+use Rattle.list_spec.specs.Listing.{headerBlocks, headFinished, headerRecords, headLeft, closing, listOf, recordCount}
 use Rattle.list_spec.specs.Left.{unfinished, finishingRecord, FirstBlockUnfinished}
 use Rattle.list_spec.proofs.Counts.{list-count, list-flushes, closing-total}
 use Rattle.list_spec.proofs.Parts.{list-parts}
@@ -37,14 +37,16 @@ use Rattle.list_laws.proofs.Applied.{run-front}
 use Rattle.reader_exact.specs.declared.Found.{Found}
 use Rattle.reader_exact.specs.Read.{readGroup0, readGroup, readLog}
 use Rattle.reader_exact.specs.Left.{reported}
-use Rattle.reader_exact.specs.Disk.{headOn, formatted}
-use Rattle.reader_exact.proofs.Heads.{some-group}
+use Rattle.reader_exact.specs.Disk.{headOn, logOn, formatted}
+use Rattle.reader_exact.proofs.Heads.{some-group, source-handed}
+use Rattle.reader_exact.proofs.Sizings.{reported-source, reported-log, reported-here}
+use Rattle.reader_exact.proofs.Others.{group-sound, exact-log}
 use Rattle.reader_exact.proofs.Disk.{head-formatted, log-formatted, early-refused}
 use Rattle.reader_exact.proofs.Recovery.{recovered}
 use Rattle.reader_admit.specs.Admit.{admitted}
 use Rattle.reader_admit.proofs.Within.{source-within, reported-within}
 use Rattle.reader_admit.proofs.Admitted.{refused-kept}
-use Rattle.mission.specs.Mission.Words.{beforeFinished, runRecords, stoppedAfter, Finishing, firstNumber, Admits, ReadBack}
+use Rattle.mission.specs.Mission.Words.{beforeFinished, runRecords, stoppedAfter, Finishing, firstNumber, Admits, ReadBack, AsLeft}
 use Rattle.mission.specs.Mission.{PowerCut}
 
 module _ (run : Run) (device : ℕ) where
@@ -188,6 +190,22 @@ module _ (r : Request) (a : AcceptedRun r) (old : Device) where
       subst (ReadBack r)
       (sym (ap (applied all) flushed ∙ after-any run (r .device) (sound r a) xs ys (its-closing xs mx) (its-closing ys my) old)) read-back
 
+  -- what is read back is what the run leaves: the reader accepts nothing else in its places
+  its-places : (d : Device) → ReadBack r d → AsLeft r old d
+  its-places d b =
+      let g = run .geometry in
+      let u = run .uuid in
+      let s = source-of r a in
+      let h = source-handed (reported g) u (reported-source g u s) in
+      record {
+        head =
+            λ k lt.
+            group-sound (reported g) u k (headOn g d k) h (ap (λ (p : Planned). p .number) (b .group k lt)) .bytes
+            ∙ sym (reported-here g u s k (headLeft g u k) (record { source = s; group = lt; bytes = refl }) .bytes)
+            ∙ sym (head-formatted r a old k lt);
+        log-block = exact-log (reported g) u (logOn g d) h .0 (b .log-block) .bytes ∙ reported-log g u s ∙ sym (log-formatted r a old);
+      }
+
   -- ---- a reader that admits profile disks only
 
   its-admitted : (d : Device) → ReadBack r d → Admits (profileNumber true (run .geometry) (labelOn (run .geometry))) r d
@@ -218,6 +236,7 @@ module _ (r : Request) (a : AcceptedRun r) (old : Device) where
         sent = ap readList (sym (written-whole r a .whole)) ∙ written-whole r a .back;
         received = λ size limit i hold h k. run-front r a k size limit hold h i;
         any-subset = λ n o h rs m. early-number (applied rs (stoppedAfter r n old)) (its-subset n (omega arith) (omega arith) rs m);
+        needs-all = its-places;
         finished-lost = λ rs m. early-number (applied rs (stoppedAfter r (beforeFinished (run .geometry)) old)) (its-lost rs m);
         finished-kept = its-kept;
       }

@@ -146,7 +146,7 @@ pub record Demand2 : Type 0 where
 
 -- ==== POWER LOST WHILE FORMATTING, a part of demand 3: of an accepted run r, in either sizing, under the profile or not, on a device that
 -- held `old`; by a reader that is told to admit profile disks only, or not. Nothing is said of a block that was written in part, nor of
--- records in another order than theirs but by the last three sentences.
+-- records in another order than theirs but by the last four sentences.
 
 pub record PowerCut (r : Request) (old : Device) : Type 0 where
   -- Before the first record the old contents stand there.
@@ -174,8 +174,10 @@ pub record PowerCut (r : Request) (old : Device) : Type 0 where
   pub any-subset : (n : ℕ) → 0 < n → n ≤ beforeFinished (runOf r .geometry) → (rs : List Record)
       → Among (drop 1 (take (beforeFinished (runOf r .geometry)) (runRecords r))) rs → (told : Bool)
       → firstNumber told r (applied rs (stoppedAfter r n old)) ≡ notLeft
-  -- Acceptance is promised once all records up to the first flush are kept (a head that was lost is refused: `other-head`). Group 0 still
-  -- gets 30 while the finishing record is lost,
+  -- Acceptance needs the first flush kept. All is read back only where every head and the log block are those that the run leaves, so not
+  -- where a record of these before that flush was lost and other bytes stood in its place (the root chunk isn't read).
+  pub needs-all : (d : Device) → ReadBack r d → AsLeft r old d
+  -- Once all records up to that flush are kept, group 0 still gets 30 while the finishing record is lost,
   pub finished-lost : (rs : List Record) → Among (drop (beforeFinished (runOf r .geometry) + 1) (runRecords r)) rs
       → (told : Bool) → firstNumber told r (applied rs (stoppedAfter r (beforeFinished (runOf r .geometry)) old)) ≡ notLeft
   -- and all is read back where that record is among those that came, whichever came before it and behind it.

@@ -94,6 +94,11 @@ pub record ReadBack (r : Request) (d : Device) : Type 0 where
       ≡ record { number = 0; plan = planned (runOf r .geometry) k .plan }
   pub log-block : readLog (reported (runOf r .geometry)) (runOf r .uuid) (logOn (runOf r .geometry) d) ≡ 0
 
+-- Every head and the log block on a device are those that the run leaves.
+pub record AsLeft (r : Request) (old d : Device) : Type 0 where
+  pub head : (k : ℕ) → k < runOf r .geometry .agcount → headOn (runOf r .geometry) d k ≡ headOn (runOf r .geometry) (formatted r old) k
+  pub log-block : logOn (runOf r .geometry) d ≡ logOn (runOf r .geometry) (formatted r old)
+
 -- The run's written records.
 abbrev pub runRecords : Request → List Record
 runRecords r = listOf (runOf r) (r .device)
