@@ -1,9 +1,14 @@
-// Whether a file or device holds nothing but zeros at its ends.
+// Whether a file or device is empty: it holds nothing but zeros at its ends, or, as a plain file, nothing at all.
 ghost use mathlib.Core.Path.{_≡_};
 ghost use lib.ListN.{length};
 use libc::SEEK_END;
 use libc::SEEK_SET;
 use list_holes::is_blank;
+
+// What lseek is asked for the first data, and its error where there is none.
+const SEEK_DATA: i32 = 3;
+
+const ENXIO: i32 = 6;
 
 // How many bytes an end has: the first and the last 128 KiB.
 const END: u64 = 131072;
@@ -48,4 +53,10 @@ pub(crate) fn are_blank(fd: i32, size: u64) -> bool {
         return false;
     }
     is_blank_end(fd)
+}
+
+// Whether a plain file is one hole, so that it holds no data at all.
+pub(crate) fn is_hole(fd: i32) -> bool {
+    let data = libc::lseek(fd, 0, SEEK_DATA);
+    data < 0 && os::errno() == ENXIO
 }

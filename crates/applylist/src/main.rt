@@ -39,6 +39,13 @@ use list_sector::enough;
 use output::Piece;
 use output::done;
 
+// What a file or device may hold: anything, nothing at its ends, or, as a plain file, nothing at all.
+const ANYTHING: u8 = 0;
+
+const BLANK: u8 = 1;
+
+const HOLE: u8 = 2;
+
 // What became of a piece: it is done, or the call that failed.
 pub(crate) const DONE: u8 = 0;
 
@@ -261,14 +268,17 @@ fn finish(p: Progress) {
 }
 
 fn usage(fd: i32) {
-    io::write_all(fd, b"usage: applylist [--extend | --empty] PATH < LIST\n");
     io::write_all(
         fd,
-        b"Applies a list to a file or device that is there. --extend: a plain file may become longer. --empty: nothing is applied, and that\n",
+        b"usage: applylist [--extend | --empty | --hole] PATH < LIST\n",
     );
     io::write_all(
         fd,
-        b"is said on standard output, where a byte of the first or last 128 KiB isn't zero.\n",
+        b"Applies a list to a file or device that is there. --extend: a plain file may become longer. Nothing is applied, and that is said on\n",
+    );
+    io::write_all(
+        fd,
+        b"standard output, with --empty where a byte of the first or last 128 KiB isn't zero, with --hole where a file isn't one hole.\n",
     );
 }
 
@@ -338,18 +348,30 @@ fn apply_to_device(fd: i32, extends: bool, limit: u64, path: &[u8]) {
     apply_from(fd, extends, limit, &ahead[..n]);
 }
 
+// Whether the file or device is as empty as it has to be; that it isn't is said.
+fn is_empty(fd: i32, size: u64, empty: u8) -> bool {
+    if empty == BLANK && !ends::are_blank(fd, size) {
+        io::write_all(
+            STDOUT_FILENO,
+            b"nothing applied: a byte of the first or last 128 KiB isn't zero\n",
+        );
+        return false;
+    }
+    if empty == HOLE && !ends::is_hole(fd) {
+        io::write_all(STDOUT_FILENO, b"nothing applied: not one hole\n");
+        return false;
+    }
+    true
+}
+
 // Applies the list to an open file or device.
-fn apply_open(fd: i32, extends: bool, empty: bool, path: &[u8]) {
+fn apply_open(fd: i32, extends: bool, empty: u8, path: &[u8]) {
     let end = limit_of(fd, extends);
     if end < 0 {
         os::fail(b"size");
         return;
     }
-    if empty && !ends::are_blank(fd, bytes_to(end)) {
-        io::write_all(
-            STDOUT_FILENO,
-            b"nothing applied: a byte of the first or last 128 KiB isn't zero\n",
-        );
+    if !is_empty(fd, bytes_to(end), empty) {
         return;
     }
     if device_sizes::is_device(fd) {
@@ -361,7 +383,7 @@ fn apply_open(fd: i32, extends: bool, empty: bool, path: &[u8]) {
 }
 
 // Applies the list to what argument i names, the last of `count` words.
-fn apply_to(i: usize, count: usize, extends: bool, empty: bool) {
+fn apply_to(i: usize, count: usize, extends: bool, empty: u8) {
     if os::arg_count() != count {
         usage(STDERR_FILENO);
         return;
@@ -387,12 +409,16 @@ fn main() {
         return;
     }
     if is_word(b"--extend") {
-        apply_to(2, 3, true, false);
+        apply_to(2, 3, true, ANYTHING);
         return;
     }
     if is_word(b"--empty") {
-        apply_to(2, 3, false, true);
+        apply_to(2, 3, false, BLANK);
         return;
     }
-    apply_to(1, 2, false, false);
+    if is_word(b"--hole") {
+        apply_to(2, 3, false, HOLE);
+        return;
+    }
+    apply_to(1, 2, false, ANYTHING);
 }

@@ -1,6 +1,6 @@
-// Answers cases of the reader and of writelist from standard input (replay_frames has the frames). oracle/compare asks it through a pipe. `stdin`
-// and `stdout` hold cases from seeds and what the Rust leaves and writes (24, 26, 28 and 30, which the Rust doesn't know, are the scope's); they
-// were written by
+// Answers cases of the reader and of writelist from standard input (replay_frames has the frames). oracle/compare asks it through a pipe.
+// `stdin` and `stdout` hold cases from seeds and what the Rust leaves and writes (24, 26, 28 and 30, which the Rust doesn't know, are the
+// scope's); they were written by
 //
 //     oracle/record disks
 use crate::lists::list;
@@ -70,7 +70,8 @@ fn first(form: u8, head: &[u8]) -> Found {
     f
 }
 
-// The number of a group's head (the parameter is its number, 8 bytes), read with what group 0's head gave; where that was refused, its number.
+// The number of a group's head (the parameter is its number, 8 bytes), read with what group 0's head gave; where that was refused, its
+// number.
 fn group(found: Found, agno: u64, head: &[u8]) -> u32 {
     if found.number != 0 {
         return found.number;
@@ -119,7 +120,8 @@ fn put(disk: &mut [u8; 25600], at: usize, value: u8) -> u8 {
     old
 }
 
-// Puts a byte at an offset (4 bytes, and 4 for the byte): the number of its place, and as the value the number after the old byte was put back.
+// Puts a byte at an offset (4 bytes, and 4 for the byte): the number of its place, and as the value the number after the old byte was put
+// back.
 fn change(form: u8, p: &[u8], disk: &mut [u8; 25600]) {
     let at = word(p, 0) as usize;
     let old = put(disk, at, (word(p, 4) % 256) as u8);

@@ -79,8 +79,8 @@ fn label_of(p: &[u8]) -> [u8; 12] {
     out
 }
 
-// The geometry in the first 220 bytes: its 19 numbers and its seven features in 8 bytes each, and its label. Plain sizing, since the Rust has
-// no other.
+// The geometry in the first 220 bytes: its 19 numbers and its seven features in 8 bytes each, and its label. Plain sizing, since the Rust
+// has no other.
 pub(crate) fn geometry_of(p: &[u8]) -> Geometry {
     let features = features_of(p);
     let label = label_of(p);

@@ -1,4 +1,5 @@
-// Group headers, leaf block, superblock. The parameters are the structure's fields in its own order, then the UUID, unless it says otherwise.
+// Group headers, leaf block, superblock. The parameters are the structure's fields in its own order, then the UUID, unless it says
+// otherwise.
 use crate::cases::byte;
 use crate::cases::geometry_of;
 use crate::cases::half;

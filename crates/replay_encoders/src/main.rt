@@ -1,6 +1,6 @@
-// Answers cases of the checksum and of the encoders from standard input (replay_frames has the frames): the number, and the lent bytes as they
-// are left. oracle/compare asks it through a pipe. `stdin` and `stdout` hold cases from seeds and what the Rust answers to them (26, 27, 34 and
-// 35, which the Rust doesn't know, are the scope's); they were written by
+// Answers cases of the checksum and of the encoders from standard input (replay_frames has the frames): the number, and the lent bytes as
+// they are left. oracle/compare asks it through a pipe. `stdin` and `stdout` hold cases from seeds and what the Rust answers to them (26,
+// 27, 34 and 35, which the Rust doesn't know, are the scope's); they were written by
 //
 //     oracle/record encoders
 use crate::cases::Answer;

@@ -29,7 +29,8 @@ fn alloc_array(p: &[u8]) -> [AllocRec; 65] {
 // `btree_slices::alloc_recs` of the first `count` records.
 fn alloc_first(recs: [AllocRec; 65], count: usize, out: &mut [u8]) -> u32
     requires { ⌜ count ≤ 65 ⌝ }
-    ensures { λ r. ⌜ Written (recsNumber 8 count (length (now (out .entry)))) (recordsBytes allocBytes (take count recs)) (now (out .entry)) r (now (out .exit)) ⌝ }
+    ensures { λ r. ⌜ Written (recsNumber 8 count (length (now (out .entry)))) (recordsBytes allocBytes (take count recs)) (now (out .entry))
+        r (now (out .exit)) ⌝ }
 {
     btree_slices::alloc_recs(&recs[..count], out)
 }
@@ -64,7 +65,8 @@ fn rmap_array(p: &[u8]) -> [RmapRec; 65] {
 // `btree_slices::rmap_recs` of the first `count` records.
 fn rmap_first(recs: [RmapRec; 65], count: usize, out: &mut [u8]) -> u32
     requires { ⌜ count ≤ 65 ⌝ }
-    ensures { λ r. ⌜ Written (recsNumber 24 count (length (now (out .entry)))) (recordsBytes rmapBytes (take count recs)) (now (out .entry)) r (now (out .exit)) ⌝ }
+    ensures { λ r. ⌜ Written (recsNumber 24 count (length (now (out .entry)))) (recordsBytes rmapBytes (take count recs)) (now (out .entry))
+        r (now (out .exit)) ⌝ }
 {
     btree_slices::rmap_recs(&recs[..count], out)
 }

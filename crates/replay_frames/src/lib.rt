@@ -1,6 +1,7 @@
-// Cases and answers of the programs that answer cases of the oracle: through a pipe, where the oracle compares each answer with the Rust's, and
-// in every run of the gate, from the file `stdin`. A case is a frame: its length (4 bytes, numbers are big-endian), then the form of the
-// answer (1), the function (1), the length of its parameters (4), these, and the body, which are the lent bytes of a function that writes.
+// Cases and answers of the programs that answer cases of the oracle: through a pipe, where the oracle compares each answer with the Rust's,
+// and in every run of the gate, from the file `stdin`. A case is a frame: its length (4 bytes, numbers are big-endian), then the form of
+// the answer (1), the function (1), the length of its parameters (4), these, and the body, which are the lent bytes of a function that
+// writes.
 //
 //     form 0    the answer is a frame: length (4), number (4), value (8), and the bytes
 //     form 1    it is a line of text: number, value, and the checksum of the bytes where there are any
@@ -71,8 +72,8 @@ fn filled(buf: &mut [u8], n: usize) -> bool {
     io::read_full(STDIN_FILENO, &mut buf[..n]) == n
 }
 
-// How many lent bytes there are: `sent` of them, or, in the form that repeats one, as many as the body's first bytes say, each made; none where
-// there is no room.
+// How many lent bytes there are: `sent` of them, or, in the form that repeats one, as many as the body's first bytes say, each made; none
+// where there is no room.
 fn lent(form: u8, sent: usize, body: &mut [u8]) -> usize {
     if form != REPEATED {
         return sent;

@@ -1,6 +1,6 @@
-// Held runs: start, hold and release, the latter two of a state handed in, spoilt or not. A state has 600 bytes: the group (8), the count of free
-// records (8), 64 free records (start and length, 4 each), the count of held runs (8), 8 held runs (the same). The counts are handed on as they
-// stand, also above 64 and 8.
+// Held runs: start, hold and release, the latter two of a state handed in, spoilt or not. A state has 600 bytes: the group (8), the count
+// of free records (8), 64 free records (start and length, 4 each), the count of held runs (8), 8 held runs (the same). The counts are
+// handed on as they stand, also above 64 and 8.
 use crate::rows::Answer;
 use crate::rows::put;
 use crate::rows::put_count;

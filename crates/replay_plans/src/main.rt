@@ -1,6 +1,6 @@
-// Answers cases of geometry, plans, record lists, input records and held runs from standard input (replay_frames has the frames): the number, and
-// a row of numbers. oracle/compare asks it through a pipe. `stdin` and `stdout` hold cases from seeds and what the Rust answers to them (24, 28
-// and others, which the Rust doesn't know, are the scope's, and held runs are the model's); they were written by
+// Answers cases of geometry, plans, record lists, input records and held runs from standard input (replay_frames has the frames): the
+// number, and a row of numbers. oracle/compare asks it through a pipe. `stdin` and `stdout` hold cases from seeds and what the Rust answers
+// to them (24, 28 and others, which the Rust doesn't know, are the scope's, and held runs are the model's); they were written by
 //
 //     oracle/record plans
 use crate::holds::holds;

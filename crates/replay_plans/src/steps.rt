@@ -201,8 +201,8 @@ fn put_counts(row: &mut [u8; 16384], g: Geometry) {
     put64(row, 22, initial_fdblocks(g));
 }
 
-// Number and value of each method in the Rust's order, then of ag_blocks, agb_to_fsb, agb_to_byte, agb_to_daddr and ino. The parameters are a
-// group, a block of it and a slot, 8 bytes each.
+// Number and value of each method in the Rust's order, then of ag_blocks, agb_to_fsb, agb_to_byte, agb_to_daddr and ino. The parameters are
+// a group, a block of it and a slot, 8 bytes each.
 pub(crate) fn places(p: &[u8], records: &[u8], row: &mut [u8; 16384]) -> Answer {
     let c = step(records);
     if c.number != 0 {
