@@ -36,13 +36,13 @@ const PLAIN: u64 = 512;
 const UNIT: u64 = 512;
 
 // An offset that isn't negative, as a number of bytes; 0 of any other.
-pub fn bytes_to(end: i64) -> u64
-    ensures { λ r. ⌜ r ≡ bytesTo end ⌝ }
+pub fn bytes_to(offset: i64) -> u64
+    ensures { λ r. ⌜ r ≡ bytesTo offset ⌝ }
 {
-    if end < 0 {
+    if offset < 0 {
         return 0;
     }
-    end as u64
+    offset as u64
 }
 
 // Whether the file is a block device: a plain file answers where its next hole is.

@@ -29,19 +29,19 @@ its-own (negsuc n) e = absurd (true≢false e)
 
 returns : tie.Need-returns
 returns c =
-    let e = c .before .args .end in
-    is-negative e (subst (λ (z : ℤ). ltZ z (pos 0) ≡ true) (toZ-ofZ w64 e (c .before .fits .end)) (c .if1 .taken))
+    let e = c .before .args .offset in
+    is-negative e (subst (λ (z : ℤ). ltZ z (pos 0) ≡ true) (toZ-ofZ w64 e (c .before .fits .offset)) (c .if1 .taken))
 
 cast-result : tie.Need-cast-result
 cast-result c =
-    let e = c .before .args .end in
-    let f = c .before .fits .end in
+    let e = c .before .args .offset in
+    let f = c .before .fits .offset in
     (not-negative (toZ w64 (ofZ w64 e)) (c .if1 .left), subst (λ (z : ℤ). Fits w64 (natAbs z)) (sym (toZ-ofZ w64 e f)) (record { fits = lt-of-le-of-lt (natAbs-le e (f .sfits)) (lit< tt) }))
 
 returns-2 : tie.Need-returns-2
 returns-2 c =
-    let e = c .before .args .end in
-    let s = toZ-ofZ w64 e (c .before .fits .end) in
+    let e = c .before .args .offset in
+    let s = toZ-ofZ w64 e (c .before .fits .offset) in
     ap natAbs s ∙ its-own e (subst (λ (z : ℤ). ltZ z (pos 0) ≡ false) s (c .if1 .left))
 
 pub bytes-to-spec : {M : Type 1} → statement M
