@@ -1,4 +1,6 @@
 // The headers of an allocation group, one sector each behind the superblock: free space, inodes, free list. The Rust's structs/ag.rs.
+#![tactic(auto)]
+
 pub mod agf; // `struct xfs_agf`
 pub mod agfl; // `struct xfs_agfl`
 pub mod agi; // `struct xfs_agi`

@@ -2,6 +2,8 @@
 // and extends a plain file only where it is told to: a record that ends behind the file or device stops it, and where that is one of a
 // run's first two, nothing was changed. Where it is told to, it also leaves alone what isn't empty. `list_apply` says what is to be read
 // next and what is to be done with it; here bytes are only moved.
+#![tactic(auto)]
+
 mod clock; // a line of progress
 mod ends; // a device that is empty
 mod input; // reading

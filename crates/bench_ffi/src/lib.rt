@@ -1,5 +1,7 @@
 // The functions that bench/ calls beside the Rust's: checksum and encoders for a caller in C or Rust. A group header comes field by field,
 // in its own order; a geometry as an array of its fields, with its features as 0 or 1, and a superblock's state as one of its numbers.
+#![tactic(auto)]
+
 ghost use Rattle.std.specs.Prelude.{◌≡◌, ◌+◌, length, take};
 ghost use Rattle.endian.specs.Answer.{Put};
 ghost use Rattle.crc.specs.Crc.{crc32c_of, stamped};

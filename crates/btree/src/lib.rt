@@ -1,4 +1,6 @@
 // The trees of an allocation group: their records, and a leaf block that is the root. The Rust's structs/btree.rs.
+#![tactic(auto)]
+
 pub mod leaf; // a leaf block that is the root
 pub mod owner; // who owns a reverse mapping
 pub mod records; // free space, inode and reverse mapping records

@@ -1,4 +1,6 @@
 // The bytes of the trees' records one after the other. The Rust's alloc_recs, inobt_recs and rmap_recs of structs/btree.rs.
+#![tactic(auto)]
+
 ghost use Rattle.std.specs.Prelude.{◌≡◌, true, false, ◌+◌, ◌≤◌, ◌<◌, length, take};
 ghost use Rattle.endian.specs.Bytes.{patch};
 ghost use Rattle.structs.specs.Written.{Written};

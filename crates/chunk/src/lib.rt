@@ -1,5 +1,7 @@
 // The root chunk: every inode of it free, then the root directory and the realtime bitmap and summary inodes. The Rust's root_chunk of
 // format.rs.
+#![tactic(auto)]
+
 ghost use Rattle.std.specs.Prelude.{◌≡◌, length};
 ghost use Rattle.chunk.specs.Chunk.{summary_draw, chunk_number, chunk_bytes, chunk_places, ChunkMade};
 

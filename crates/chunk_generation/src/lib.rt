@@ -1,4 +1,6 @@
 // Generations of inodes: splitmix64, one 64-bit state whose sums and products wrap. The Rust's Gen of format.rs.
+#![tactic(auto)]
+
 ghost use Rattle.std.specs.Prelude.{◌≡◌, ◌%◌, ◌^◌, ◌<◌};
 ghost use Rattle.chunk_generation.specs.Draw.{folded, mixed, drawn};
 

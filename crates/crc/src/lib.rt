@@ -1,4 +1,6 @@
 // CRC32C, the checksum of every structure on disk. The Rust's crc.rs.
+#![tactic(auto)]
+
 ghost use Rattle.std.specs.Prelude.{◌≡◌, ◌&&◌, [], ◌∷◌, ◌+◌};
 ghost use Rattle.endian.specs.Answer.{room, Put, Got};
 ghost use Rattle.crc.specs.Crc.{crc32c_of, cksum_of, stamped, verified};

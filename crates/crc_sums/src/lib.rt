@@ -1,4 +1,6 @@
 // The checksums of several structures in one buffer: as they stand before something is written, and whether they stand there afterwards.
+#![tactic(auto)]
+
 ghost use Rattle.std.specs.Prelude.{◌≡◌};
 ghost use Rattle.crc_sums.specs.Sums.{sums_in, same_sums};
 

@@ -1,5 +1,7 @@
 // The constant tables of CRC32C, each proved equal to its definition by a test of its entries. A crate of their own, so that an edit of the
 // loops over them does not test them again.
+#![tactic(auto)]
+
 ghost use Rattle.std.specs.Prelude.{◌≡◌};
 ghost use Rattle.crc_register.specs.Tables.{byte_table, leap_table, slice_table};
 

@@ -1,4 +1,6 @@
 // Prints the CRC32C of standard input in hexadecimal.
+#![tactic(auto)]
+
 use libc::{STDERR_FILENO, STDIN_FILENO, STDOUT_FILENO};
 
 // The register after what was read so far; whether there may be more, and whether a read failed.

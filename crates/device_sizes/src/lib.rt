@@ -1,6 +1,8 @@
 // What the system says of an open file or block device: its size, and its logical and physical sector. Nothing is guessed: what can't be
 // read is said. A device's sectors are sysfs's, by the name that the system has for the open device, so that links to it make no
 // difference; the device of that name has to have the open one's size.
+#![tactic(auto)]
+
 ghost use Rattle.std.specs.Prelude.{◌≡◌, ◌≤◌, length};
 ghost use Rattle.io.specs.Counts.{IsPrefixLen};
 ghost use Rattle.libc.specs.Io.{Ended};

@@ -1,5 +1,7 @@
 // Numbers and bytes in a lent buffer. Each function answers every offset and buffer: 0, or 27 where the bytes don't lie inside, and
 // then nothing has changed. The Rust's bytes.rs.
+#![tactic(auto)]
+
 pub mod numbers; // one number, big-endian, into a buffer and out of it (crate endian_little has the other order)
 pub mod runs; // bytes, copies of a byte, the fields of a structure, consecutive numbers
 

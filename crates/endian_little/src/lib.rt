@@ -1,5 +1,7 @@
 // Little-endian numbers in a lent buffer, as endian has big-endian ones: checksums are stored so. The width is a parameter of the loops,
 // and every width shares their proofs. The Rust's bytes.rs.
+#![tactic(auto)]
+
 ghost use Rattle.std.specs.Prelude.{◌≡◌, ◌+◌, ◌≤◌, ◌<◌, ◌^◌, length};
 ghost use Rattle.endian.specs.Answer.{Put, Got};
 ghost use Rattle.endian.specs.Bytes.{patch};

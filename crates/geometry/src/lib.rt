@@ -1,5 +1,7 @@
 // The geometry step: what mkfs.xfs would choose for the options and the device, or the number of the refusal.
 // The types stand here.
+#![tactic(auto)]
+
 pub mod sizes; // sizes.rt: block, sector and inode size, 2 to 8
 pub mod groups; // groups.rt: block count and groups, 9 to 18
 pub mod log_size; // log_size.rt: head blocks, log and imaxpct, 19 to 24

@@ -1,4 +1,6 @@
 // What a superblock names, and whether a geometry is an answer of the geometry step.
+#![tactic(auto)]
+
 ghost use Rattle.std.specs.Prelude.{◌≡◌, ◌*◌, ◌<◌, ◌^◌};
 ghost use Rattle.geometry_answers.specs.Named.{named_options, named_answer, names_of, is_answer};
 

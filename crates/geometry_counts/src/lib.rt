@@ -1,5 +1,7 @@
 // Numbers of a geometry, as the methods of the Rust's Geometry give them, for every geometry that is handed in:
 // one that is no answer of the geometry step gets 31.
+#![tactic(auto)]
+
 ghost use Rattle.std.specs.Prelude.{◌≡◌};
 ghost use Rattle.geometry_answers.specs.Named.{is_answer};
 ghost use Rattle.geometry_counts.specs.Known.{known64, known32};

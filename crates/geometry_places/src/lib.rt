@@ -1,5 +1,7 @@
 // The four units of a block's place and the conversions between them, as the methods of the Rust's Geometry give them.
 // A geometry that is no answer of the geometry step gets 31; a group, block or slot that is not there gets 29.
+#![tactic(auto)]
+
 pub mod refusal; // refusal.rt: is the group, the block, the slot there?
 pub mod units; // units.rt: the conversions and the inode number
 pub mod fixed; // fixed.rt: the log's start, the root directory's inode, the first free count

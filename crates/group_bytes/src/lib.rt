@@ -1,4 +1,6 @@
 // What formatter and reader share: each group's head and the log's first block, made in lent memory.
+#![tactic(auto)]
+
 ghost use Rattle.std.specs.Prelude.{◌≡◌, ◌*◌, length};
 ghost use Rattle.structs.specs.Written.{Written};
 ghost use Rattle.structs.specs.Encoded.{Encoded};

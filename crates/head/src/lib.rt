@@ -1,4 +1,6 @@
 // The head of a group, put together from its plan. The Rust's format.rs, ag_head.
+#![tactic(auto)]
+
 ghost use Rattle.std.specs.Prelude.{◌≡◌, true, eqb, ◌*◌, ◌≤◌, length, take, replicate};
 ghost use Rattle.refusals.specs.Numbers.{wrong_length};
 ghost use Rattle.endian.specs.Bytes.{patch};

@@ -1,1 +1,2 @@
 // The bytes of a group's head, and their laws. No functions: see specs/ and proofs/.
+#![tactic(auto)]

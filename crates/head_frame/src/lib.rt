@@ -1,4 +1,6 @@
 // What the parts of a group's head have in common, in plain numbers, once the plan is known to be the planner's.
+#![tactic(auto)]
+
 ghost use Rattle.std.specs.Prelude.{◌≡◌, true, ◌*◌, ◌<◌, ◌^◌};
 ghost use Rattle.plan_same.specs.Same.{is_plan};
 ghost use Rattle.plan_totals.specs.Totals.{freeblks_of, longest_of};

@@ -1,6 +1,8 @@
 // The root blocks of a group's trees, each one leaf with its records: free space, inodes, reverse mappings.
 // Each says whether its checksum stood there already. 27 unless the block is one; 34 for a list of more than 64 records, or for records
 // that don't fit.
+#![tactic(auto)]
+
 ghost use Rattle.std.specs.Prelude.{◌≡◌, [], ◌∷◌, ◌*◌, ◌≤◌, length, take};
 ghost use Rattle.arith.specs.Choice.{bit};
 ghost use Rattle.structs.specs.Encoded.{Encoded};

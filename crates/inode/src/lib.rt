@@ -1,5 +1,7 @@
 // Inodes on disk: an allocated one, a free one, and the data of an empty directory. The Rust's structs/inode.rs; crate inode_time has its
 // times.
+#![tactic(auto)]
+
 pub mod dinode; // `struct xfs_dinode`
 pub mod directory; // an empty directory within its inode
 

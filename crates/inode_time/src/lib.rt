@@ -1,4 +1,6 @@
 // A time, and the 64 bits that an inode stores of it. The Rust's encode_time and decode_time of structs/inode.rs.
+#![tactic(auto)]
+
 ghost use Rattle.std.specs.Prelude.{◌≡◌, ◌+◌, ◌*◌, ◌%◌, ◌^◌, ◌≤◌, ◌<◌, ltb};
 ghost use Rattle.refusals.specs.Numbers.{time_out_of_range};
 ghost use Rattle.structs.specs.Written.{require};

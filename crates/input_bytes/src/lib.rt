@@ -1,4 +1,6 @@
 // Reads bytes from a file descriptor into a lent buffer until it is full or the input ends: the input loop of the programs.
+#![tactic(auto)]
+
 ghost use Rattle.std.specs.Prelude.{◌≡◌, ◌≤◌, ltb, length};
 ghost use Rattle.io.specs.Counts.{IsPrefixLen};
 

@@ -1,5 +1,7 @@
 // Answers questions about disks; the first word says which one. `inquire --help` has them all. A usage error prints nothing on standard
 // output. What is answered stands in the libraries that each question names; here bytes are only read and written.
+#![tactic(auto)]
+
 mod cabinet; // which disks of a cabinet have lists that fit one area
 mod holds; // what holding runs of blocks back and giving them back leaves of a group's free records
 mod length; // how much a run sends

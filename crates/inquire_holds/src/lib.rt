@@ -1,4 +1,6 @@
 // What `inquire holds` answers: the state that its calls start from, and each call in turn.
+#![tactic(auto)]
+
 pub mod words; // the words of the calls
 
 ghost use Rattle.std.specs.Prelude.{◌≡◌};

@@ -1,5 +1,7 @@
 // What the lines of `inquire` are made of, written into a lent buffer: a word and a number, or a word alone; and the line of a list's size.
 // As in table_lines: 0 and where the bytes end, or 27 where they don't fit, and then nothing has changed.
+#![tactic(auto)]
+
 ghost use Rattle.refusals.specs.Numbers.{wrong_length};
 ghost use Rattle.std.specs.Prelude.{◌≡◌, false, cond, length};
 ghost use Rattle.table_lines.specs.Lines.{space, newline, PutLine};

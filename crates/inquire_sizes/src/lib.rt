@@ -1,4 +1,6 @@
 // Whether every device size of a range is formatted: a loop over its sizes in whole blocks.
+#![tactic(auto)]
+
 ghost use Rattle.std.specs.Prelude.{◌≡◌, ◌≤◌, ◌<◌, ◌^◌};
 ghost use Rattle.inquire_sizes.specs.Ranges.{sizes_call_refused, options_number, no_range, range_of, sizes_answer, sizes_asked};
 ghost use Rattle.inquire_sizes.specs.Step.{number_at};

@@ -1,4 +1,6 @@
 // The smallest device size, among some in steps of 1 MiB, whose finished superblock has so many free blocks: a loop over the sizes.
+#![tactic(auto)]
+
 ghost use Rattle.std.specs.Prelude.{◌≡◌, ◌+◌, ◌*◌, ◌-◌, ◌≤◌, ◌<◌, ◌^◌};
 ghost use Rattle.inquire_smallest.specs.Question.{default_groups, reaches, smallest_call_refused, found_in, no_sizes, smallest_answer, smallest_asked};
 

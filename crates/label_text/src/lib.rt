@@ -1,4 +1,6 @@
 // A label as text: every byte that isn't printable ASCII is escaped, so that a terminal shows it and does nothing else.
+#![tactic(auto)]
+
 ghost use Rattle.std.specs.Prelude.{◌≡◌, false, ◌+◌, ◌-◌, ◌≤◌, ◌<◌, length};
 ghost use Rattle.endian.specs.Bytes.{patch};
 ghost use Rattle.label_text.specs.Text.{is_plain, hex_digit, escape, shown_byte, label_text, text_of};

@@ -2,6 +2,8 @@
 // what is to be done: a flush, zeros, or the bytes just fed. The first record that can't be applied ends it. Zeros of the first record wait
 // until the next record's head is known to be in order, and then a flush follows them: a list of which one of the two doesn't fit changes
 // nothing.
+#![tactic(auto)]
+
 ghost use Rattle.std.specs.Prelude.{◌≡◌};
 ghost use Rattle.list_apply.specs.Applying.{applying_begun, head_next, head_bytes_wanted, kept_of, piece_length, applying_wanted, idle_step, stopped_by, marked_step, input_ended, following_of, taken_up, waits_def, held_back, released, accepted_by, put_piece, in_limit, fed_record, fed_decoded, applying_fed_head, fed_bytes, applying_fed};
 

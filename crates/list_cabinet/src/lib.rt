@@ -1,5 +1,7 @@
 // One staging area for the lists of a cabinet's disks: these are handed in one after the other to a state by value, which says what is left
 // of the area. How long a disk's list is says `list_size`.
+#![tactic(auto)]
+
 ghost use Rattle.std.specs.Prelude.{◌≡◌};
 ghost use Rattle.list_cabinet.specs.Cabinet.{answer_with, taken_by};
 ghost use Rattle.list_cabinet.specs.Entering.{cabinet_opened, cabinet_number, entered};

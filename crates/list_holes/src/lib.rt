@@ -1,5 +1,7 @@
 // Zeros that a disk has already: whether they lie in a hole of a plain file, where they need no write, and whether bytes that were read are
 // zeros alone.
+#![tactic(auto)]
+
 ghost use Rattle.std.specs.Prelude.{◌≡◌};
 ghost use Rattle.list_holes.specs.Holes.{in_hole, is_blank};
 

@@ -1,4 +1,6 @@
 // How many pieces the list of a run has, how long each is, and which number refuses one.
+#![tactic(auto)]
+
 ghost use Rattle.std.specs.Prelude.{◌≡◌};
 ghost use Rattle.list_lengths.specs.Pieces.{listed_length, part_length, format_number, piece_number, write_number, count_answer, length_answer, part_answer};
 

@@ -1,5 +1,7 @@
 // The written records, read back: the head of each, where its write ends, and where the list ends. A list is read in parts, so an answer
 // also says that more bytes are needed.
+#![tactic(auto)]
+
 ghost use Rattle.std.specs.Prelude.{◌≡◌};
 ghost use Rattle.list_read.specs.Records.{head_cut, head_refused, write_head, decode_def, within_def};
 ghost use Rattle.list_read.specs.Flushes.{next_def, ended_def};

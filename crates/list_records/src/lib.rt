@@ -1,5 +1,6 @@
 // The written records as data: zeros, one block's bytes, a flush. Here are the marks and sizes that other crates write and read by; what a
 // list is, and what it leaves on a device, stands in specs/ and proofs/.
+#![tactic(auto)]
 
 // The marks: "WZ" for zeros, "WB" for a block, "FL" for a flush.
 pub const ZEROS_MARK: u16 = 0x575a;

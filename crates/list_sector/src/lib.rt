@@ -1,4 +1,6 @@
 // The sector size that a list of written records says in its first bytes: a list for smaller sectors than the device's isn't to be applied.
+#![tactic(auto)]
+
 ghost use Rattle.std.specs.Prelude.{◌≡◌, ◌+◌, ◌≤◌, length};
 ghost use Rattle.endian.specs.Bytes.{be_at};
 ghost use Rattle.list_sector.specs.Sector.{begins_superblock, sector_behind, sector_in, enough, below_logical};

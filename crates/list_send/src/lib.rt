@@ -1,5 +1,7 @@
 // Sending the list of the run that input records ask for, as a state by value: a program lends buffers, writes what it is handed, and
 // counts nothing itself. Each turn puts the next piece of the list at the start of a lent buffer.
+#![tactic(auto)]
+
 ghost use Rattle.std.specs.Prelude.{◌≡◌};
 ghost use Rattle.list_send.specs.Sending.{sending_begun, next_piece, sending_wanted, longest_piece, unsent, sending_stepped, Turn};
 

@@ -1,5 +1,7 @@
 // How much the run of input records will send, before its list is made: how many records, how many bytes in all, and how many of these are
 // payload of `WB`. It is worked out from the geometry, in the same time for every disk.
+#![tactic(auto)]
+
 ghost use Rattle.std.specs.Prelude.{◌≡◌, ◌*◌, ◌^◌, ◌<◌, ◌≤◌};
 ghost use Rattle.geometry_layout.specs.Bounds.{Bounds};
 ghost use Rattle.list_spec.specs.Listing.{block_count};

@@ -1,5 +1,7 @@
 // The list of a run's written records, piece by piece: zeros and the log, the head of each group, the root chunk, and the end with the
 // finished superblock. The Rust's format of format.rs.
+#![tactic(auto)]
+
 ghost use Rattle.std.specs.Prelude.{length};
 ghost use Rattle.endian.specs.Bytes.{patch};
 ghost use Rattle.structs.specs.Written.{Written};

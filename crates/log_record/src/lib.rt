@@ -1,4 +1,6 @@
 // The log as a formatter leaves it: zeros, with one record at its start that holds an unmount record. The Rust's structs/log.rs.
+#![tactic(auto)]
+
 pub mod parts; // the pieces of a record: length, header, the unmount record, stamps
 
 ghost use Rattle.std.specs.Prelude.{◌≡◌, ◌^◌, length};

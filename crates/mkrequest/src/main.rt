@@ -1,5 +1,7 @@
 // Writes the input records that its words ask for, such as `size=2T`, to standard output. A word that is refused is named on standard
 // error, with what is expected; nothing is written then.
+#![tactic(auto)]
+
 mod said; // what is said on standard error
 mod words; // the words, as they are handed on
 

@@ -1,4 +1,6 @@
 // The options of a format run, as the caller asks for them, and the features.
+#![tactic(auto)]
+
 ghost use Rattle.std.specs.Prelude.{◌≡◌};
 ghost use Rattle.params.specs.Params.{all_features, no_options, with_size, with_block_size, with_sector_size, with_inode_size, with_agcount, with_agsize, with_imaxpct, with_label, with_uuid, with_time, with_gen_seed, with_features, with_roomy};
 

@@ -1,5 +1,7 @@
 // The plan of an allocation group: what mkfs.xfs leaves of its blocks.
 // The types stand here; the functions stand in the modules, in the order in which a plan is made.
+#![tactic(auto)]
+
 ghost use Rattle.std.specs.Prelude.{◌≡◌};
 ghost use Rattle.plan_site.specs.Sites.{SoundSite};
 ghost use Rattle.plan.specs.Plan.{refused_plan, plan_answer, plan_of, planned};

@@ -1,5 +1,7 @@
 // The free extents of an allocation group: a run taken out, and the extent that the free list is filled from. `take` and the pick of
 // `plan_ag` in the Rust's format.rs.
+#![tactic(auto)]
+
 pub mod list; // list.rt: an array of 64 records with a count
 pub mod picking; // picking.rt: the smallest record that holds what is wanted, else the largest
 pub mod taking; // taking.rt: a run taken out of the record that holds it

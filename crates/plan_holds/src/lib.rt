@@ -1,4 +1,6 @@
 // Runs of weak blocks of a group: held back from its free records, and given back. The types and the three calls stand here.
+#![tactic(auto)]
+
 ghost use Rattle.std.specs.Prelude.{◌≡◌};
 ghost use Rattle.plan_holds.specs.Holding.{started, hold_def, release_def};
 

@@ -1,1 +1,2 @@
 // What any calls of `hold` and `release` leave, said of blocks and runs. Theorems, no code.
+#![tactic(auto)]

@@ -1,1 +1,2 @@
 // Sums over all groups in any order in which each group is taken once: theorems alone, no code.
+#![tactic(auto)]

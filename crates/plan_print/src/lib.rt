@@ -1,4 +1,6 @@
 // Prints a table to a file descriptor: part by part, each filled into a lent buffer and written.
+#![tactic(auto)]
+
 ghost use Rattle.std.specs.Prelude.{◌≡◌, true, length};
 ghost use Rattle.plan_table.specs.Filling.{table_behind, table_filled, Printing};
 

@@ -1,5 +1,7 @@
 // The reverse mappings of an allocation group: a record put in, joined with its neighbours of the same owner. `rmap_insert` in the
 // Rust's format.rs.
+#![tactic(auto)]
+
 pub mod inserting; // inserting.rt: where a record goes, what it joins
 pub mod list; // list.rt: an array of 64 records with a count
 

@@ -1,4 +1,6 @@
 // Whether a plan handed in is the planner's for its group: it is planned again and compared, slots past the counts included.
+#![tactic(auto)]
+
 ghost use Rattle.std.specs.Prelude.{◌≡◌, eqb};
 ghost use Rattle.plan_same.specs.Same.{same_alloc, same_map, same_chunk, eq_list, same_free, same_agfl, same_rmap, same_plan, is_plan};
 

@@ -1,4 +1,6 @@
 // What the planner reads of a geometry for one group, in plain numbers.
+#![tactic(auto)]
+
 ghost use Rattle.std.specs.Prelude.{◌≡◌, true, ◌+◌, ◌<◌, ◌^◌};
 ghost use Rattle.arith.specs.Choice.{bit};
 ghost use Rattle.geometry.specs.Log.{header_of, prealloc_of};

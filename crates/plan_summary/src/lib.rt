@@ -1,4 +1,6 @@
 // The plans of all groups in a few numbers, in constant time: whether all are accepted, and what each group's row comes from.
+#![tactic(auto)]
+
 ghost use Rattle.std.specs.Prelude.{◌≡◌, true, ◌*◌, ◌≤◌, ◌<◌, ◌^◌};
 ghost use Rattle.geometry_answers.specs.Named.{is_answer};
 ghost use Rattle.plan_site.specs.Sites.{site_of, SoundSite};

@@ -1,5 +1,7 @@
 // What planlist prints, part by part: a table begins with the input or with a geometry, and `fill` puts its next whole lines into a
 // lent buffer until none is left.
+#![tactic(auto)]
+
 ghost use Rattle.std.specs.Prelude.{◌≡◌, ◌<◌, ◌&&◌, length, if◌then◌else◌, ◌==◌, nat_lt};
 ghost use Rattle.refusals.specs.Numbers.{wrong_length};
 ghost use Rattle.endian.specs.Bytes.{patch};

@@ -1,5 +1,7 @@
 // Reads input records from standard input and prints the plan of every group in a table, or `refused N`, and then its sentence on standard
 // error. What is printed is `plan_bytes` of the input (`plan_table`); here bytes are only read and written.
+#![tactic(auto)]
+
 ghost use Rattle.std.specs.Prelude.{length};
 ghost use Rattle.plan_table.specs.Filling.{table_begun, Printing};
 

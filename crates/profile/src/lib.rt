@@ -1,4 +1,6 @@
 // The scan station profile: whether it allows a geometry with a label, and the label of a disk as it judges it.
+#![tactic(auto)]
+
 ghost use Rattle.std.specs.Prelude.{◌≡◌, ◌||◌, ◌≤◌, length, take};
 ghost use Rattle.profile.specs.Rules.{allowed_sector, all_on, allowed_groups, label_byte, label_bytes, allowed_label, in_profile};
 ghost use Rattle.profile.specs.Rules.{profile_number, trimmed, label_on};

@@ -3,6 +3,8 @@
 // which bytes it wants next and whether an accepted run leaves the disk, and `plan_table` makes the table of the geometry that its
 // superblock names; here bytes are only read, and lines written. No line is printed before every head and the log's block are accepted;
 // what the bytes of such a disk say of a group is its row (`whole-printed`, crate reader_uses).
+#![tactic(auto)]
+
 mod input; // reading
 mod printed; // the table
 mod words; // standard error

@@ -1,5 +1,7 @@
 // The reader: whether an accepted run leaves the bytes that stand in a place. What the bytes name is read, the place's bytes are made anew
 // from it, and the two are compared.
+#![tactic(auto)]
+
 ghost use Rattle.std.specs.Prelude.{◌≡◌};
 ghost use Rattle.plan.specs.Plan.{refused_plan};
 ghost use Rattle.reader_exact.specs.Read.{not_found, read_sized, read_group0, read_group, read_log};

@@ -1,4 +1,6 @@
 // A reader that is told to admit profile disks only: the step behind an answer of the reader, which stays as it is where it isn't told so.
+#![tactic(auto)]
+
 ghost use Rattle.std.specs.Prelude.{◌≡◌};
 ghost use Rattle.reader_admit.specs.Admit.{admitted};
 

@@ -1,4 +1,6 @@
 // How far the bytes of a refused place agree with those that a run leaves there, so that a reader can say where they first differ.
+#![tactic(auto)]
+
 ghost use Rattle.std.specs.Prelude.{◌≡◌, ◌≤◌, length};
 ghost use Rattle.reader_agreement.specs.Agreed.{common, nothing_left as unknown_def, head_agreed, log_agreed, first_as, farther as farther_def, first_agreed, agreed_at};
 

@@ -1,5 +1,7 @@
 // A place of the disk: the bytes that an accepted run leaves there are made, and compared with those that stand there. Whoever calls from
 // another crate hands in no bytes to compare with, so that 0 always means that a run leaves these.
+#![tactic(auto)]
+
 ghost use Rattle.std.specs.Prelude.{◌≡◌};
 ghost use Rattle.refusals.specs.Table.{first};
 ghost use Rattle.reader_exact.specs.Read.{place_tests};

@@ -1,5 +1,7 @@
 // The reader accepts exactly the bytes that an accepted run leaves, in every head, in the log block and on the whole disk. The type alone;
 // the definitions and theorems stand in specs/ and proofs/.
+#![tactic(auto)]
+
 use geometry::Geometry;
 use plan::AgPlan;
 

@@ -1,4 +1,6 @@
 // What a superblock's bytes name: the fields are read at their places, and the geometry step answers for them.
+#![tactic(auto)]
+
 ghost use Rattle.std.specs.Prelude.{◌≡◌, ◌+◌, ◌≤◌, ◌<◌, length};
 ghost use Rattle.endian.specs.Bytes.{be_at};
 ghost use Rattle.endian.specs.Fields.{part};

@@ -1,5 +1,7 @@
 // One pass over a disk as a state by value: it says which bytes it wants next, and is fed with them. First the sector that names how long a
 // head is, then group 0's head, the other heads in rising order, and the log's first block. The first refusal ends it.
+#![tactic(auto)]
+
 ghost use Rattle.std.specs.Prelude.{◌≡◌};
 ghost use Rattle.head_bytes.specs.Head.{head_length};
 ghost use Rattle.reader_pass.specs.Passing.{pass_begun, byte_in, place_byte, offset_of, stage_length, is_ended, pass_wanted, pass_verdict};

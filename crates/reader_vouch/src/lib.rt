@@ -1,4 +1,6 @@
 // What the reader vouches for, as a contract.
+#![tactic(auto)]
+
 ghost use Rattle.std.specs.Prelude.{◌≡◌, true, ◌↔◌};
 ghost use Rattle.reader_vouch.specs.Leaving.{SomeLeaves};
 

@@ -1,5 +1,7 @@
 // Says a refusal in words on standard error, as `refused 21: fewer than 300 MiB`. The sentence is `refusal_sentences`'; here it is only
 // written. Standard output is left to the program.
+#![tactic(auto)]
+
 use libc::STDERR_FILENO;
 use refusal_sentences::put_sentence;
 

@@ -1,4 +1,6 @@
 // The sentence of a refusal, written into a lent buffer: 0 and where it ends, or 27 where it doesn't fit, and then nothing has changed.
+#![tactic(auto)]
+
 ghost use Rattle.std.specs.Prelude.{◌≡◌};
 ghost use Rattle.table_lines.specs.Lines.{PutLine};
 ghost use Rattle.text_pages.specs.Pages.{page as page_of, ascii_bytes};

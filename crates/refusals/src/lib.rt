@@ -1,5 +1,7 @@
 // Refusals: the number of each (what it says: crate refusal_sentences), and a table of them, run from its last test to its first, so that
 // the smallest number that applies is left.
+#![tactic(auto)]
+
 ghost use Rattle.std.specs.Prelude.{◌≡◌};
 ghost use Rattle.arith.specs.Choice.{when};
 

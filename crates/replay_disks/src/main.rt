@@ -3,6 +3,8 @@
 // scope's); they were written by
 //
 //     oracle/record disks
+#![tactic(auto)]
+
 use crate::lists::list;
 use reader::{read_group, read_group0, read_log};
 use reader_exact::Found;

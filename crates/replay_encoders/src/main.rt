@@ -3,6 +3,8 @@
 // 27, 34 and 35, which the Rust doesn't know, are the scope's); they were written by
 //
 //     oracle/record encoders
+#![tactic(auto)]
+
 use crate::cases::{Answer, numbered};
 use crate::groups::{agf, agfl, agi, leaf, superblock};
 use crate::inodes::{

@@ -8,6 +8,8 @@
 //     form 2    the same, and the body is one byte and a count (4): that many lent bytes of that value
 //
 // A parameter that lies behind the parameters' end is 0. A program ends at its input's end, and at a case that has no room.
+#![tactic(auto)]
+
 ghost use Rattle.std.specs.Prelude.{◌≡◌, ◌+◌};
 ghost use Rattle.endian.specs.Answer.{room, valued};
 ghost use Rattle.endian.specs.Bytes.{be_at};

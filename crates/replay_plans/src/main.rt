@@ -3,6 +3,8 @@
 // to them (24, 28 and others, which the Rust doesn't know, are the scope's, and held runs are the model's); they were written by
 //
 //     oracle/record plans
+#![tactic(auto)]
+
 use crate::holds::holds;
 use crate::plans::{plans, rmap_insert, take};
 use crate::requests::request;

@@ -1,4 +1,6 @@
 // The input records: which disk, and with which options.
+#![tactic(auto)]
+
 pub mod options; // the options that the records give
 pub mod defaults; // what stands for an absent UUID, time and seed
 

@@ -1,4 +1,6 @@
 // The input as records, one after the other: what each gives, whether all are known, and the value of a key.
+#![tactic(auto)]
+
 ghost use Rattle.std.specs.Prelude.{◌≡◌, ◌+◌, ◌≤◌, ◌<◌, length, get_or};
 ghost use Rattle.request_input.specs.Records.{option_bits, option_fits, record_known, whole_record, no_record, record_at, records, value_with, sound, well_formed};
 ghost use Rattle.endian.specs.Bytes.{be_at};

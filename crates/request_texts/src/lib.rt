@@ -1,4 +1,6 @@
 // What a text says: a name, as a number; a decimal number with a suffix.
+#![tactic(auto)]
+
 ghost use Rattle.std.specs.Prelude.{◌≡◌, ◌+◌, ◌-◌, ◌≤◌, ◌<◌, ◌^◌, length, drop};
 ghost use Rattle.table_lines.specs.Decimal.{value_after};
 ghost use Rattle.request_texts.specs.Texts.{said, within, letter as letter_def, named, packed_name, leading as leading_def, suffix as suffix_def, factor as factor_def, number_text};

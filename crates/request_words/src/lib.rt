@@ -1,4 +1,6 @@
 // Words such as `size=2T` to input records: what each word says, which words are refused, and the records that they ask for.
+#![tactic(auto)]
+
 pub mod values; // what the text behind `=` gives
 pub mod words; // the words one by one
 pub mod records; // the records that they ask for

@@ -1,5 +1,7 @@
 // Calls encoders again on what they left, and prints what each answers of the checksums: its number, and whether they stood there already.
 // The head and the root chunk are those of the disk that the input records on standard input ask for.
+#![tactic(auto)]
+
 ghost use Rattle.std.specs.Prelude.{◌≡◌, length};
 
 use btree::leaf_block;

@@ -1,4 +1,6 @@
 // Runs the CRC vectors of RFC 3720, B.4: for each its name, the checksum, and the checksum's bytes as they go over the wire.
+#![tactic(auto)]
+
 use crc::crc32c;
 use libc::STDOUT_FILENO;
 

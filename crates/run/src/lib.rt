@@ -1,4 +1,6 @@
 // A run: what the input records ask for, accepted where its geometry, all its plans and its time are, and under the profile its rules hold.
+#![tactic(auto)]
+
 ghost use Rattle.std.specs.Prelude.{◌≡◌};
 ghost use Rattle.plan_totals.specs.Totals.{plans_number};
 ghost use Rattle.run.specs.Runs.{or_next, time_refusal, no_run, run_of, accepted};

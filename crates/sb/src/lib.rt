@@ -1,4 +1,6 @@
 // The superblock, `struct xfs_dsb`. The Rust's structs/sb.rs.
+#![tactic(auto)]
+
 ghost use Rattle.std.specs.Prelude.{◌≡◌, ◌||◌, [], ◌∷◌, ◌+◌, ◌*◌, ◌^◌, ◌≤◌, ◌<◌, ltb, length};
 ghost use Rattle.arith.specs.Choice.{bit};
 ghost use Rattle.geometry_layout.specs.Places.{fsb_of};

@@ -1,4 +1,6 @@
 // The states of the superblocks: each group's while the run writes, and group 0's at the end. The Rust's format of format.rs.
+#![tactic(auto)]
+
 ghost use Rattle.std.specs.Prelude.{◌≡◌, ◌+◌, ◌<◌, ◌^◌, leb};
 ghost use Rattle.geometry_counts.specs.Known.{value64};
 ghost use Rattle.arith.specs.Choice.{when};

@@ -1,4 +1,6 @@
 // Lists, arrays of 64 with a count, and runs of blocks: definitions and laws for the crates above, and the test of a run.
+#![tactic(auto)]
+
 ghost use Rattle.std.specs.Prelude.{◌≡◌, ◌+◌};
 ghost use Rattle.seqs.specs.Runs.{follows};
 

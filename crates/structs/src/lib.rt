@@ -1,5 +1,7 @@
 // What the structures on disk share: the null numbers, and which lengths a sector, a block and an inode may have. The Rust's
 // structs/mod.rs.
+#![tactic(auto)]
+
 pub mod sizes; // the lengths of a sector, a block and an inode
 
 pub use sizes::{is_block, is_inode, is_sector};

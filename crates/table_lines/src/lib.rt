@@ -1,5 +1,7 @@
 // The lines that planlist and inquire print, written into a lent buffer: 0 and the line's end, or 27 where a line doesn't fit, and then
 // nothing has changed.
+#![tactic(auto)]
+
 pub mod decimal; // numbers in decimal
 
 ghost use Rattle.std.specs.Prelude.{◌≡◌, [], ◌∷◌, ◌++◌, ◌+◌, ◌≤◌, length};

@@ -1,5 +1,7 @@
 // A line of a page, by its number, written into a lent buffer: 0 and where it ends, or 27 where it doesn't fit, and then nothing has
 // changed.
+#![tactic(auto)]
+
 ghost use Rattle.std.specs.Prelude.{◌≡◌, ◌+◌, ◌≤◌, max, length, drop};
 ghost use Rattle.table_lines.specs.Lines.{PutLine};
 ghost use Rattle.text_pages.specs.Pages.{place_of_byte, behind_lines, line_at};

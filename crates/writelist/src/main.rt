@@ -1,6 +1,8 @@
 // Reads input records from standard input and writes the list of written records of the run that they ask for to standard output, or
 // prints `refused N`. `list_send` says what comes next; here buffers are only lent and written.
 // Give each disk its UUID in an `ID` record: without one it is zeros, and Linux doesn't mount such a disk.
+#![tactic(auto)]
+
 ghost use Rattle.std.specs.Prelude.{◌≡◌, true, length};
 ghost use Rattle.list_send.specs.Sending.{sent_def, all_sent};
 
