@@ -21,7 +21,7 @@ pub const CRC: usize = 216;
 
 // Everything in an AGF: the group's number and length, the roots, levels and blocks of its trees, the slots of the free list in use, and
 // the free blocks.
-#[derive(Drop)]
+#[derive(Clone, Copy)]
 pub struct Agf {
     pub seqno: u32,
     pub length: u32,

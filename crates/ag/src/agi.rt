@@ -26,7 +26,7 @@ pub const LSN: usize = 320;
 pub const FREE_ROOT: usize = 328;
 
 // Everything in an AGI: the group's number and length, inodes, the roots, levels and blocks of its trees, and the newest chunk.
-#[derive(Drop)]
+#[derive(Clone, Copy)]
 pub struct Agi {
     pub seqno: u32,
     pub length: u32,

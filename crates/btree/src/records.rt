@@ -8,7 +8,7 @@ pub const INOBT_REC: usize = 16;
 pub const RMAP_REC: usize = 24;
 
 // A free extent: first block, length in blocks.
-#[derive(Drop)]
+#[derive(Clone, Copy)]
 pub struct AllocRec {
     pub start: u32,
     pub count: u32,
@@ -16,7 +16,7 @@ pub struct AllocRec {
 
 // A chunk of inodes: its first inode within the group, which groups of four inodes are holes, how many inodes there are and how many
 // of them are free, and which, a bit for each.
-#[derive(Drop)]
+#[derive(Clone, Copy)]
 pub struct InobtRec {
     pub startino: u32,
     pub holemask: u16,
@@ -26,7 +26,7 @@ pub struct InobtRec {
 }
 
 // A reverse mapping of a special owner: first block, length in blocks, owner.
-#[derive(Drop)]
+#[derive(Clone, Copy)]
 pub struct RmapRec {
     pub start: u32,
     pub count: u32,

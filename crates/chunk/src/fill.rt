@@ -13,7 +13,7 @@ use inode::dinode::off;
 use params::Timestamp;
 
 // The chunk's generations, in the order in which they are drawn, and the state after them.
-#[derive(Drop)]
+#[derive(Clone, Copy)]
 struct Generations {
     chunk: u32,
     bitmap: u32,
@@ -52,7 +52,7 @@ fn places_of(size: usize) -> [usize; 64]
 }
 
 // The state after the draws, and whether every checksum of the chunk stood there already.
-#[derive(Drop)]
+#[derive(Clone, Copy)]
 pub struct Filled {
     pub state: u64,
     pub right: bool,

@@ -18,7 +18,7 @@ use inode_time::encode_time;
 use params::Timestamp;
 
 // The number is 0 for a chunk that was written; a refusal has the state 0.
-#[derive(Drop)]
+#[derive(Clone, Copy)]
 pub struct Chunked {
     pub number: u32,
     pub state: u64, // the generator's, after the draws

@@ -45,7 +45,7 @@ pub fn stored(buf: &[u8], off: usize) -> u32
 }
 
 // What stamping answers: 0 or the refusal, and whether the right checksum stood there already. A refusal says no.
-#[derive(Drop)]
+#[derive(Clone, Copy)]
 pub struct Stamped {
     pub number: u32,
     pub right: bool,

@@ -5,19 +5,19 @@ ghost use Rattle.endian.specs.Answer.{Put, Got};
 ghost use Rattle.endian.specs.Bytes.{be_bytes, be_at, patch};
 
 // A number that was read, with 0 or the refusal beside it; the value of a refused read is 0.
-#[derive(Drop)]
+#[derive(Clone, Copy)]
 pub struct Read16 {
     pub number: u32,
     pub value: u16,
 }
 
-#[derive(Drop)]
+#[derive(Clone, Copy)]
 pub struct Read32 {
     pub number: u32,
     pub value: u32,
 }
 
-#[derive(Drop)]
+#[derive(Clone, Copy)]
 pub struct Read64 {
     pub number: u32,
     pub value: u64,

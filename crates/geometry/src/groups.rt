@@ -12,7 +12,7 @@ use params::OptU64;
 use refusals::first;
 
 // Block count, blocks of a group and the number of groups.
-#[derive(Drop)]
+#[derive(Clone, Copy)]
 pub struct Groups {
     pub dblocks: u64,
     pub agsize: u64,

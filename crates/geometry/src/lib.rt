@@ -12,7 +12,7 @@ use crate::sizes::Sizes;
 use params::Features;
 
 // All that the options and the device decide; the groups as asked for and without a short last one.
-#[derive(Drop)]
+#[derive(Clone, Copy)]
 pub struct Chosen {
     pub sizes: Sizes,
     pub asked: Groups,
@@ -23,7 +23,7 @@ pub struct Chosen {
 }
 
 // Every number that the formatter needs, fixed before a byte is written.
-#[derive(Drop)]
+#[derive(Clone, Copy)]
 pub struct Geometry {
     pub blocksize: u32, // bytes
     pub blocklog: u8,
@@ -50,7 +50,7 @@ pub struct Geometry {
 }
 
 // The number is 0 for an accepted geometry; a refusal has the geometry of zeros.
-#[derive(Drop)]
+#[derive(Clone, Copy)]
 pub struct Computed {
     pub number: u32,
     pub geometry: Geometry,

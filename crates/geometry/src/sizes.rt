@@ -25,7 +25,7 @@ pub const DEFAULT_INODESIZE: u32 = 512; // bytes
 pub const DINODE_MAX_SIZE: u32 = 2048; // bytes
 
 // The sizes that were chosen, and the logical sector, at least 512; all in bytes.
-#[derive(Drop)]
+#[derive(Clone, Copy)]
 pub struct Sizes {
     pub block: u32,
     pub sector: u32,

@@ -13,7 +13,7 @@ use params::{Features, Label, OptTime, OptU8, OptU32, OptU64, OptUuid, Params, P
 pub mod same; // same.rt: two geometries compared
 
 // The fields of a superblock that name its geometry: block count and group size in blocks, the other sizes in bytes.
-#[derive(Drop)]
+#[derive(Clone, Copy)]
 pub struct Named {
     pub dblocks: u64,
     pub agsize: u64,

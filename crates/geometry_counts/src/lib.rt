@@ -14,14 +14,14 @@ pub mod inodes; // inodes.rt: chunks, clusters and their alignment
 pub mod stripes; // stripes.rt: realtime extent and log stripe unit
 
 // A number of 64 bits, or a refusal.
-#[derive(Drop)]
+#[derive(Clone, Copy)]
 pub enum Value64 {
     Refused(u32),
     Of(u64),
 }
 
 // A number of 32 bits, or a refusal.
-#[derive(Drop)]
+#[derive(Clone, Copy)]
 pub enum Value32 {
     Refused(u32),
     Of(u32),

@@ -7,40 +7,40 @@ pub mod units; // units.rt: the conversions and the inode number
 pub mod fixed; // fixed.rt: the log's start, the root directory's inode, the first free count
 
 // A block by its group and its number within the group.
-#[derive(Drop)]
+#[derive(Clone, Copy)]
 pub struct GroupBlock(pub u64, pub u64);
 
 // A block by its number in the file system: the group above agblklog bits.
-#[derive(Drop)]
+#[derive(Clone, Copy)]
 pub struct FsBlock(pub u64);
 
 // A place on the device in units of 512 bytes.
-#[derive(Drop)]
+#[derive(Clone, Copy)]
 pub struct DiskAddress(pub u64);
 
 // A place on the device in bytes.
-#[derive(Drop)]
+#[derive(Clone, Copy)]
 pub struct ByteOffset(pub u64);
 
-#[derive(Drop)]
+#[derive(Clone, Copy)]
 pub enum ToGroupBlock {
     Refused(u32),
     At(GroupBlock),
 }
 
-#[derive(Drop)]
+#[derive(Clone, Copy)]
 pub enum ToFsBlock {
     Refused(u32),
     At(FsBlock),
 }
 
-#[derive(Drop)]
+#[derive(Clone, Copy)]
 pub enum ToDiskAddress {
     Refused(u32),
     At(DiskAddress),
 }
 
-#[derive(Drop)]
+#[derive(Clone, Copy)]
 pub enum ToByteOffset {
     Refused(u32),
     At(ByteOffset),

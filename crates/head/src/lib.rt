@@ -62,7 +62,7 @@ fn fill(g: Geometry, p: AgPlan, w: Frame, uuid: &[u8; 16], s: SbState, buf: &mut
 }
 
 // Where the checksums of a head stand: at the first `len` of these places.
-#[derive(Drop)]
+#[derive(Clone, Copy)]
 struct Places {
     at: [usize; 10],
     len: usize,

@@ -13,7 +13,7 @@ use plan::AgPlan;
 use plan_summary::records::{free_totals, group_totals};
 
 // A group, its head and its root chunk.
-#[derive(Drop)]
+#[derive(Clone, Copy)]
 pub struct Frame {
     pub agno: u32,
     pub length: u32, // blocks of the group
@@ -30,14 +30,14 @@ pub struct Frame {
 }
 
 // The number is 0 for a plan of the planner; a refusal has the frame of zeros.
-#[derive(Drop)]
+#[derive(Clone, Copy)]
 pub struct Framed {
     pub number: u32,
     pub frame: Frame,
 }
 
 // A group's plan with its frame. The number is 0 for an accepted plan; a refusal has the plan and the frame of zeros.
-#[derive(Drop)]
+#[derive(Clone, Copy)]
 pub struct FramedPlan {
     pub number: u32,
     pub plan: AgPlan,

@@ -83,7 +83,7 @@ pub const DIFLAG2_BIGTIME: u64 = 8;
 pub const DIFLAG2_NREXT64: u64 = 16;
 
 // An allocated inode without an attribute fork; its data stands apart.
-#[derive(Drop)]
+#[derive(Clone, Copy)]
 pub struct Dinode {
     pub ino: u64,
     pub mode: u16,
@@ -101,7 +101,7 @@ pub struct Dinode {
 }
 
 // The four times as they are stored; `number` is 0, or 26 where one is out of range.
-#[derive(Drop)]
+#[derive(Clone, Copy)]
 struct Times {
     number: u32,
     atime: u64,

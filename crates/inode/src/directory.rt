@@ -4,7 +4,7 @@ ghost use Rattle.endian.specs.Bytes.{be_bytes};
 ghost use Rattle.inode.specs.Directory.{EmptyDir};
 
 // The first `len` bytes are the data fork, and the others zero.
-#[derive(Drop)]
+#[derive(Clone, Copy)]
 pub struct SfDir {
     pub bytes: [u8; 10],
     pub len: usize,

@@ -11,14 +11,14 @@ use params::Timestamp;
 pub const NANOSECONDS: u64 = 1_000_000_000;
 
 // What an inode stores of a time; `number` is 0, or 26 and the value 0.
-#[derive(Drop)]
+#[derive(Clone, Copy)]
 pub struct Stored {
     pub number: u32,
     pub value: u64,
 }
 
 // Seconds counted from −2,147,483,648 on; not inside where they lie before it, or above 16,299,260,425.
-#[derive(Drop)]
+#[derive(Clone, Copy)]
 struct Shifted {
     inside: bool,
     value: u64,

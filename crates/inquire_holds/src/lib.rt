@@ -11,7 +11,7 @@ use geometry::Geometry;
 use plan_holds::{Held, Holds};
 
 // What the word of a call says; `number` is 0, or says what is wrong with it beside zeros.
-#[derive(Drop)]
+#[derive(Clone, Copy)]
 pub struct Call {
     pub number: u8,
     pub release: bool, // else it holds
@@ -20,7 +20,7 @@ pub struct Call {
 }
 
 // The geometry and the group's first state; `number` is 0, or the first that refuses the records, the geometry step, the group or its plan.
-#[derive(Drop)]
+#[derive(Clone, Copy)]
 pub struct Opened {
     pub number: u32,
     pub geometry: Geometry,

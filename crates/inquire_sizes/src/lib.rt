@@ -19,7 +19,7 @@ const MOST_APART: u64 = 65536;
 
 // What is said of a range. The number is 0, or that of the question's refusal: 28, 1 to 8, 36. The refusal is 0 where every size is
 // formatted; else it is that of the smallest refused size, which has so many blocks.
-#[derive(Drop)]
+#[derive(Clone, Copy)]
 pub struct Range {
     pub number: u32,
     pub blocks: u64,

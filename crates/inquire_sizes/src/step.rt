@@ -16,7 +16,7 @@ use params::{Features, OptU8, OptU64, Params};
 use refusals::first;
 
 // Limits in blocks.
-#[derive(Drop)]
+#[derive(Clone, Copy)]
 pub struct Limits {
     pub least: u64, // of a group
     pub most: u64, // of a group
@@ -29,7 +29,7 @@ pub struct Limits {
 }
 
 // What the device's size has no part in; sizes in blocks.
-#[derive(Drop)]
+#[derive(Clone, Copy)]
 pub struct Fixed {
     pub size: OptU64,
     pub agsize: OptU64,
@@ -43,7 +43,7 @@ pub struct Fixed {
 }
 
 // What a size decides: the groups before and after a short last one is dropped, and the log.
-#[derive(Drop)]
+#[derive(Clone, Copy)]
 pub struct At {
     pub asked: Groups,
     pub groups: Groups,

@@ -18,7 +18,7 @@ const STEP: u64 = 1 << 20;
 const MOST_SIZES: u64 = 65536;
 
 // The number is 0 beside the size in bytes; a refusal, by 28, 1 to 8, 39 or 38, has 0 bytes.
-#[derive(Drop)]
+#[derive(Clone, Copy)]
 pub struct Found {
     pub number: u32,
     pub size: u64,

@@ -6,7 +6,7 @@ ghost use Rattle.endian.specs.Bytes.{patch};
 ghost use Rattle.label_text.specs.Text.{is_plain, hex_digit, escape, shown_byte, label_text, text_of};
 
 // The bytes of a text, from `start` on.
-#[derive(Drop)]
+#[derive(Clone, Copy)]
 pub struct LabelText {
     pub bytes: [u8; 48],
     pub start: usize,

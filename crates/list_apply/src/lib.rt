@@ -39,7 +39,7 @@ const PAST: u8 = 2;
 
 // The record in hand, counted from 1; how many flushes are past; whether its mark is here, but not all of its head; and what is left of it
 // behind its head: where the next byte goes, and how many are to come. No record may end behind the limit.
-#[derive(Drop)]
+#[derive(Clone, Copy)]
 pub struct Applying {
     stop: u8,
     marked: bool,
@@ -53,7 +53,7 @@ pub struct Applying {
 }
 
 // What is to be done, at which offset and with how many bytes, and the state behind it.
-#[derive(Drop)]
+#[derive(Clone, Copy)]
 pub struct Step {
     pub applying: Applying,
     pub action: u8,

@@ -14,7 +14,7 @@ use refusals::{AREA_TOO_SMALL, TOO_MANY_DISKS, first};
 const MOST_DISKS: u64 = 16;
 
 // Why it was refused, or 0; how many bytes are left of its area; and how many disks are still to come. Only `open` and `enter` make one.
-#[derive(Drop)]
+#[derive(Clone, Copy)]
 pub struct Cabinet {
     number: u32,
     left: u64,
@@ -22,7 +22,7 @@ pub struct Cabinet {
 }
 
 // What a disk is answered, and the cabinet behind it.
-#[derive(Drop)]
+#[derive(Clone, Copy)]
 pub struct Entered {
     pub size: ListSize,
     pub cabinet: Cabinet,

@@ -14,7 +14,7 @@ use plan_summary::plans_number;
 use run::Run;
 
 // A count of pieces or bytes; a refusal has 0 beside its number.
-#[derive(Drop)]
+#[derive(Clone, Copy)]
 pub struct Counted {
     pub number: u32,
     pub value: u64,

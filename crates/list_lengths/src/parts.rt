@@ -8,7 +8,7 @@ use list_records::{HEAD_SIZE, MARK_SIZE};
 use params::Features;
 
 // Bytes of a block; blocks of the four header sectors, of a group's head, and of the root chunk.
-#[derive(Drop)]
+#[derive(Clone, Copy)]
 pub struct Sizes {
     pub block: usize,
     pub header: usize,

@@ -24,7 +24,7 @@ const LARGEST: u64 = 0x7fff_ffff_ffff_ffff;
 const FLUSHES: u8 = 2;
 
 // A record's head: what it asks for, where on the device and how many bytes, and the head's own size. `number` is 0, or 28 beside zeros.
-#[derive(Drop)]
+#[derive(Clone, Copy)]
 pub struct Decoded {
     pub number: u32,
     pub kind: u8,
@@ -34,7 +34,7 @@ pub struct Decoded {
 }
 
 // How many flushes of a list are past. `number` is 0, or 28 beside 0.
-#[derive(Drop)]
+#[derive(Clone, Copy)]
 pub struct Passed {
     pub number: u32,
     pub flushes: u8,

@@ -14,7 +14,7 @@ use run::{Run, run_of};
 
 // The run whose list is sent, its device's size, how many pieces the list has, and how many of them are still to come. Only `begin` and
 // `send` make one.
-#[derive(Drop)]
+#[derive(Clone, Copy)]
 pub struct Sending {
     run: Run,
     device: u64,
@@ -23,7 +23,7 @@ pub struct Sending {
 }
 
 // How many bytes at the start of the buffer are the piece's, and what is left to send; or a refusal's number, and what was left before.
-#[derive(Drop)]
+#[derive(Clone, Copy)]
 pub struct Sent {
     pub number: u32,
     pub length: usize,

@@ -14,7 +14,7 @@ use geometry_counts::inodes::chunk_of;
 use list_records::{HEAD_SIZE, MARK_SIZE};
 
 // Records, their bytes with every mark, offset and length, and the bytes of the blocks alone; a refusal has zeros beside its number.
-#[derive(Drop)]
+#[derive(Clone, Copy)]
 pub struct ListSize {
     pub number: u32,
     pub records: u64,

@@ -5,61 +5,61 @@ ghost use Rattle.std.specs.Prelude.{◌≡◌};
 ghost use Rattle.params.specs.Params.{all_features, no_options, with_size, with_block_size, with_sector_size, with_inode_size, with_agcount, with_agsize, with_imaxpct, with_label, with_uuid, with_time, with_gen_seed, with_features, with_roomy};
 
 // An option of 64 bits.
-#[derive(Drop)]
+#[derive(Clone, Copy)]
 pub enum OptU64 {
     Absent,
     Given(u64),
 }
 
 // An option of 32 bits.
-#[derive(Drop)]
+#[derive(Clone, Copy)]
 pub enum OptU32 {
     Absent,
     Given(u32),
 }
 
 // An option of 8 bits.
-#[derive(Drop)]
+#[derive(Clone, Copy)]
 pub enum OptU8 {
     Absent,
     Given(u8),
 }
 
 // A point in time as XFS stores it: seconds since the Unix epoch, and nanoseconds within the second.
-#[derive(Drop)]
+#[derive(Clone, Copy)]
 pub struct Timestamp {
     pub secs: i64,
     pub nsecs: u32,
 }
 
-#[derive(Drop)]
+#[derive(Clone, Copy)]
 pub enum OptTime {
     Absent,
     Given(Timestamp),
 }
 
 // Whether the bytes beside it are given.
-#[derive(Drop)]
+#[derive(Clone, Copy)]
 pub enum Presence {
     Absent,
     Given,
 }
 
-#[derive(Drop)]
+#[derive(Clone, Copy)]
 pub struct OptUuid {
     pub presence: Presence,
     pub bytes: [u8; 16],
 }
 
 // A label's length and its first 12 bytes; a longer label keeps its length. An absent label has the length 0.
-#[derive(Drop)]
+#[derive(Clone, Copy)]
 pub struct Label {
     pub length: usize,
     pub bytes: [u8; 12],
 }
 
 // The v5 features that mkfs.xfs turns on or off.
-#[derive(Drop)]
+#[derive(Clone, Copy)]
 pub struct Features {
     pub finobt: bool,
     pub rmapbt: bool,
@@ -71,7 +71,7 @@ pub struct Features {
 }
 
 // What the caller asks for. All that is absent is chosen the way mkfs.xfs chooses it.
-#[derive(Drop)]
+#[derive(Clone, Copy)]
 pub struct Params {
     pub size: OptU64, // bytes of the file system
     pub block_size: OptU32,

@@ -20,14 +20,14 @@ use plan_rmap::RmapList;
 use plan_site::{Site, site_of};
 
 // Blocks on the free list, in its order: the first `len` of `blocks`.
-#[derive(Drop)]
+#[derive(Clone, Copy)]
 pub struct Agfl {
     pub blocks: [u32; 64],
     pub len: usize,
 }
 
 // A plan in the making: the number is 0 until a step refuses; `want` blocks are still missing on the free list.
-#[derive(Drop)]
+#[derive(Clone, Copy)]
 pub struct Work {
     pub number: u32,
     pub want: u32,
@@ -39,7 +39,7 @@ pub struct Work {
 
 // The end state of one allocation group's metadata: free extents by block, free list, reverse mappings by block, and the root inode
 // chunk's first block in group 0.
-#[derive(Drop)]
+#[derive(Clone, Copy)]
 pub struct AgPlan {
     pub agno: u64,
     pub length: u64,
@@ -50,7 +50,7 @@ pub struct AgPlan {
 }
 
 // The number is 0 for an accepted plan; a refusal has the plan of zeros.
-#[derive(Drop)]
+#[derive(Clone, Copy)]
 pub struct Planned {
     pub number: u32,
     pub plan: AgPlan,

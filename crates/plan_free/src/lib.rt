@@ -12,21 +12,21 @@ pub use picking::pick;
 pub use taking::take;
 
 // The first `len` of `recs` are the list.
-#[derive(Drop)]
+#[derive(Clone, Copy)]
 pub struct FreeList {
     pub recs: [AllocRec; 64],
     pub len: usize,
 }
 
 // `number` is 0, and `list` the records left; or the number of the refusal, and no record.
-#[derive(Drop)]
+#[derive(Clone, Copy)]
 pub struct Taken {
     pub number: u32,
     pub list: FreeList,
 }
 
 // A record, where there is one; `number` is 0, or 34 for a list of more than 64, and then there is none.
-#[derive(Drop)]
+#[derive(Clone, Copy)]
 pub struct Choice {
     pub number: u32,
     pub found: bool,

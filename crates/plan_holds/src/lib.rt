@@ -14,14 +14,14 @@ use geometry::Geometry;
 use plan_free::FreeList;
 
 // The runs held, sorted by start: the first `len` of `recs`.
-#[derive(Drop)]
+#[derive(Clone, Copy)]
 pub struct HeldList {
     pub recs: [AllocRec; 8],
     pub len: usize,
 }
 
 // A group, its free records, and the runs held.
-#[derive(Drop)]
+#[derive(Clone, Copy)]
 pub struct Holds {
     pub agno: u64,
     pub free: FreeList,
@@ -29,7 +29,7 @@ pub struct Holds {
 }
 
 // `number` is 0, and `state` what the call leaves; or the number of the refusal, and a state of zeros.
-#[derive(Drop)]
+#[derive(Clone, Copy)]
 pub struct Held {
     pub number: u32,
     pub state: Holds,

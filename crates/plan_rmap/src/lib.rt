@@ -10,14 +10,14 @@ pub use inserting::rmap_insert;
 pub use list::empty;
 
 // The first `len` of `recs` are the list.
-#[derive(Drop)]
+#[derive(Clone, Copy)]
 pub struct RmapList {
     pub recs: [RmapRec; 64],
     pub len: usize,
 }
 
 // `number` is 0, and `list` the records with the new one; or the number of the refusal, and no record.
-#[derive(Drop)]
+#[derive(Clone, Copy)]
 pub struct Inserted {
     pub number: u32,
     pub list: RmapList,

@@ -19,7 +19,7 @@ use geometry_places::refusal::ag_blocks;
 use params::Features;
 
 // Blocks, and places of blocks within the group.
-#[derive(Drop)]
+#[derive(Clone, Copy)]
 pub struct Site {
     pub agno: u64,
     pub length: u32,
@@ -39,7 +39,7 @@ pub struct Site {
 }
 
 // The number is 0 for a group of an answer; a refusal has the site of zeros.
-#[derive(Drop)]
+#[derive(Clone, Copy)]
 pub struct Sited {
     pub number: u32,
     pub site: Site,

@@ -17,7 +17,7 @@ use plan_site::{Site, site_of};
 use table_lines::Total;
 
 // Blocks, those of one group in 32 bits; `chunk_at` is a place in group 0.
-#[derive(Drop)]
+#[derive(Clone, Copy)]
 pub struct Summary {
     pub agcount: u64, // groups
     pub agsize: u32,
@@ -33,7 +33,7 @@ pub struct Summary {
 }
 
 // The number is 0 where every plan of an answer is accepted; a refusal has the summary of zeros.
-#[derive(Drop)]
+#[derive(Clone, Copy)]
 pub struct Summarised {
     pub number: u32,
     pub summary: Summary,

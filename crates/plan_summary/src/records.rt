@@ -14,7 +14,7 @@ use plan_free::FreeList;
 use plan_same::is_plan;
 
 // Blocks of a plan's free records, and of the longest. The number is 0 for a plan of the planner; a refusal has zeros.
-#[derive(Drop)]
+#[derive(Clone, Copy)]
 pub struct FreeTotals {
     pub number: u32,
     pub blocks: u32,
@@ -22,7 +22,7 @@ pub struct FreeTotals {
 }
 
 // A group's plan with these two. The number is 0 for an accepted plan; a refusal has zeros.
-#[derive(Drop)]
+#[derive(Clone, Copy)]
 pub struct GroupTotals {
     pub number: u32,
     pub plan: AgPlan,

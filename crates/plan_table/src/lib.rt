@@ -22,7 +22,7 @@ use table_lines::{Row, Total};
 
 // A table, of which the last `left` lines aren't printed yet, and what is added up of its rows. The number is 0, or that of a refusal,
 // which has one line.
-#[derive(Drop)]
+#[derive(Clone, Copy)]
 pub struct Table {
     pub number: u32,
     pub left: u64,
@@ -31,7 +31,7 @@ pub struct Table {
 }
 
 // Where the next lines end in the buffer, and the table behind them; 27 where not even one of the lines that are left fits.
-#[derive(Drop)]
+#[derive(Clone, Copy)]
 pub struct Filled {
     pub number: u32,
     pub end: usize,
@@ -115,7 +115,7 @@ fn after_line(t: Table) -> Table
 }
 
 // The table behind the lines that are put, where the next line begins, and whether it had no room.
-#[derive(Drop)]
+#[derive(Clone, Copy)]
 struct Place {
     table: Table,
     end: usize,

@@ -11,7 +11,7 @@ use reader_names::{named_by, uuid_of};
 use reader_pass::Verdict;
 
 // How many of the first bytes agree; not known where no run leaves anything to compare with, and then 0.
-#[derive(Drop)]
+#[derive(Clone, Copy)]
 pub struct Agreement {
     pub known: bool,
     pub count: usize,

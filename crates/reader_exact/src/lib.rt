@@ -6,7 +6,7 @@ use geometry::Geometry;
 use plan::AgPlan;
 
 // What group 0's head gives. The number is 0 for accepted bytes; a refusal has zeros.
-#[derive(Drop)]
+#[derive(Clone, Copy)]
 pub struct Found {
     pub number: u32,
     pub geometry: Geometry,

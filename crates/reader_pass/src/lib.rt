@@ -19,7 +19,7 @@ use reader_names::{LEAST_SECTOR, named_by};
 use refusals::{NOT_LEFT, WRONG_LENGTH};
 
 // What is fed next.
-#[derive(Drop)]
+#[derive(Clone, Copy)]
 pub enum Stage {
     Naming,
     First,
@@ -30,7 +30,7 @@ pub enum Stage {
 
 // The refusal that ended it, or 0; the place that is fed next, or where it ended: a group, and for the log's block the number of groups;
 // and the geometry and the UUID that are known so far. Its fields are private: only `begin` and `feed` make one.
-#[derive(Drop)]
+#[derive(Clone, Copy)]
 pub struct Pass {
     stage: Stage,
     number: u32,
@@ -40,7 +40,7 @@ pub struct Pass {
 }
 
 // The bytes that are to be read next, unless all is done.
-#[derive(Drop)]
+#[derive(Clone, Copy)]
 pub struct Wanted {
     pub offset: u64,
     pub length: usize,
@@ -48,7 +48,7 @@ pub struct Wanted {
 }
 
 // The number is 0 for an accepted disk; geometry and UUID are those that are known so far.
-#[derive(Drop)]
+#[derive(Clone, Copy)]
 pub struct Verdict {
     pub number: u32,
     pub place: u64,

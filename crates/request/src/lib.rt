@@ -10,7 +10,7 @@ ghost use Rattle.request.specs.Parse.{longest_input, parse_def, malformed_reques
 use params::Params;
 
 // The options and the device; `number` is 0, or 28 beside no options and zeros.
-#[derive(Drop)]
+#[derive(Clone, Copy)]
 pub struct Request {
     pub number: u32,
     pub params: Params,

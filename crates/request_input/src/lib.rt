@@ -32,7 +32,7 @@ const CODES: usize = 14;
 const OPTION_BITS: [u8; 14] = [0, 64, 32, 32, 32, 64, 64, 8, 64, 7, 64, 32, 1, 1];
 
 // What a record gives: an option's number, or where the bytes of another begin; and where the next one begins.
-#[derive(Drop)]
+#[derive(Clone, Copy)]
 pub struct Record {
     pub key: usize,
     pub value: u64,

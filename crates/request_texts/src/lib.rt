@@ -6,7 +6,7 @@ ghost use Rattle.table_lines.specs.Decimal.{value_after};
 ghost use Rattle.request_texts.specs.Texts.{said, within, letter as letter_def, named, packed_name, leading as leading_def, suffix as suffix_def, factor as factor_def, number_text};
 
 // What a text gives; `number` is 0, or says what is wrong beside the value 0.
-#[derive(Drop)]
+#[derive(Clone, Copy)]
 pub struct Value {
     pub number: u8,
     pub value: u64,

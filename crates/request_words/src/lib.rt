@@ -8,7 +8,7 @@ pub mod records; // the records that they ask for
 pub use records::make_records;
 
 // What was read of a list of features: those so far, and the sign and name of the one that is being read.
-#[derive(Drop)]
+#[derive(Clone, Copy)]
 pub struct Names {
     pub mask: u64,
     pub sign: u8,
@@ -17,7 +17,7 @@ pub struct Names {
 
 // What a word says: its key and its text's value, where the text stands, and where the next word begins. `number` is 0, or says what is
 // wrong.
-#[derive(Drop)]
+#[derive(Clone, Copy)]
 pub struct Word {
     pub number: u8,
     pub key: usize,
@@ -28,7 +28,7 @@ pub struct Word {
 }
 
 // Whether words are a request: `number` is 0, or says what is wrong with the word of this index and key; a missing one has its key alone.
-#[derive(Drop)]
+#[derive(Clone, Copy)]
 pub struct Verdict {
     pub number: u8,
     pub index: usize,
@@ -37,7 +37,7 @@ pub struct Verdict {
 
 // The records that words ask for: `number` is 0 beside their length; or says what is wrong with the word of this index and key, or, of a
 // missing one, its key.
-#[derive(Drop)]
+#[derive(Clone, Copy)]
 pub struct Made {
     pub number: u32,
     pub index: usize,

@@ -14,7 +14,7 @@ use request::defaults::{seed_or_zero, time_or_zero, uuid_or_zeros};
 use request::{Request, parse};
 
 // The number is 0 for an accepted run; a refusal has zeros.
-#[derive(Drop)]
+#[derive(Clone, Copy)]
 pub struct Run {
     pub number: u32,
     pub geometry: Geometry,

@@ -36,7 +36,7 @@ const VERSION: u64 = 0xb4a5;
 pub const FEATURES2: u64 = 0x18a;
 
 // What differs between the primary superblock and the secondaries, and between the start and the end of a run.
-#[derive(Drop)]
+#[derive(Clone, Copy)]
 pub struct SbState {
     pub uuid: [u8; 16],
     pub rootino: u64, // or NULL64, as the next two

@@ -19,7 +19,7 @@ use structs::NULL64;
 const IN_USE: u64 = 3;
 
 // The number is 0 for a state of the run; a refusal has zeros.
-#[derive(Drop)]
+#[derive(Clone, Copy)]
 pub struct Stated {
     pub number: u32,
     pub state: SbState,

@@ -13,7 +13,7 @@ ghost use Rattle.table_lines.specs.Lines.{line, row_bytes, header_bytes, total_b
 use decimal::{decimal_length, store_number};
 
 // A row of planlist's table, in blocks; a group's fit in 32 bits. The number is 0 for a planned group; a refusal has zeros.
-#[derive(Drop)]
+#[derive(Clone, Copy)]
 pub struct Row {
     pub number: u32,
     pub group: u64,
@@ -26,7 +26,7 @@ pub struct Row {
 }
 
 // The last line of the table: sums over all groups, in 64 bits.
-#[derive(Drop)]
+#[derive(Clone, Copy)]
 pub struct Total {
     pub length: u64,
     pub log: u64,
@@ -36,7 +36,7 @@ pub struct Total {
 }
 
 // Where a line ends; `number` is 0, or 27 beside 0.
-#[derive(Drop)]
+#[derive(Clone, Copy)]
 pub struct Written {
     pub number: u32,
     pub end: usize,
