@@ -1,0 +1,8 @@
+-- `arith::numbers::quotient` meets its contract.
+-- Assumes nothing.
+use mathlib.Core.Path.{sym}
+use native.Mathlib.Nat.{div-zero}
+use Rattle.arith.proofs.numbers.quotient.Goals as goal
+
+pub returns-then-b-eq0 : goal.returns-then-b-eq0
+returns-then-b-eq0 c = rw c.if-b-eq0.true (sym (div-zero _))
