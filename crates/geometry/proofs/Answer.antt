@@ -6,7 +6,6 @@ use lib.Dec.{eqb}
 use Prim.Native.Nat.{ℕ}
 use borrow.Author.Tests.{eq-eqb, ne_eqb}
 use Rattle.geometry.specs.declared.Geometry.{Geometry}
-use Rattle.geometry.specs.declared.Computed.{Computed}
 use Rattle.geometry.specs.Compute.{zero_geometry, step_answer}
 
 pub accepted : (n : ℕ) (g : Geometry) → n ≡ 0 → step_answer n g ≡ record { number = n; geometry = g }

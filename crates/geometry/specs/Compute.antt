@@ -1,6 +1,6 @@
 -- The geometry step: what is chosen, every refusal, and the answer.
 -- Assumes nothing.
-use Rattle.std.specs.Prelude.{Bool, false, cond, ◌&&◌, not, List, ◌∷◌, ◌++◌, ℕ, ◌-◌, ◌/◌, min, ltb, eqb, take, replicate}
+use Rattle.std.specs.Prelude.{false, cond, ◌&&◌, not, List, ◌∷◌, ◌++◌, ℕ, ◌-◌, ◌/◌, min, ltb, eqb, take, replicate}
 use Rattle.refusals.specs.Numbers.{inobtcount_alone}
 use Rattle.arith.specs.Choice.{when}
 use Rattle.arith.specs.Powers.{power_log, log2_up}

@@ -1,0 +1,8 @@
+-- `geometry::log_size::header_of` meets its contract: each call gives what its definition says.
+-- Assumes nothing.
+use Rattle.geometry.specs.Log.{header_of}
+use Rattle.geometry.proofs.log_size.header_of.Goals as goal
+
+pub returns : goal.returns
+unfolding header_of
+returns c = rw c.div_ceil.ensures
