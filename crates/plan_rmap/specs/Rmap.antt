@@ -1,6 +1,6 @@
 -- The reverse mappings of a group, and a record put into them.
 -- Assumes nothing.
-use Rattle.std.specs.Prelude.{Bool, true, false, cond, ◌&&◌, List, [], ◌∷◌, ℕ, zero, ◌+◌, ◌-◌, leb, ltb, eqb, length, get_or}
+use Rattle.std.specs.Prelude.{Bool, true, false, cond, ◌&&◌, List, [], ◌∷◌, ℕ, ◌+◌, ◌-◌, leb, ltb, eqb, length, get_or}
 use Rattle.refusals.specs.Numbers.{too_many_records, not_valid}
 use Rattle.seqs.specs.Lists.{first_index, spliced, Store, live, packed}
 use Rattle.seqs.specs.Runs.{valid}
