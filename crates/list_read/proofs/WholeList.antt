@@ -1,6 +1,6 @@
 -- A list that was written is read back whole from its bytes, and any proper prefix of these is refused.
 -- Assumes nothing.
-use mathlib.Core.Path.{◌≡◌, refl, ap, ap₂, sym, ◌∙◌}
+use mathlib.Core.Path.{◌≡◌, refl, ap, sym, ◌∙◌}
 use mathlib.Core.Bool.{Bool, true, false, cond, ◌&&◌}
 use mathlib.Core.List.{List, [], ◌∷◌, ◌++◌}
 use Prim.Native.Nat.{ℕ, zero, suc, ◌+◌, ◌-◌, ◌≤◌, ◌<◌}
@@ -14,7 +14,7 @@ use Rattle.list_records.specs.Records.{Record, WZ, Wb, FL, by_kind, record_bytes
 use Rattle.list_records.proofs.Sizes.{zeros-bytes, block-bytes, flush-bytes}
 use Rattle.list_read.specs.declared.Decoded.{Decoded}
 use Rattle.list_read.specs.Records.{head_refused, decode_def, head_said, payload_of, RecordFits}
-use Rattle.list_read.specs.Flushes.{next_def, ended_def, ruled, WholeList}
+use Rattle.list_read.specs.Flushes.{next_def, ruled, WholeList}
 use Rattle.list_read.specs.Whole.{record_of, own, ListRead, read_stopped, read_before, read_from, read_list, AllFit, whole_list, CutOff}
 use Rattle.list_read.proofs.Encoded.{head-back, behind-head, bytes_back, next-back, mark-cut, head-cut, bytes-cut-head}
 use Rattle.list_read.proofs.Ending.{cut-end, let_by, went_on, whole-list}
