@@ -1,14 +1,14 @@
 -- The tests of a list's first bytes, one after the other.
 -- Assumes nothing.
 use mathlib.Core.Path.{◌≡◌, refl}
-use mathlib.Core.Bool.{Bool, true, false, ◌&&◌}
+use mathlib.Core.Bool.{true, false}
 use mathlib.Core.List.{List}
 use Prim.Native.Nat.{ℕ, ◌+◌, ◌≤◌, ◌<◌}
-use lib.Dec.{leb, ltb, eqb}
+use lib.Dec.{ltb}
 use lib.ListN.{length}
 use borrow.Author.Tests.{lt-leb, le-leb, lt-ltb, le-ltb}
 use Rattle.endian.specs.Bytes.{be_at}
-use Rattle.list_sector.specs.Sector.{block_in, begins_superblock, sector_behind, sector_in, below_logical}
+use Rattle.list_sector.specs.Sector.{begins_superblock, sector_behind, sector_in, below_logical}
 
 module _ (n : ℕ) (xs : List ℕ) where
   pub block-too-long : 16384 < n → 0 ≡ sector_behind n xs

@@ -2,19 +2,17 @@
 -- Assumes nothing.
 use mathlib.Core.Path.{◌≡◌, refl, sym, ap, ◌∙◌}
 use mathlib.Core.Bool.{true}
-use mathlib.Core.List.{List, [], ◌∷◌, ◌++◌, append_assoc}
+use mathlib.Core.List.{List, ◌∷◌, ◌++◌, append_assoc}
 use Prim.Native.Nat.{ℕ, ◌+◌, ◌^◌, ◌≤◌, ◌<◌}
 use native.Mathlib.Omega.{arith}
-use lib.Dec.{eqb}
-use lib.ListN.{length, take, drop, length-append}
-use lib.Seq.{drop-append-add, take_at}
+use lib.ListN.{length, take, length-append}
+use lib.Seq.{drop-append-add}
 use borrow.Author.Tests.{eq-eqb}
 use Rattle.list_read.specs.Records.{bytes_mark}
 use Rattle.endian.specs.Bytes.{be_bytes, be_at}
-use Rattle.endian.proofs.Laws.{length-be}
 use Rattle.endian.proofs.Fields.{at_part, at-written}
 use Rattle.list_records.specs.Records.{Record, WZ, Wb, record_bytes, list_bytes}
-use Rattle.list_sector.specs.Sector.{magic, begins_superblock, sector_behind, sector_in}
+use Rattle.list_sector.specs.Sector.{magic, begins_superblock, sector_in}
 use Rattle.list_sector.proofs.Laws.{said, long-enough}
 
 -- a number behind some bytes
