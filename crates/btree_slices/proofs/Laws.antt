@@ -1,4 +1,4 @@
--- The records of a lent slice, written from the last to the first into a buffer: one law over the record's type, for the walks.
+-- The records of a lent slice, written from the last to the first into a buffer: one law over the record's type, for each kind of record.
 -- Assumes nothing.
 use mathlib.Core.Path.{◌≡◌, refl, sym, ◌∙◌, ap}
 use mathlib.Core.List.{List}

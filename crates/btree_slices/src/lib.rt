@@ -1,6 +1,5 @@
-// Records of a lent slice and their bytes, one record after the other: the Rust's alloc_recs and rmap_recs as they stand there. A function
-// that takes a slice of structs is proved by a walk of its MIR, by hand; so these are few and thin, and each test and each write of a
-// number stands in a function on plain numbers.
+// Records of a lent slice and their bytes, one record after the other: the Rust's alloc_recs and rmap_recs as they stand there. Each test
+// and each write of a number stands in a function on plain numbers.
 #![tactic(auto)]
 
 ghost use Rattle.std.specs.Prelude.{◌≡◌, ◌+◌, ◌*◌, ◌≤◌, ◌<◌, length};
