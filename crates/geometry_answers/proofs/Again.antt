@@ -17,7 +17,6 @@ use Rattle.params.specs.declared.OptU64.TheVariants.{Absent, Given}
 use Rattle.params.specs.declared.Params.{Params}
 use Rattle.geometry.specs.declared.sizes.Sizes.{Sizes}
 use Rattle.geometry.specs.declared.groups.Groups.{Groups}
-use Rattle.geometry_answers.specs.declared.Named.{Named}
 use Rattle.geometry.specs.declared.Geometry.{Geometry}
 use Rattle.geometry.specs.declared.Computed.{Computed}
 use Rattle.geometry.specs.Limits.{min_group}

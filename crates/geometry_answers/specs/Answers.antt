@@ -4,7 +4,6 @@ use Rattle.std.specs.Prelude.{◌≡◌, ℕ, ◌^◌, ◌<◌, length, get_or}
 use Rattle.params.specs.Options.{or64, or32, or8}
 use Rattle.params.specs.declared.Params.{Params}
 use Rattle.geometry.specs.declared.Geometry.{Geometry}
-use Rattle.geometry.specs.declared.Computed.{Computed}
 use Rattle.geometry.specs.Compute.{compute_def}
 
 -- some options and some device of at most 2 ^ 64 - 1 bytes have g as their accepted answer
