@@ -3,7 +3,7 @@
 -- Assumes nothing.
 use mathlib.Core.Path.{◌≡◌, refl, sym, ap, ◌∙◌}
 use mathlib.Core.Bool.{Bool, true, false}
-use Prim.Native.Nat.{ℕ, ◌+◌, ◌*◌, ◌-◌, ◌/◌, ◌%◌, ◌^◌, ◌≤◌, ◌<◌}
+use Prim.Native.Nat.{ℕ, ◌+◌, ◌*◌, ◌/◌, ◌%◌, ◌^◌, ◌≤◌, ◌<◌}
 use native.Mathlib.Omega.{arith}
 use native.Mathlib.Nat.{one-mul, add-zero, mul_comm, mul_assoc, mul-add-div_right, mul-add-mod_self_right, div-eq_of_lt, mod-eq_of_lt, eq_of_mul-eq-mul_right, le-div_iff_mul-le}
 use borrow.Author.Tests.{eq-eqb, leb-true, leb-false}
@@ -16,9 +16,6 @@ use Rattle.geometry_layout.specs.Bounds.{Bounds}
 use Rattle.geometry_layout.proofs.Wide.{whole-blocks}
 use Rattle.geometry_layout.proofs.Bounding.{answer-bounds}
 use Rattle.geometry_layout.proofs.Inside.{Fits, fitting}
-use Rattle.geometry_places.specs.declared.GroupBlock.{GroupBlock}
-use Rattle.geometry_places.specs.declared.FsBlock.{FsBlock}
-use Rattle.geometry_places.specs.declared.ToGroupBlock.{ToGroupBlock}
 use Rattle.geometry_places.specs.declared.ToGroupBlock.TheVariants.{At}
 use Rattle.geometry_places.specs.Answers.{place_refusal, to_group_block}
 use Rattle.geometry_places.proofs.Refused.{a-place}

@@ -1,7 +1,7 @@
 -- What the conversions of a place ask for: no unit of a place of the disk passes 64 bits.
 -- Assumes nothing.
 use mathlib.Core.Path.{◌≡◌}
-use Prim.Native.Nat.{ℕ, ◌+◌, ◌*◌, ◌-◌, ◌/◌, ◌^◌, ◌≤◌, ◌<◌}
+use Prim.Native.Nat.{ℕ, ◌+◌, ◌*◌, ◌/◌, ◌^◌, ◌≤◌, ◌<◌}
 use native.Mathlib.Omega.{arith}
 use native.Mathlib.Nat.{mul-le-mul}
 use lib.ListN.{length}
@@ -11,7 +11,7 @@ use Rattle.geometry.specs.Log.{prealloc_of}
 use Rattle.geometry_layout.specs.Places.{group_blocks, root_chunk_of}
 use Rattle.geometry_layout.specs.Bounds.{Bounds}
 use Rattle.geometry_layout.proofs.Bounding.{answer-bounds}
-use Rattle.geometry_layout.proofs.Inside.{Fits, few-blocks, blocks-least, fitting}
+use Rattle.geometry_layout.proofs.Inside.{few-blocks, blocks-least, fitting}
 use Rattle.geometry_places.specs.Answers.{place_refusal}
 use Rattle.geometry_places.proofs.Refused.{a-place}
 

@@ -11,8 +11,6 @@ use Rattle.geometry_counts.specs.declared.Value64.{Value64}
 use Rattle.geometry_counts.specs.declared.Value64.TheVariants.{Refused as Refused64, Of as Of64}
 use Rattle.geometry_places.specs.declared.GroupBlock.{GroupBlock}
 use Rattle.geometry_places.specs.declared.FsBlock.{FsBlock}
-use Rattle.geometry_places.specs.declared.DiskAddress.{DiskAddress}
-use Rattle.geometry_places.specs.declared.ByteOffset.{ByteOffset}
 use Rattle.geometry_places.specs.declared.ToGroupBlock.{ToGroupBlock}
 use Rattle.geometry_places.specs.declared.ToGroupBlock.TheVariants.{Refused as RefusedAgb, At as AtAgb}
 use Rattle.geometry_places.specs.declared.ToFsBlock.{ToFsBlock}
