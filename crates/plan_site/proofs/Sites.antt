@@ -2,7 +2,7 @@
 -- Assumes nothing.
 use mathlib.Core.Path.{◌≡◌, refl, sym, ap, ◌∙◌}
 use mathlib.Core.Bool.{Bool, true, false, cond}
-use Prim.Native.Nat.{ℕ, zero, suc, ◌+◌, ◌*◌, ◌-◌, ◌/◌, ◌^◌, ◌≤◌, ◌<◌}
+use Prim.Native.Nat.{ℕ, zero, suc, ◌+◌, ◌*◌, ◌-◌, ◌^◌, ◌≤◌, ◌<◌}
 use native.Mathlib.Omega.{arith}
 use native.Mathlib.Nat.{le-div_iff_mul-le, mul-le-mul_left, zero-mul}
 use lib.Dec.{eqb}
@@ -16,7 +16,7 @@ use Rattle.geometry.specs.declared.Geometry.{Geometry}
 use Rattle.geometry.specs.Log.{header_of, prealloc_of}
 use Rattle.geometry_answers.specs.Named.{is_answer}
 use Rattle.geometry_layout.specs.Places.{ibt_block, rmap_block, refc_block, freelist_of, chunk_of, group_blocks}
-use Rattle.geometry_layout.specs.Bounds.{SizeBounds, GroupBounds, Bounds}
+use Rattle.geometry_layout.specs.Bounds.{Bounds}
 use Rattle.geometry_layout.proofs.Bounding.{answer-bounds}
 use Rattle.geometry_layout.proofs.Ceil.{counted, one_more}
 use Rattle.geometry_layout.proofs.Small.{freelist-most}
