@@ -1,0 +1,8 @@
+-- `reader_names::half_at` meets its contract.
+-- Assumes nothing.
+use native.Mathlib.Omega.{arith}
+use Rattle.endian.proofs.Laws.{got_in}
+use Rattle.reader_names.proofs.half_at.Goals as goal
+
+pub returns : goal.returns
+returns c = got_in c.be16-read.ensures (omega arith)
