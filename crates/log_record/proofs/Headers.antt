@@ -7,7 +7,7 @@ use Prim.Native.Nat.{ℕ, zero, suc, ◌+◌, ◌*◌, ◌-◌, ◌≤◌, max}
 use native.Mathlib.Omega.{arith}
 use borrow.Author.Tests.{leb-true}
 use lib.Dec.{T, leb, leb→le, eqb}
-use lib.ListN.{length, take, drop, replicate, set, length-replicate, replicate-append-replicate, take-append-drop}
+use lib.ListN.{length, replicate, set, length-replicate, replicate-append-replicate, take-append-drop}
 use lib.Seq.{take_at, drop_at}
 use Rattle.refusals.specs.Numbers.{wrong_length, sunit_too_large}
 use Rattle.endian.specs.Bytes.{be_bytes, be_at, patch}

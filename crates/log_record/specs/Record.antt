@@ -1,7 +1,7 @@
 -- A log record that holds only an unmount record, field by field: `struct xlog_rec_header`, `struct xlog_op_header` and `struct
 -- xfs_unmount_log_format`.
 -- Assumes nothing.
-use Rattle.std.specs.Prelude.{List, [], ◌∷◌, ◌++◌, Bool, true, false, cond, ℕ, zero, suc, ◌+◌, ◌*◌, ◌-◌, ◌/◌, ◌^◌, max, leb, eqb, replicate}
+use Rattle.std.specs.Prelude.{List, [], ◌∷◌, ◌++◌, cond, ℕ, zero, suc, ◌+◌, ◌*◌, ◌-◌, ◌/◌, ◌^◌, max, leb, eqb, replicate}
 use Rattle.refusals.specs.Numbers.{wrong_length, sunit_too_large}
 use Rattle.endian_little.specs.Bytes.{le_bytes}
 use Rattle.endian.specs.Fields.{Field, field, byte_run, write_fields}
