@@ -1,6 +1,6 @@
 -- The plan of a group: what mkfs.xfs leaves of its blocks, step by step as the source goes.
 -- Assumes nothing.
-use Rattle.std.specs.Prelude.{Bool, true, false, cond, List, [], ◌∷◌, ◌++◌, ℕ, ◌+◌, ◌-◌, leb, ltb, eqb}
+use Rattle.std.specs.Prelude.{Bool, cond, List, [], ◌∷◌, ◌++◌, ℕ, ◌+◌, ◌-◌, leb, ltb, eqb}
 use Rattle.refusals.specs.Numbers.{free_list_short}
 use Rattle.seqs.specs.Lists.{Store, packed, appended, turns, up_from}
 use Rattle.params.specs.declared.OptU64.{OptU64}
@@ -13,8 +13,6 @@ use Rattle.geometry_places.specs.Answers.{group_refusal}
 use Rattle.plan_site.specs.declared.Site.{Site}
 use Rattle.plan_site.specs.Sites.{site_of}
 use Rattle.plan_free.specs.declared.FreeList.{FreeList}
-use Rattle.plan_free.specs.declared.Taken.{Taken}
-use Rattle.plan_free.specs.declared.Choice.{Choice}
 use Rattle.plan_free.specs.Free.{pack_free, taken, pick_answer}
 use Rattle.plan_rmap.specs.declared.RmapList.{RmapList}
 use Rattle.plan_rmap.specs.declared.Inserted.{Inserted}

@@ -1,0 +1,13 @@
+-- `plan::first::push_rmap` meets its contract.
+-- Assumes nothing.
+use borrow.Author.Tests.{lt-ltb, le-ltb}
+use Rattle.seqs.specs.Lists.{pushed}
+use Rattle.plan.proofs.first.push_rmap.Goals as goal
+
+pub returns-then-at-lt64 : goal.returns-then-at-lt64
+unfolding pushed
+returns-then-at-lt64 c = simp (lt-ltb _ _ c.if-at-lt64.true)
+
+pub returns : goal.returns
+unfolding pushed
+returns c = simp (le-ltb _ _ c.if-at-lt64.false)

@@ -1,0 +1,10 @@
+-- `plan::first::put_head` meets its contract.
+-- Assumes nothing.
+use Rattle.btree.specs.Owners.{negative}
+use Rattle.seqs.specs.Lists.{appended}
+use mathlib.Core.Path.{◌∙◌}
+use Rattle.plan.proofs.first.put_head.Goals as goal
+
+pub returns : goal.returns
+unfolding appended negative
+returns c = c.push_rmap.ensures ∙ rw (c.push_rmap-c.ensures, c.push_rmap-b.ensures, c.push_rmap-a.ensures)
