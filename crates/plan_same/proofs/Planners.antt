@@ -6,15 +6,10 @@ use mathlib.Core.List.{List, [], ◌∷◌}
 use Prim.Native.Nat.{ℕ}
 use lib.Dec.{T, eqb}
 use borrow.Author.Tests.{eqb-true, eq-eqb}
-use Rattle.arith.proofs.Both.{both_true, left-true, right-true}
+use Rattle.arith.proofs.Both.{left-true, right-true}
 use Rattle.params.specs.declared.OptU64.{OptU64}
 use Rattle.params.specs.declared.OptU64.TheVariants.{Absent, Given}
 use Rattle.geometry.specs.declared.Geometry.{Geometry}
-use Rattle.btree.specs.declared.records.AllocRec.{AllocRec}
-use Rattle.btree.specs.declared.records.RmapRec.{RmapRec}
-use Rattle.plan_free.specs.declared.FreeList.{FreeList}
-use Rattle.plan_rmap.specs.declared.RmapList.{RmapList}
-use Rattle.plan.specs.declared.Agfl.{Agfl}
 use Rattle.plan.specs.declared.AgPlan.{AgPlan}
 use Rattle.plan.specs.declared.Planned.{Planned}
 use Rattle.plan.specs.declared.Work.{Work}

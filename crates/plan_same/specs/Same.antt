@@ -1,6 +1,6 @@
 -- Two plans are the same, as a test; and whether a plan is the planner's for its group.
 -- Assumes nothing.
-use Rattle.std.specs.Prelude.{Bool, true, false, ◌&&◌, List, [], ◌∷◌, ℕ, eqb}
+use Rattle.std.specs.Prelude.{Bool, true, false, ◌&&◌, List, [], ◌∷◌, eqb}
 use Rattle.params.specs.declared.OptU64.{OptU64}
 use Rattle.params.specs.declared.OptU64.TheVariants.{Absent, Given}
 use Rattle.geometry.specs.declared.Geometry.{Geometry}
@@ -10,7 +10,6 @@ use Rattle.plan_free.specs.declared.FreeList.{FreeList}
 use Rattle.plan_rmap.specs.declared.RmapList.{RmapList}
 use Rattle.plan.specs.declared.Agfl.{Agfl}
 use Rattle.plan.specs.declared.AgPlan.{AgPlan}
-use Rattle.plan.specs.declared.Planned.{Planned}
 use Rattle.plan.specs.Plan.{planned}
 
 -- two lists are of one length, and each element is the same as the other list's in its place

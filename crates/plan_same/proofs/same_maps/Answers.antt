@@ -1,0 +1,22 @@
+-- `plan_same::same_maps` meets its contract. Invariant: whether the arrays are the same is whether they are from i on.
+-- Assumes nothing.
+use Rattle.plan_same.proofs.Laws.{agree, differ, ended}
+use Rattle.plan_same.specs.Same.{same_map}
+use Rattle.plan_rmap.specs.Rmap.{zero_rmap_rec}
+use lib.ListN.{length}
+use native.Mathlib.Omega.{arith}
+use borrow.Author.Rules.{rules}
+use mathlib.Core.Path.{◌≡◌, refl, sym, ◌∙◌}
+use Rattle.plan_same.proofs.same_maps.Goals as goal
+
+pub loop-i-init : goal.loop-i-init
+loop-i-init c = (omega arith, refl)
+
+pub returns-then-not-same_map : goal.returns-then-not-same_map
+returns-then-not-same_map c = let k : length c.args.a ≡ 64 = search rules in let m : length c.args.b ≡ 64 = search rules in sym (c.loop-i.invariant.1 ∙ differ same_map zero_rmap_rec c.args.a c.args.b c.loop-i.i (omega arith) (omega arith) (sym c.same_map.ensures ∙ c.if-not-same_map.true))
+
+pub loop-i-preserved : goal.loop-i-preserved
+loop-i-preserved c = let k : length c.args.a ≡ 64 = search rules in let m : length c.args.b ≡ 64 = search rules in (omega arith, c.loop-i.invariant.1 ∙ agree same_map zero_rmap_rec c.args.a c.args.b c.loop-i.i (omega arith) (omega arith) (sym c.same_map.ensures ∙ c.if-not-same_map.false))
+
+pub returns : goal.returns
+returns c = let k : length c.args.a ≡ 64 = search rules in let m : length c.args.b ≡ 64 = search rules in sym (c.loop-i.invariant.1 ∙ ended same_map zero_rmap_rec c.args.a c.args.b c.loop-i.i (omega arith) (omega arith))
