@@ -1,0 +1,11 @@
+-- `inode::dinode::or_else` meets its contract.
+-- Assumes nothing.
+use borrow.Author.Tests.{eq-eqb, ne_eqb}
+use mathlib.Core.Path.{refl}
+use Rattle.inode.proofs.dinode.or_else.Goals as goal
+
+pub returns-then-a-eq0 : goal.returns-then-a-eq0
+returns-then-a-eq0 c = rw (eq-eqb _ _ c.if-a-eq0.true) refl
+
+pub returns : goal.returns
+returns c = rw (ne_eqb _ _ c.if-a-eq0.false) refl
