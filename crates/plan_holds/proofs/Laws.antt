@@ -14,11 +14,9 @@ use Rattle.seqs.specs.Lists.{fold}
 use Rattle.seqs.proofs.Laws.{rest-cons, rest-nil}
 use Rattle.btree.specs.declared.records.AllocRec.{AllocRec}
 use Rattle.geometry.specs.declared.Geometry.{Geometry}
-use Rattle.plan_free.specs.declared.Taken.{Taken}
 use Rattle.plan_free.specs.Free.{zero_free_rec, taken}
 use Rattle.plan_holds.specs.declared.HeldList.{HeldList}
 use Rattle.plan_holds.specs.declared.Holds.{Holds}
-use Rattle.plan_holds.specs.declared.Held.{Held}
 use Rattle.plan_holds.specs.Adding.{added_if, added_side}
 use Rattle.plan_holds.specs.Holding.{held_of, pack_held, is_run, any_run, starts_on, side, put_run, drop_run, hold_refused, held_with, is_state}
 

@@ -5,10 +5,7 @@ use Rattle.refusals.specs.Numbers.{no_answer, too_many_records, not_holdable, no
 use Rattle.seqs.specs.Lists.{fold}
 use Rattle.btree.specs.declared.records.AllocRec.{AllocRec}
 use Rattle.geometry.specs.declared.Geometry.{Geometry}
-use Rattle.plan_free.specs.declared.FreeList.{FreeList}
-use Rattle.plan_free.specs.declared.Taken.{Taken}
 use Rattle.plan_free.specs.Free.{zero_free_rec, pack_free, taken}
-use Rattle.plan.specs.declared.Planned.{Planned}
 use Rattle.plan.specs.Plan.{planned}
 use Rattle.plan_same.specs.Same.{eq_list, same_alloc, same_free}
 use Rattle.plan_holds.specs.declared.HeldList.{HeldList}
