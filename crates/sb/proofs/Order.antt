@@ -4,10 +4,10 @@ use mathlib.Core.Path.{◌≡◌, refl, ap, sym, ◌∙◌}
 use mathlib.Core.List.{List, [], ◌∷◌, ◌++◌}
 use mathlib.Core.Bool.{Bool, true, false, ◌||◌}
 use Prim.Native.Nat.{ℕ}
-use lib.Dec.{T, ltb}
+use lib.Dec.{ltb}
 use lib.ListN.{length}
 use Rattle.endian.specs.Bytes.{be_bytes}
-use Rattle.endian.specs.Fields.{Field, Span, field, byte_run, write_fields, table, spans, tidy, clear}
+use Rattle.endian.specs.Fields.{Field, Span, byte_run, write_fields, table, spans}
 use Rattle.endian.proofs.Order.{any_order}
 use Rattle.geometry.specs.declared.Geometry.{Geometry}
 use Rattle.sb.specs.declared.SbState.{SbState}

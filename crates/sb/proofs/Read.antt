@@ -7,7 +7,7 @@ use Prim.Native.Nat.{ℕ, ◌+◌, ◌^◌, ◌≤◌, ◌<◌}
 use lib.Dec.{T, lit<}
 use lib.ListN.{length}
 use Rattle.endian.specs.Bytes.{be_bytes, be_at}
-use Rattle.endian.specs.Fields.{Field, Span, field, byte_run, write_fields, part, nth, spans, tidy, clear}
+use Rattle.endian.specs.Fields.{Span, field, write_fields, part, nth, spans, tidy, clear}
 use Rattle.crc.specs.Crc.{stamped}
 use Rattle.crc.proofs.Laws.{read-stamped}
 use Rattle.structs.specs.Holds.{Holds}
@@ -16,7 +16,7 @@ use Rattle.structs.proofs.Encoded.{encoded-again}
 use Rattle.arith.specs.Choice.{bit}
 use Rattle.geometry.specs.declared.Geometry.{Geometry}
 use Rattle.sb.specs.declared.SbState.{SbState}
-use Rattle.sb.specs.Superblock.{crc_at, large_sector, ro_compat, in_compat, logstart_of, log_sector, fields_with, sb_fields, sb_bytes}
+use Rattle.sb.specs.Superblock.{crc_at, large_sector, ro_compat, in_compat, logstart_of, fields_with, sb_fields, sb_bytes}
 use Rattle.sb.proofs.Order.{standing}
 
 log_places : Bool → List ℕ
