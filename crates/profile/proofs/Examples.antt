@@ -1,12 +1,12 @@
 -- Bytes, labels and groups that the profile allows, and some that it doesn't.
 -- Assumes nothing.
-use mathlib.Core.Bool.{Bool, true, false, not, ◌&&◌}
+use mathlib.Core.Bool.{not, ◌&&◌}
 use mathlib.Core.List.{List, [], ◌∷◌, ◌++◌}
 use Prim.Native.Nat.{ℕ}
 use lib.Dec.{T}
 use lib.ListN.{length, replicate}
 use Rattle.params.specs.declared.Label.{Label}
-use Rattle.profile.specs.Rules.{allowed_sector, allowed_groups, label_byte, label_bytes, allowed_label, trimmed}
+use Rattle.profile.specs.Rules.{allowed_sector, allowed_groups, label_byte, label_bytes, allowed_label}
 
 -- a label of these bytes, in a field of 12
 abbrev named : List ℕ → Label

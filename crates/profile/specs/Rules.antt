@@ -1,6 +1,6 @@
 -- The scan station profile: its rules, in the order of document 02, and the label of a disk as they judge it.
 -- Assumes nothing.
-use Rattle.std.specs.Prelude.{Bool, true, false, not, ◌&&◌, ◌||◌, cond, List, [], ◌∷◌, ℕ, leb, eqb, length, take}
+use Rattle.std.specs.Prelude.{Bool, true, not, ◌&&◌, ◌||◌, cond, List, [], ◌∷◌, ℕ, leb, eqb, length, take}
 use Rattle.arith.specs.Choice.{when}
 use Rattle.refusals.specs.Numbers.{not_in_profile}
 use Rattle.params.specs.declared.Features.{Features}
