@@ -67,7 +67,7 @@ def turn(text):
 
 
 def outside_strings(text, f):
-    parts = re.split(r"""(b?'(?:[^'\\]|\\.)'|"(?:[^"\\]|\\.)*")""", text)
+    parts = re.split(r"""(b?'(?:[^'\\]|\\.)'|"(?:[^"\\]|\\.)*")""", text, flags=re.S)
     return "".join(p if i % 2 else f(p) for i, p in enumerate(parts))
 
 

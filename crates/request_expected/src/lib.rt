@@ -42,7 +42,7 @@ fn names() -> [u8; 126]
 
 // A line for what is expected behind each.
 fn texts() -> [u8; 901]
-    ensures { result ≡ page_of expectedLines }
+    ensures { result ≡ page_of expected_lines }
 {
     *b"\
         at most 12 bytes\n\
