@@ -1,6 +1,6 @@
 -- The options that the records of a well-formed input give.
 -- Assumes nothing.
-use Rattle.std.specs.Prelude.{List, ◌++◌, Bool, true, false, cond, ℕ, ◌+◌, ◌-◌, ◌/◌, ◌%◌, ◌^◌, ◌≤◌, ◌<◌, min, ltb, eqb, ℤ, pos, ◌-ℤ◌, length, get_or, replicate}
+use Rattle.std.specs.Prelude.{List, ◌++◌, Bool, false, cond, ℕ, ◌+◌, ◌-◌, ◌/◌, ◌%◌, ◌^◌, ◌≤◌, ◌<◌, min, ltb, eqb, ℤ, pos, ◌-ℤ◌, length, get_or, replicate}
 use Rattle.endian.specs.Fields.{part}
 use Rattle.params.specs.declared.OptU64.{OptU64}
 use Rattle.params.specs.declared.OptU64.TheVariants.{Absent, Given}
