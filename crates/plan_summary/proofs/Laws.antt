@@ -1,7 +1,7 @@
 -- Laws of the summary's definitions.
 -- Assumes nothing.
 use mathlib.Core.Path.{◌≡◌, refl, sym, ◌∙◌}
-use mathlib.Core.Bool.{Bool, true, false, not, cond}
+use mathlib.Core.Bool.{Bool, true, false, cond}
 use Prim.Native.Nat.{ℕ, ◌+◌, ◌*◌, ◌-◌, ◌^◌, ◌≤◌, ◌<◌}
 use native.Mathlib.Omega.{arith}
 use native.Mathlib.Nat.{mul-le-mul_left}
@@ -17,7 +17,7 @@ use Rattle.geometry_layout.specs.Places.{group_blocks}
 use Rattle.geometry_layout.proofs.Bounding.{answer-bounds}
 use Rattle.geometry_counts.specs.declared.Value64.TheVariants.{Of}
 use Rattle.geometry_places.specs.Answers.{group_refusal, unless64}
-use Rattle.geometry_places.proofs.Refused.{group-no-answer, group-there, a-group}
+use Rattle.geometry_places.proofs.Refused.{group-no-answer, group-there}
 use Rattle.plan_site.specs.declared.Site.{Site}
 use Rattle.plan_site.specs.Sites.{site_of}
 use Rattle.plan_site.proofs.Sites.{site-sound}

@@ -2,7 +2,7 @@
 -- Assumes nothing.
 use mathlib.Core.Path.{◌≡◌, refl, sym, ap, ◌∙◌}
 use mathlib.Core.Bool.{Bool, true, false, cond}
-use mathlib.Core.List.{List, [], ◌∷◌, ◌++◌}
+use mathlib.Core.List.{List}
 use Prim.Native.Nat.{ℕ, ◌+◌, ◌-◌, ◌^◌, ◌≤◌, ◌<◌, max}
 use native.Mathlib.Omega.{arith}
 use lib.Dec.{ltb, eqb}
@@ -36,7 +36,7 @@ use Rattle.plan_summary.specs.declared.Summary.{Summary}
 use Rattle.plan_summary.specs.Summaries.{summary_of, length_in, log_blocks_in, chunk_blocks_in, free_blocks_in, longest_in}
 use Rattle.plan_summary.specs.Narrow.{NarrowSummary, NarrowRow, NarrowLog, NarrowGroup}
 use Rattle.plan_summary.proofs.Laws.{last_fits}
-use Rattle.plan_summary.proofs.Rows.{length-is, head-is, list-is, chunk-at-is, chunk-blocks-is, not-short-at}
+use Rattle.plan_summary.proofs.Rows.{length-is, chunk-at-is, chunk-blocks-is, not-short-at}
 
 -- ---- the free records of a site
 

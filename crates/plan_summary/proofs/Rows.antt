@@ -4,23 +4,20 @@ use mathlib.Core.Path.{◌≡◌, refl, sym, ap, ◌∙◌}
 use mathlib.Core.Bool.{Bool, true, false, cond}
 use Prim.Native.Nat.{ℕ, ◌+◌, ◌*◌, ◌-◌, ◌≤◌, ◌<◌, max}
 use native.Mathlib.Omega.{arith}
-use borrow.Author.Tests.{eqb-true, eqb-false, eq-eqb, ne_eqb, lt-ltb, le-ltb, ltb-true, ltb-false}
+use borrow.Author.Tests.{eqb-true, lt-ltb, le-ltb, ltb-true, ltb-false}
 use lib.Dec.{ltb, eqb}
 use lib.ListN.{length}
 use Rattle.refusals.specs.Numbers.{no_place}
 use Rattle.arith.specs.Choice.{when}
 use Rattle.geometry.specs.declared.Geometry.{Geometry}
-use Rattle.geometry.specs.Log.{prealloc_of}
 use Rattle.geometry_answers.specs.Named.{is_answer}
-use Rattle.geometry_layout.specs.Places.{group_blocks, freelist_of, chunk_of, root_chunk_of}
-use Rattle.geometry_places.specs.Answers.{group_refusal}
+use Rattle.geometry_layout.specs.Places.{group_blocks, chunk_of}
 use Rattle.geometry_places.proofs.Refused.{group-missing}
 use Rattle.plan_site.specs.declared.Site.{Site}
 use Rattle.plan_site.specs.Sites.{site_of, SoundSite}
 use Rattle.plan_site.proofs.Sites.{site-sound}
 use Rattle.plan.specs.Plan.{planned}
 use Rattle.plan_closed.specs.Closed.{has_root_chunk, list_at, list_short}
-use Rattle.table_lines.specs.declared.Row.{Row}
 use Rattle.plan_totals.specs.Totals.{plans_number, no_row, larger_count, before_chunk, after_chunk, after_list, row_of, closed_row, total_of}
 use Rattle.plan_totals.proofs.Rows.{row-closed}
 use Rattle.plan_totals.proofs.Whole.{all-planned, total-closed}

@@ -1,0 +1,10 @@
+-- `plan_summary::records::larger_of` meets its contract.
+-- Assumes nothing.
+use borrow.Author.Tests.{lt-ltb, le-ltb}
+use Rattle.plan_summary.proofs.records.larger_of.Goals as goal
+
+pub returns-then-a-b : goal.returns-then-a-b
+returns-then-a-b c = simp (lt-ltb _ _ c.if-a-b.true)
+
+pub returns-else-a-b : goal.returns-else-a-b
+returns-else-a-b c = simp (le-ltb _ _ c.if-a-b.false)
