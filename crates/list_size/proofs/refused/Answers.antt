@@ -1,0 +1,7 @@
+-- `list_size::refused` meets its contract.
+-- Assumes nothing.
+use mathlib.Core.Path.{refl}
+use Rattle.list_size.proofs.refused.Goals as goal
+
+pub returns : goal.returns
+returns c = refl
