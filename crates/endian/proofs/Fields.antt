@@ -9,7 +9,7 @@ use native.Mathlib.Numerals.{one-add}
 use lib.Arith.{mod-mul}
 use native.Mathlib.Omega.{arith}
 use lib.Dec.{T, leb, leb→le, lit<}
-use lib.ListN.{length, get_or, set, length-set, drop, take, length-take}
+use lib.ListN.{length, get_or, set, drop, take}
 use lib.Seq.{drop_at, take_at, length-take-le, drop-set-lt, drop-set-add, take-set-le, get_or-take, get_or-drop}
 use Rattle.endian.specs.Bytes.{be_bytes, patch, be_at}
 use Rattle.endian.specs.Fields.{Field, Span, write_fields, part, nth, spans, clear, tidy}

@@ -9,11 +9,11 @@ use lib.Dec.{lit<, leb}
 use borrow.Author.Tests.{le-leb, lt-leb, leb-true, leb-false}
 use mathlib.Core.Bool.{Bool, true, false}
 use Rattle.refusals.specs.Numbers.{wrong_length}
-use Rattle.endian.specs.Answer.{room, answer, Put, Got}
+use Rattle.endian.specs.Answer.{room, Put, Got}
 use borrow.Rule.Slice.PartMut.{put_mid, Post-is}
 use native.Mathlib.Omega.{arith}
 use lib.ListN.{length, get_or, set, length-set, drop, take, take-append-drop, replicate}
-use lib.Seq.{drop-cons, take-suc, append_snoc, set_at, length-take-le, get_or-set_same, get_or-set_other, take-set-lt, drop-set-lt}
+use lib.Seq.{drop-cons, take-suc, append_snoc, set_at, length-take-le, take-set-lt, drop-set-lt}
 use Rattle.endian.specs.Bytes.{be_bytes, patch, be_at, numbers_bytes}
 
 pub length-patch : (off : ℕ) (bs xs : List ℕ) → length (patch off bs xs) ≡ length xs

@@ -1,6 +1,6 @@
 -- A structure on disk as a list of fields, each an offset and the bytes that stand there.
 -- Assumes nothing.
-use Rattle.std.specs.Prelude.{◌≡◌, List, [], ◌∷◌, Bool, true, false, ◌&&◌, ◌||◌, cond, ℕ, zero, suc, ◌+◌, ◌*◌, leb, eqb, length, take, drop}
+use Rattle.std.specs.Prelude.{◌≡◌, List, [], ◌∷◌, Bool, true, ◌&&◌, ◌||◌, cond, ℕ, zero, suc, ◌+◌, ◌*◌, leb, eqb, length, take, drop}
 use Rattle.endian.specs.Answer.{answer}
 use Rattle.endian.specs.Bytes.{patch, be_bytes}
 
