@@ -1,6 +1,6 @@
 -- Lines of planlist's example, a device of 1 GiB, byte for byte.
 -- Assumes nothing.
-use mathlib.Core.Path.{◌≡◌, refl}
+use mathlib.Core.Path.{◌≡◌}
 use mathlib.Core.List.{[], ◌∷◌}
 use lib.Dec.{lit<}
 use Rattle.table_lines.specs.Decimal.{digits}

@@ -1,6 +1,6 @@
 -- The lines that planlist and inquire print.
 -- Assumes nothing.
-use Rattle.std.specs.Prelude.{◌≡◌, List, [], ◌∷◌, ◌++◌, Bool, true, false, cond, ℕ, ◌+◌, eqb, length}
+use Rattle.std.specs.Prelude.{◌≡◌, List, [], ◌∷◌, ◌++◌, Bool, cond, ℕ, ◌+◌, eqb, length}
 use Rattle.endian.specs.Answer.{room, answer, valued}
 use Rattle.endian.specs.Bytes.{patch}
 use Rattle.table_lines.specs.Decimal.{decimal}
