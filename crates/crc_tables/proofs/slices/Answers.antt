@@ -4,12 +4,8 @@ use Rattle.crc_register.proofs.Tested.{slice-right}
 use Rattle.crc_register.specs.Tables.{register_table}
 use Rattle.crc_register.specs.Register.{crc_bit, crc_bits}
 use mathlib.Core.Path.{refl}
-use Rattle.crc_tables.proofs.slices.Statement.{statement}
-use Rattle.crc_tables.proofs.slices.Tie as tie
+use Rattle.crc_tables.proofs.slices.Goals as goal
 
-returns : tie.Need-returns
+pub returns : goal.returns
 unfolding register_table crc_bits crc_bit
 returns c = slice-right _ refl tt
-
-pub slices-spec : {M : Type 1} → statement M
-slices-spec = tie.close (tie.spec returns)

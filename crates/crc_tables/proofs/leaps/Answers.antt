@@ -4,12 +4,8 @@ use Rattle.crc_register.proofs.Tested.{leap-right}
 use Rattle.crc_register.specs.Tables.{through}
 use Rattle.crc_register.specs.Register.{crc_bit, crc_bits}
 use mathlib.Core.Path.{refl}
-use Rattle.crc_tables.proofs.leaps.Statement.{statement}
-use Rattle.crc_tables.proofs.leaps.Tie as tie
+use Rattle.crc_tables.proofs.leaps.Goals as goal
 
-returns : tie.Need-returns
+pub returns : goal.returns
 unfolding through crc_bits crc_bit
 returns c = leap-right _ refl tt
-
-pub leaps-spec : {M : Type 1} → statement M
-leaps-spec = tie.close (tie.spec returns)

@@ -4,12 +4,8 @@ use Rattle.crc_register.proofs.Tested.{byte-right}
 use Rattle.crc_register.specs.Tables.{register_table}
 use Rattle.crc_register.specs.Register.{crc_bit, crc_bits}
 use mathlib.Core.Path.{refl}
-use Rattle.crc_tables.proofs.bytes.Statement.{statement}
-use Rattle.crc_tables.proofs.bytes.Tie as tie
+use Rattle.crc_tables.proofs.bytes.Goals as goal
 
-returns : tie.Need-returns
+pub returns : goal.returns
 unfolding register_table crc_bits crc_bit
 returns c = byte-right _ refl tt
-
-pub bytes-spec : {M : Type 1} → statement M
-bytes-spec = tie.close (tie.spec returns)
