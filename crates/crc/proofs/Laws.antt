@@ -1,13 +1,13 @@
 -- What callers of the checksum use: a stamped structure keeps its length and every other byte, verifies, and stamping it again changes nothing.
 -- Assumes nothing.
-use mathlib.Core.Path.{◌≡◌, refl, ap, ap₂, sym, ◌∙◌, subst}
+use mathlib.Core.Path.{◌≡◌, refl, ap, sym, ◌∙◌, subst}
 use mathlib.Core.List.{List, [], ◌∷◌}
-use mathlib.Core.Bool.{Bool, true, false}
-use Prim.Native.Nat.{ℕ, ◌+◌, ◌-◌, ◌^◌, ◌<◌, ◌≤◌}
+use mathlib.Core.Bool.{true, false}
+use Prim.Native.Nat.{ℕ, ◌+◌, ◌^◌, ◌<◌, ◌≤◌}
 use native.Mathlib.Omega.{arith}
-use lib.Dec.{T, eqb, leb}
+use lib.Dec.{T, eqb}
 use lib.ListN.{length}
-use borrow.Author.Tests.{le-leb, lt-leb, eq-eqb, leb-true}
+use borrow.Author.Tests.{le-leb, eq-eqb}
 use Rattle.endian.specs.Answer.{room, Put}
 use Rattle.endian.specs.Bytes.{patch}
 use Rattle.endian_little.specs.Bytes.{le_bytes, le_at}
@@ -16,7 +16,7 @@ use Rattle.endian.proofs.Fields.{patch-before, patch-after, patch-clear, patch-s
 use Rattle.endian.proofs.Laws.{length-patch}
 use Rattle.endian_little.proofs.Laws.{length-le, le-written}
 use Rattle.endian.proofs.Order.{patch-over}
-use Rattle.crc_register.specs.Register.{crc_bytes, zeroed}
+use Rattle.crc_register.specs.Register.{zeroed}
 use Rattle.crc.specs.Crc.{crc32c_of, cksum_of, stamped, verified}
 
 -- ---- bounds

@@ -7,13 +7,13 @@ use Prim.Native.Nat.{ℕ, zero, suc, ◌+◌, ◌*◌, ◌≤◌, ◌<◌}
 use native.Mathlib.Nat.{add-zero, add-mul}
 use native.Mathlib.Numerals.{add-one}
 use native.Mathlib.Omega.{arith}
-use lib.Dec.{T, eqb, leb}
-use lib.ListN.{length, get_or, take, drop, length-drop}
+use lib.Dec.{T, eqb}
+use lib.ListN.{length, get_or, drop, length-drop}
 use lib.Seq.{length-take-le, ext_get_or, get_or-take, get_or-drop}
 use borrow.Author.Tests.{le-leb, eq-eqb, eqb-true, leb-true}
 use Rattle.endian.specs.Answer.{room, valued, Put}
 use Rattle.endian.specs.Bytes.{patch, Octets}
-use Rattle.endian.specs.Fields.{Field, Span, write_fields, part, spans, clear}
+use Rattle.endian.specs.Fields.{Field, write_fields, part, spans, clear}
 use Rattle.endian.proofs.Fields.{write-clear, write-length}
 use Rattle.endian.proofs.Laws.{refused-by, done-by, put_in}
 use Rattle.endian_little.specs.Bytes.{le_bytes, le_at}
