@@ -20,7 +20,6 @@ use Rattle.crc.specs.Right.{already_right}
 use Rattle.crc.specs.Means.{Inside, SameSums}
 use Rattle.crc.proofs.Laws.{stamped-twice}
 use Rattle.crc.proofs.Right.{stored-kept, right_kept, right-bytes, bytes-right, right-again}
-use Rattle.structs.specs.Written.{Written}
 use Rattle.structs.specs.Encoded.{Encoded}
 use Rattle.structs.proofs.Written.{refused, done, written_in}
 
