@@ -1,21 +1,19 @@
 -- Laws of names and numbers: each branch of a test, and each turn of a loop.
 -- Assumes nothing.
-use mathlib.Core.Path.{◌≡◌, refl, sym, ap, ◌∙◌}
+use mathlib.Core.Path.{◌≡◌, refl, ap, ◌∙◌}
 use mathlib.Core.Bool.{Bool, true, false, not, cond}
 use mathlib.Core.List.{List, [], ◌∷◌}
 use Prim.Native.Nat.{ℕ, zero, suc, ◌+◌, ◌-◌, ◌*◌, ◌^◌, ◌≤◌, ◌<◌}
-use native.Mathlib.Nat.{add-zero, mul-suc}
-use native.Mathlib.Numerals.{add-one}
+use native.Mathlib.Nat.{mul-suc}
 use native.Mathlib.Omega.{arith}
-use lib.Dec.{ltb, leb, eqb}
-use lib.ListN.{length, get_or, take, drop, drop_of_length-le}
-use lib.Seq.{drop-cons}
+use lib.Dec.{ltb}
+use lib.ListN.{length, get_or, take, drop}
 use borrow.Author.Tests.{lt-ltb, le-ltb, le-leb, lt-leb, eq-eqb, ne_eqb, ltb-true, ltb-false}
-use Rattle.seqs.specs.Lists.{first_index, fold}
+use Rattle.seqs.specs.Lists.{fold}
 use Rattle.table_lines.specs.Decimal.{value_after}
 use Rattle.text_pages.proofs.Places.{rest-cons, rest-nil}
 use Rattle.request_texts.specs.declared.Value.{Value}
-use Rattle.request_texts.specs.Texts.{said, good_value, malformed_value, too_large, within, letter, not_name, named, packed_name, is_digit, leading, suffix, factor, number_text}
+use Rattle.request_texts.specs.Texts.{good_value, malformed_value, too_large, within, letter, not_name, named, is_digit, leading, suffix, factor, number_text}
 
 -- ---- a loop over a whole list
 module _ {S : Type 0} (f : S → ℕ → S) (s : S) (xs : List ℕ) (i : ℕ) where
