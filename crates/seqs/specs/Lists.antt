@@ -1,6 +1,6 @@
 -- Lists over any element: the first that passes a test, a part replaced, an array of 64 with a count, loops.
 -- Assumes nothing.
-use Rattle.std.specs.Prelude.{Bool, true, false, cond, List, [], ◌∷◌, ◌++◌, ℕ, zero, suc, ◌+◌, ◌-◌, ltb, length, take, drop, set, replicate}
+use Rattle.std.specs.Prelude.{Bool, cond, List, [], ◌∷◌, ◌++◌, ℕ, zero, suc, ◌+◌, ◌-◌, ltb, length, take, drop, set, replicate}
 
 -- the index of the first element that passes the test, or the count where none does
 unfoldable pub first_index : {A : Type 0} → (A → Bool) → List A → ℕ
