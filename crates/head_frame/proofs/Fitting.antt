@@ -1,27 +1,24 @@
 -- Every plan of the planner has a frame that is fine, and short lists.
 -- Assumes nothing.
-use mathlib.Core.Path.{◌≡◌, refl, ap, sym, subst, ◌∙◌}
+use mathlib.Core.Path.{◌≡◌, refl, sym, ◌∙◌}
 use mathlib.Core.Bool.{Bool, true, false, ◌||◌, cond}
 use mathlib.Core.Logic.{⊎_elim}
 use mathlib.Core.List.{List, [], ◌∷◌, ◌++◌}
-use Prim.Native.Nat.{ℕ, zero, suc, ◌+◌, ◌*◌, ◌-◌, ◌/◌, ◌^◌, ◌≤◌, ◌<◌}
+use Prim.Native.Nat.{ℕ, zero, suc, ◌+◌, ◌*◌, ◌^◌, ◌≤◌, ◌<◌}
 use native.Mathlib.Nat.{pow-le-pow_right, mul-le-mul}
 use native.Mathlib.Omega.{arith}
-use lib.Dec.{T, eqb, ltb, lit<}
+use lib.Dec.{eqb, lit<}
 use lib.ListN.{length, length-append}
 use borrow.Author.Tests.{eq-eqb}
 use Rattle.refusals.specs.Numbers.{no_answer}
 use Rattle.seqs.proofs.Laws.{choose-elim, lt-or-le}
 use Rattle.geometry.specs.declared.Geometry.{Geometry}
 use Rattle.geometry.specs.Log.{header_of}
-use Rattle.geometry_answers.specs.Named.{is_answer}
 use Rattle.geometry_layout.specs.Bounds.{Bounds}
-use Rattle.geometry_layout.specs.Places.{group_blocks}
 use Rattle.geometry_layout.proofs.Bounding.{answer-bounds}
 use Rattle.geometry_layout.proofs.Ceil.{counted}
 use Rattle.geometry_layout.proofs.Inside.{blocks-least, inodes-most}
 use Rattle.geometry_places.proofs.Room.{room_at}
-use Rattle.geometry_places.specs.Answers.{group_refusal}
 use Rattle.plan_site.specs.declared.Site.{Site}
 use Rattle.plan_site.specs.Sites.{site_of, SoundSite}
 use Rattle.plan_site.proofs.Sites.{site-sound}
@@ -31,8 +28,7 @@ use Rattle.params.specs.declared.OptU64.{OptU64}
 use Rattle.params.specs.declared.OptU64.TheVariants.{Absent, Given}
 use Rattle.btree.specs.declared.records.RmapRec.{RmapRec}
 use Rattle.plan.specs.Plan.{own_ag, own_log, own_inodes, own_refc, map_rec, refc_map, log_map, planned}
-use Rattle.plan_closed.specs.Closed.{has_root_chunk, is_joined, list_at, head_mappings, list_parts, chunk_mapping, closed_list, closed_rmap, closed_ag_plan}
-use Rattle.plan_totals.specs.Totals.{freeblks_of, longest_of}
+use Rattle.plan_closed.specs.Closed.{has_root_chunk, is_joined, list_at, head_mappings, list_parts, chunk_mapping, closed_rmap}
 use Rattle.plan_totals.proofs.Rows.{list-is}
 use Rattle.plan_same.specs.Same.{is_plan}
 use Rattle.plan_summary.proofs.Narrow.{free-few, free-least, longest-least, plan-answer, plan-closed}
