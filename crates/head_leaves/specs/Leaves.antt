@@ -1,6 +1,6 @@
 -- Leaf blocks that hold a list of records.
 -- Assumes nothing.
-use Rattle.std.specs.Prelude.{List, [], ◌∷◌, ℕ, ◌*◌, ◌-◌, ◌^◌, leb, replicate}
+use Rattle.std.specs.Prelude.{List, ℕ, ◌*◌, ◌-◌, ◌^◌, leb, replicate}
 use Rattle.refusals.specs.Numbers.{wrong_length, too_many_records}
 use Rattle.structs.specs.Sizes.{is_block}
 use Rattle.structs.specs.Written.{require}
