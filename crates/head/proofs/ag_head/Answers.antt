@@ -1,0 +1,32 @@
+-- `head::ag_head` meets its contract.
+-- Assumes nothing.
+use Rattle.head_bytes.proofs.Ready.{head-refused, plan-numbered}
+use Rattle.head_frame.proofs.Fitting.{framed-plan, framed-frame}
+use Rattle.head_frame.specs.declared.Framed.{Framed}
+use Rattle.plan_same.specs.Same.{is_plan}
+use borrow.Author.Tests.{ne_eqb}
+use Rattle.structs.proofs.Encoded.{not-encoded}
+use lib.ListN.{length}
+use mathlib.Core.Bool.{true}
+use mathlib.Core.Path.{◌≡◌, sym, ap, ◌∙◌}
+use Rattle.head.proofs.ag_head.Goals as goal
+
+pub returns-then-number-ne0 : goal.returns-then-number-ne0
+returns-then-number-ne0 c = let a = c.args in
+    let e = ap (λ (x : Framed). x.number) c.frame_of-framed.ensures in
+    not-encoded (head-refused a.g a.plan (length a.buf.now) (λ z. c.if-number-ne0.true (e ∙ z)) ∙ sym e) (ne_eqb _ 0 c.if-number-ne0.true)
+
+pub refill_whole-requires : goal.refill_whole-requires
+refill_whole-requires c =
+    let planner's : is_plan c.args.g c.args.plan ≡ true = let a = c.args in
+    framed-plan a.g a.plan (sym (ap (λ (x : Framed). x.number) c.frame_of-framed.ensures) ∙ c.if-number-ne0.false) in
+    let a = c.args in
+    let h = planner's in
+    (h, ap (λ (x : Framed). x.frame) c.frame_of-framed.ensures ∙ framed-frame a.g a.plan h)
+
+pub returns : goal.returns
+returns c =
+    let planner's : is_plan c.args.g c.args.plan ≡ true = let a = c.args in
+    framed-plan a.g a.plan (sym (ap (λ (x : Framed). x.number) c.frame_of-framed.ensures) ∙ c.if-number-ne0.false) in
+    let a = c.args in
+    rw (plan-numbered a.g a.plan (length a.buf.now) planner's) c.refill_whole.ensures

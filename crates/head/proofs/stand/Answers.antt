@@ -1,0 +1,9 @@
+-- `head::stand` meets its contract.
+-- Assumes nothing.
+use mathlib.Core.Path.{sym}
+use lib.Seq.{length-take-le}
+use native.Mathlib.Omega.{arith}
+use Rattle.head.proofs.stand.Goals as goal
+
+pub slice_bounds-same_sums-end : goal.slice_bounds-same_sums-end
+slice_bounds-same_sums-end c = sym (length-take-le c.args.p.len c.args.p.at (omega (arith, c.requires.0, c.requires.1)))
