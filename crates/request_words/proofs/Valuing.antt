@@ -1,19 +1,19 @@
 -- Laws of the values behind `=`: each branch of a test, and each turn of a loop.
 -- Assumes nothing.
-use mathlib.Core.Path.{◌≡◌, refl, sym, ap, ◌∙◌}
-use mathlib.Core.Bool.{Bool, true, false, ◌&&◌}
-use mathlib.Core.List.{List, [], ◌∷◌}
+use mathlib.Core.Path.{◌≡◌, sym}
+use mathlib.Core.Bool.{true, false}
+use mathlib.Core.List.{List}
 use Prim.Native.Nat.{ℕ, zero, suc, ◌+◌, ◌-◌, ◌/◌, ◌%◌, ◌≤◌, ◌<◌}
 use native.Mathlib.Numerals.{add-one}
 use native.Mathlib.Omega.{arith}
-use lib.Dec.{ltb, leb, eqb}
+use lib.Dec.{ltb, eqb}
 use lib.ListN.{length, get_or, drop, get_or-eq_default}
 use borrow.Author.Tests.{lt-ltb, le-ltb, le-leb, lt-leb, eq-eqb, ne_eqb}
 use Rattle.arith.specs.Choice.{when}
 use Rattle.request_texts.specs.declared.Value.{Value}
 use Rattle.request_words.specs.declared.Names.{Names}
 use Rattle.request_texts.specs.Texts.{good_value, malformed_value, too_large, named, packed_name, number_text}
-use Rattle.request_words.specs.Values.{label_key, features_key, sizing_key, profile_key, uuid_key, no_key, index_in, names, largest_values, feature_names, weights, no_feature_list, turned, features_read, last_feature, next_byte, feature_mask, none_name, all_name, features_text, sizings, sizing_in, station_name, profile_in, hex, is_dash, fits_at, shaped, uuid_in, value_in, limited}
+use Rattle.request_words.specs.Values.{label_key, features_key, sizing_key, profile_key, uuid_key, no_key, index_in, largest_values, weights, no_feature_list, turned, features_read, last_feature, next_byte, feature_mask, none_name, all_name, features_text, sizings, sizing_in, station_name, profile_in, hex, is_dash, fits_at, shaped, uuid_in, value_in, limited}
 use Rattle.text_pages.proofs.Places.{rest-cons, rest-nil}
 
 -- ---- tables

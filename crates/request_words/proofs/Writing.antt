@@ -15,18 +15,17 @@ use Rattle.seqs.specs.Lists.{first_index}
 use Rattle.seqs.proofs.Laws.{choose-elim, index-le}
 use Rattle.endian.specs.Bytes.{be_bytes, patch}
 use Rattle.endian.specs.Fields.{part, byte_run, write_fields, table}
-use Rattle.endian.proofs.Laws.{patch-append, length-be, length-patch}
+use Rattle.endian.proofs.Laws.{patch-append, length-patch}
 use Rattle.endian.proofs.Order.{trade}
 use Rattle.request.specs.Cases.{dv, op, lb, id}
 use Rattle.request_texts.specs.declared.Value.{Value}
 use Rattle.request_words.specs.declared.Word.{Word}
 use Rattle.request_words.specs.declared.Verdict.{Verdict}
-use Rattle.request_words.specs.declared.Made.{Made}
 use Rattle.request_texts.specs.Texts.{packed_name}
 use Rattle.text_pages.specs.Pages.{place_of_byte}
 use Rattle.request_words.specs.Values.{size_key, logical_key, physical_key, uuid_key, no_key, codes, index_in, names, largest_values, value_in, limited}
 use Rattle.request_words.specs.Words.{no_word, meant, word_by, word_at, word_then, split_words, words_from, word_with, given, words_verdict}
-use Rattle.request_words.specs.Asked.{digits_at, pair_at, pairs, device_record, option_record, option_records, label_word_text, label_record, uuid_record, words_records, words_request, longest, made_as, Puts, Makes}
+use Rattle.request_words.specs.Asked.{digits_at, pair_at, pairs, device_record, option_record, option_records, label_record, uuid_record, words_request, longest, made_as, Puts, Makes}
 
 -- ---- bytes written behind others
 or_right : (a b : Bool) → b ≡ true → T (a || b)

@@ -1,13 +1,13 @@
 -- The input records that words ask for: the device, the options by their codes, the label, the UUID.
 -- Assumes nothing.
-use Rattle.std.specs.Prelude.{List, [], ◌∷◌, ◌++◌, Bool, ◌&&◌, cond, ◌≡◌, ℕ, zero, suc, ◌+◌, ◌-◌, ◌*◌, ◌%◌, ◌≤◌, min, ltb, leb, eqb, length, get_or}
+use Rattle.std.specs.Prelude.{List, [], ◌∷◌, ◌++◌, cond, ◌≡◌, ℕ, zero, suc, ◌+◌, ◌-◌, ◌*◌, ◌%◌, ◌≤◌, min, ltb, leb, eqb, length, get_or}
 use Rattle.refusals.specs.Numbers.{wrong_length}
 use Rattle.arith.specs.Choice.{when}
 use Rattle.endian.specs.Bytes.{patch}
 use Rattle.endian.specs.Fields.{part}
 use Rattle.request.specs.Cases.{dv, op, lb, id}
 use Rattle.request_words.specs.Values.{label_key, size_key, logical_key, physical_key, uuid_key, codes, hex}
-use Rattle.request_words.specs.Words.{word_with, given, words_from, words_verdict, verdict}
+use Rattle.request_words.specs.Words.{word_with, given, words_from, words_verdict}
 use Rattle.request_words.specs.declared.Word.{Word}
 use Rattle.request_words.specs.declared.Made.{Made}
 use Rattle.request_words.specs.declared.Verdict.{Verdict}

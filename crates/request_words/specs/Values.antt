@@ -1,6 +1,6 @@
 -- What the text behind `=` gives, by the word's key.
 -- Assumes nothing.
-use Rattle.std.specs.Prelude.{List, [], ◌∷◌, Bool, true, ◌&&◌, ◌||◌, cond, ℕ, suc, ◌+◌, ◌-◌, ◌*◌, ◌/◌, ◌%◌, ◌^◌, leb, ltb, eqb, length, get_or}
+use Rattle.std.specs.Prelude.{List, [], ◌∷◌, Bool, true, ◌&&◌, ◌||◌, cond, ℕ, suc, ◌+◌, ◌-◌, ◌/◌, ◌%◌, ◌^◌, leb, ltb, eqb, length, get_or}
 use Rattle.arith.specs.Choice.{when}
 use Rattle.seqs.specs.Lists.{first_index, fold}
 use Rattle.request_texts.specs.Texts.{good_value, malformed_value, too_large, named, packed_name, number_text}
