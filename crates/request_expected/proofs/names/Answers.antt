@@ -3,12 +3,8 @@
 use mathlib.Core.Path.{refl}
 use Rattle.text_pages.specs.Pages.{ascii_bytes, page}
 use Rattle.request_expected.specs.Expected.{rows, keys_named, name_lines}
-use Rattle.request_expected.proofs.names.Statement.{statement}
-use Rattle.request_expected.proofs.names.Tie as tie
+use Rattle.request_expected.proofs.names.Goals as goal
 
-returns : tie.Need-returns
+pub returns : goal.returns
 unfolding name_lines keys_named rows page ascii_bytes
 returns c = refl
-
-pub names-spec : {M : Type 1} → statement M
-names-spec = tie.close (tie.spec returns)
