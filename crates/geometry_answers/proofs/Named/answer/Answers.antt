@@ -1,7 +1,7 @@
 -- `geometry_answers::Named::answer` meets its contract: where the bytes fit, the options that are named are computed.
 -- Assumes nothing.
 use mathlib.Core.Path.{◌∙◌, sym}
-use borrow.Author.Tests.{not-true, not-false, ltb-true}
+use borrow.Author.Tests.{ltb-true}
 use Rattle.arith.proofs.Both.{left-true, right-true}
 use Rattle.geometry_answers.specs.Named.{named_on, named_fits, named_answer}
 use Rattle.geometry_answers.proofs.Named.answer.Goals as goal
@@ -13,7 +13,7 @@ returns-then-not-both c = rw (
   ← c.product_fits-blocks_fit.ensures,
   ← c.product_fits-group_fits.ensures,
   ← c.both.ensures,
-  not-true c.both.result c.if-not-both.true-raw,
+  c.if-not-both.true,
 )
 
 pub options-requires : goal.options-requires
@@ -35,5 +35,5 @@ returns c = rw (
   ← c.product_fits-blocks_fit.ensures,
   ← c.product_fits-group_fits.ensures,
   ← c.both.ensures,
-  not-false c.both.result c.if-not-both.false-raw,
+  c.if-not-both.false,
 )
