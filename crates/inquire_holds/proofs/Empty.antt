@@ -4,7 +4,6 @@ use mathlib.Core.Path.{◌≡◌, refl}
 use mathlib.Core.List.{[]}
 use Prim.Native.Nat.{ℕ}
 use Rattle.refusals.specs.Numbers.{malformed}
-use Rattle.run.specs.Runs.{or_next}
 use Rattle.run.proofs.Accepted.{empty-malformed}
 use Rattle.inquire_holds.specs.Calls.{opened_of, holds_opened}
 
