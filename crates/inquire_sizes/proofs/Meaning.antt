@@ -12,7 +12,6 @@ use Rattle.arith.specs.Choice.{when}
 use Rattle.refusals.specs.Table.{first}
 use Rattle.params.specs.declared.Params.{Params}
 use Rattle.geometry.specs.Sizes.{sizes_refusals}
-use Rattle.geometry.specs.declared.Computed.{Computed}
 use Rattle.geometry.specs.Groups.{options_refusals, groups_refusals}
 use Rattle.geometry.specs.Log.{last_refusals}
 use Rattle.geometry.specs.Compute.{compute_def}

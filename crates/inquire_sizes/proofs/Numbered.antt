@@ -37,9 +37,7 @@ use Rattle.plan_totals.specs.Totals.{plans_number, const_number}
 use Rattle.plan_totals.proofs.Whole.{plans-number}
 use Rattle.plan_summary.proofs.Laws.{short-after, has-log}
 use Rattle.run.specs.Runs.{or_next}
-use Rattle.inquire_sizes.specs.declared.step.Limits.{Limits}
 use Rattle.inquire_sizes.specs.declared.step.Fixed.{Fixed}
-use Rattle.inquire_sizes.specs.declared.step.At.{At}
 use Rattle.inquire_sizes.specs.Ranges.{size_number, block_bytes, blocks_number, options_number}
 use Rattle.inquire_sizes.specs.Step.{in_blocks, limits_of, early_number, late_number, fixed_with, fixed_of, default_group_size, groups_with, groups_at, log_at, at_with, at_of, size_refusals, group_refusals, disk_refusals, number_with, number_at}
 use Rattle.inquire_sizes.proofs.Tables.{first-append, next-first}

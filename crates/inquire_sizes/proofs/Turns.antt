@@ -6,7 +6,6 @@ use Prim.Native.Nat.{ℕ, ◌+◌, ◌-◌, ◌≤◌, ◌<◌}
 use native.Mathlib.Omega.{arith}
 use borrow.Author.Tests.{lt-ltb, le-ltb, ltb-false, eq-eqb, ne_eqb}
 use lib.Dec.{ltb, eqb}
-use Rattle.inquire_sizes.specs.declared.Range.{Range}
 use Rattle.inquire_sizes.specs.First.{first_from}
 use Rattle.inquire_sizes.specs.Ranges.{smallest_refused, all_formatted, refused_size, range_of}
 use Rattle.inquire_sizes.proofs.First.{first-here, first-later, first_past, first-within, first_alike}

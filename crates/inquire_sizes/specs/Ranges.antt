@@ -5,12 +5,9 @@ use Rattle.arith.specs.Choice.{when}
 use Rattle.refusals.specs.Numbers.{inobtcount_alone, bad_range}
 use Rattle.refusals.specs.Table.{◌if◌, first}
 use Rattle.params.specs.declared.Params.{Params}
-use Rattle.geometry.specs.declared.sizes.Sizes.{Sizes}
 use Rattle.geometry.specs.Sizes.{block_of, sizes_of, sizes_refusals}
-use Rattle.geometry.specs.declared.Computed.{Computed}
 use Rattle.geometry.specs.Compute.{compute_def}
 use Rattle.plan_totals.specs.Totals.{plans_number}
-use Rattle.request.specs.declared.Request.{Request}
 use Rattle.request.specs.Parse.{parse_def}
 use Rattle.run.specs.Runs.{or_next}
 use Rattle.inquire_sizes.specs.declared.Range.{Range}

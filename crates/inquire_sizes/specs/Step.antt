@@ -11,7 +11,6 @@ use Rattle.params.specs.declared.OptU64.TheVariants.{Absent, Given}
 use Rattle.params.specs.declared.OptU8.{OptU8}
 use Rattle.params.specs.declared.Params.{Params}
 use Rattle.params.specs.Options.{or64, given64}
-use Rattle.geometry.specs.declared.sizes.Sizes.{Sizes}
 use Rattle.geometry.specs.Sizes.{sizes_of}
 use Rattle.geometry.specs.declared.groups.Groups.{Groups}
 use Rattle.geometry.specs.Limits.{min_group, max_group, max_groups, large_bytes, four_group_bytes, two_group_bytes, min_bytes, min_groups, realistic_log_bytes, max_log_bytes, max_log_blocks, log_ratio, max_imaxpct, label_room}
