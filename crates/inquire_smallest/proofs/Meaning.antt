@@ -13,7 +13,6 @@ use Rattle.arith.proofs.Both.{left-true, right-true}
 use Rattle.seqs.proofs.Laws.{lt-or-le}
 use Rattle.params.specs.declared.Params.{Params}
 use Rattle.params.specs.Params.{with_agcount, with_agsize}
-use Rattle.geometry.specs.declared.Computed.{Computed}
 use Rattle.geometry.specs.Compute.{compute_def}
 use Rattle.plan_totals.specs.Totals.{plans_number}
 use Rattle.run.proofs.Accepted.{none}

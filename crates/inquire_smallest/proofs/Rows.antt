@@ -11,7 +11,6 @@ use Rattle.refusals.specs.Numbers.{none_reaches}
 use Rattle.params.specs.declared.Params.{Params}
 use Rattle.inquire_sizes.specs.First.{first_from}
 use Rattle.inquire_sizes.proofs.First.{first-here, first-later, first_past}
-use Rattle.inquire_smallest.specs.declared.Found.{Found}
 use Rattle.inquire_smallest.specs.Question.{reaches, size_tried, first_reaching, smallest_call_refused, found_in, no_sizes}
 
 -- the test of a size by its index

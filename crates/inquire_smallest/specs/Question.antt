@@ -6,12 +6,9 @@ use Rattle.refusals.specs.Numbers.{none_reaches, bad_sizes}
 use Rattle.params.specs.declared.OptU64.TheVariants.{Absent}
 use Rattle.params.specs.declared.Params.{Params}
 use Rattle.params.specs.Params.{options}
-use Rattle.geometry.specs.declared.Computed.{Computed}
 use Rattle.geometry.specs.Limits.{mib}
 use Rattle.geometry.specs.Compute.{compute_def}
-use Rattle.sb.specs.declared.SbState.{SbState}
 use Rattle.sb_states.specs.States.{finished_state}
-use Rattle.request.specs.declared.Request.{Request}
 use Rattle.request.specs.Parse.{parse_def}
 use Rattle.request.specs.Defaults.{uuid_of}
 use Rattle.run.specs.Runs.{or_next}

@@ -1,0 +1,14 @@
+-- `inquire_smallest::smallest_of` meets its contract: 28 first.
+-- Assumes nothing.
+use mathlib.Core.Path.{◌∙◌}
+use borrow.Author.Tests.{eq-eqb, ne_eqb}
+use Rattle.inquire_smallest.specs.Question.{smallest_asked}
+use Rattle.inquire_smallest.proofs.smallest_of.Goals as goal
+
+pub returns-then-number-ne0 : goal.returns-then-number-ne0
+unfolding smallest_asked
+returns-then-number-ne0 c = c.refused.ensures ∙ rw (← c.parse-q.ensures, ne_eqb _ 0 c.if-number-ne0.true)
+
+pub returns : goal.returns
+unfolding smallest_asked
+returns c = c.smallest.ensures ∙ rw (← c.parse-q.ensures, eq-eqb _ 0 c.if-number-ne0.false)
