@@ -3,10 +3,10 @@
 use mathlib.Core.Path.{◌≡◌, refl, sym, ap, ap₂, ◌∙◌}
 use mathlib.Core.Bool.{Bool, true, false, cond}
 use mathlib.Core.List.{List, [], ◌∷◌, map}
-use Prim.Native.Nat.{ℕ, suc, ◌+◌, ◌-◌, ◌<◌, ◌≤◌}
+use Prim.Native.Nat.{ℕ, suc, ◌-◌, ◌<◌, ◌≤◌}
 use native.Mathlib.Omega.{arith}
 use borrow.Author.Tests.{eq-eqb, ne_eqb, lt-ltb, le-ltb}
-use lib.Dec.{ltb, eqb}
+use lib.Dec.{ltb}
 use lib.ListN.{length}
 use Rattle.refusals.specs.Numbers.{too_many_disks}
 use Rattle.arith.specs.Choice.{when}
@@ -14,7 +14,7 @@ use Rattle.list_size.specs.declared.ListSize.{ListSize}
 use Rattle.list_size.specs.Sizes.{no_size, input_size}
 use Rattle.list_cabinet.specs.declared.Cabinet.{Cabinet as State}
 use Rattle.list_cabinet.specs.declared.Entered.{Entered as Answer}
-use Rattle.list_cabinet.specs.Cabinet.{answer_with, taken_by, answers, left_after, most_disks, Sharing, not_shared, shared_by, shared}
+use Rattle.list_cabinet.specs.Cabinet.{answer_with, taken_by, answers, left_after, most_disks, not_shared, shared_by, shared}
 use Rattle.list_cabinet.specs.Entering.{cabinet_opened, cabinet_number, answering, entered_by, entered, entered_all, closed_at, InOrder}
 
 -- ---- one disk, by the code's steps

@@ -7,7 +7,7 @@ use Rattle.list_size.specs.declared.ListSize.{ListSize}
 use Rattle.list_size.specs.Sizes.{no_size, input_size}
 use Rattle.list_cabinet.specs.declared.Cabinet.{Cabinet as State}
 use Rattle.list_cabinet.specs.declared.Entered.{Entered as Answer}
-use Rattle.list_cabinet.specs.Cabinet.{answer_with, taken_by, most_disks, Sharing, shared}
+use Rattle.list_cabinet.specs.Cabinet.{answer_with, taken_by, most_disks, shared}
 
 -- before the first disk: 41 where more than 16 are announced
 abbrev pub cabinet_opened : ℕ → ℕ → State
