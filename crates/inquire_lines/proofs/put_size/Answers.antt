@@ -1,0 +1,26 @@
+-- `inquire_lines::put_size` meets its contract.
+-- Assumes nothing.
+use mathlib.Core.Path.{sym, ◌∙◌}
+use mathlib.Core.Bool.{false}
+use Prim.Native.Nat.{◌+◌}
+use native.Mathlib.Omega.{arith}
+use lib.ListN.{length}
+use borrow.Author.Tests.{leb-true}
+use Rattle.inquire_lines.specs.Items.{item_bytes, pair_bytes, records_word, bytes_word, payload_word, size_bytes}
+use Rattle.inquire_lines.proofs.Items.{put-there, first_short, second_short, both-put}
+use Rattle.inquire_lines.proofs.put_size.Goals as goal
+
+pub overflow_add-at : goal.overflow_add-at
+overflow_add-at c = let a = c.args in let h = leb-true (a.at + c.item_length-n.result) (length a.buf.now) (sym c.inside.ensures ∙ c.if-inside.true) in omega arith
+
+pub returns-then-w-ne0 : goal.returns-then-w-ne0
+unfolding size_bytes
+returns-then-w-ne0 c = let a = c.args in second_short a.at c.item_length-n.result (item_bytes records_word a.s.records false) (pair_bytes bytes_word a.s.bytes payload_word a.s.payload) a.buf.now c.item_length-n.ensures c.put_pair-w.ensures c.if-w-ne0.true
+
+pub returns-then-inside : goal.returns-then-inside
+unfolding size_bytes
+returns-then-inside c = let a = c.args in let e = c.item_length-n.ensures in let h = leb-true (a.at + c.item_length-n.result) (length a.buf.now) (sym c.inside.ensures ∙ c.if-inside.true) in both-put a.at c.item_length-n.result (item_bytes records_word a.s.records false) (pair_bytes bytes_word a.s.bytes payload_word a.s.payload) a.buf.now e c.put_pair-w.ensures c.if-w-ne0.false (put-there c.put_item.ensures (omega (arith, e)))
+
+pub returns : goal.returns
+unfolding size_bytes
+returns c = let a = c.args in first_short a.at c.item_length-n.result (item_bytes records_word a.s.records false) (pair_bytes bytes_word a.s.bytes payload_word a.s.payload) a.buf.now c.item_length-n.ensures (sym c.inside.ensures ∙ c.if-inside.false) c.refused.ensures.0 c.refused.ensures.1
