@@ -11,6 +11,7 @@ use borrow.Author.Tests.{ne_eqb}
 use mathlib.Core.Path.{◌≡◌, sym, ap, ◌∙◌}
 use Rattle.head_frame.proofs.frame_at.Goals as goal
 
+-- number_is and plan-is: what the totals say of the planner's answer
 pub returns-then-number-ne0 : goal.returns-then-number-ne0
 unfolding framed_at
 returns-then-number-ne0 c =
