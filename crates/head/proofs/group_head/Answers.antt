@@ -13,6 +13,7 @@ use lib.ListN.{length}
 use mathlib.Core.Path.{◌≡◌, sym, ap, ◌∙◌}
 use Rattle.head.proofs.group_head.Goals as goal
 
+-- number_is and plan-is: what the frame says of the planner's answer
 pub returns-then-number-ne0 : goal.returns-then-number-ne0
 returns-then-number-ne0 c =
     let number_is : c.frame_at-framed.result.number ≡ (planned c.args.g c.args.agno).number = ap (λ (x : FramedPlan). x.number) c.frame_at-framed.ensures ∙ framed-at-number c.args.g c.args.agno in
