@@ -1,14 +1,16 @@
-// Reads bytes from a file descriptor into a lent buffer until it is full or the input ends: the input loop of the programs.
+// Reads bytes into a lent buffer until it is full or the input ends: the input loop of the programs.
 #![tactic(auto)]
 
-ghost use Rattle.std.specs.Prelude.{◌≡◌, ◌≤◌, ltb, length};
+ghost use Rattle.std.specs.Prelude.{◌≡◌, ◌≤◌, nat_lt, length};
 ghost use Rattle.io.specs.Counts.{IsPrefixLen};
 
-// How many bytes were read, and whether the last read failed.
+use std::io::{Error, Read};
+
+// How many bytes were read, and why the last read failed, if it did.
 #[derive(Drop)]
 pub struct Input {
     pub n: usize,
-    pub failed: bool,
+    pub failed: Option<Error>,
 }
 
 // The same, and whether there may be more.
@@ -16,35 +18,40 @@ pub struct Input {
 struct Reading {
     n: usize,
     more: bool,
-    failed: bool,
+    failed: Option<Error>,
 }
 
 // Reads once, behind the first `n` bytes.
-fn read_more(fd: i32, n: usize, buf: &mut [u8]) -> Reading
+fn read_more<R: Read>(input: &mut R, n: usize, buf: &mut [u8]) -> Reading
     requires { n ≤ length buf.old }
-    ensures { (n ≤ result.n) × (result.n ≤ length buf.new) × (result.more ≡ ltb n result.n) }
+    ensures { (n ≤ result.n) × (result.n ≤ length buf.new) × (result.more ≡ nat_lt n result.n) }
 {
     let rest = &mut buf[n..];
-    let got = libc::read(fd, rest);
-    let read = io::count(got, rest);
-    Reading {
-        n: n + read,
-        more: n < n + read,
-        failed: got < 0,
+    match input.read(rest) {
+        Ok(read) => Reading {
+            n: n + read,
+            more: n < n + read,
+            failed: None,
+        },
+        Err(error) => Reading {
+            n,
+            more: false,
+            failed: Some(error),
+        },
     }
 }
 
 // Fills the buffer from its start as far as the input goes. Every turn but the last reads a byte at least.
-pub fn read_input(fd: i32, buf: &mut [u8]) -> Input
+pub fn read_input<R: Read>(input: &mut R, buf: &mut [u8]) -> Input
     ensures { IsPrefixLen result.n buf.new }
 {
     let mut i = Reading {
         n: 0,
         more: true,
-        failed: false,
+        failed: None,
     };
     while i.more && i.n < buf.len() {
-        i = read_more(fd, i.n, buf);
+        i = read_more(input, i.n, buf);
     }
     Input {
         n: i.n,
