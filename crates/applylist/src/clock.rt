@@ -3,7 +3,7 @@ use device_sizes::bytes_to;
 use libc::STDERR_FILENO;
 
 // Whether lines are shown, whether one was, and the second of the start or of the last one.
-#[derive(Drop)]
+#[derive(Clone, Copy)]
 pub(crate) struct Clock {
     terminal: bool,
     shown: bool,

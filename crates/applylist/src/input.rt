@@ -6,7 +6,7 @@ use libc::STDIN_FILENO;
 
 // How many bytes were read, whether there may be more, and whether a read failed.
 // `used` counts the bytes that were read ahead and are taken.
-#[derive(Drop)]
+#[derive(Clone, Copy)]
 pub(crate) struct Input {
     pub(crate) n: usize,
     pub(crate) more: bool,

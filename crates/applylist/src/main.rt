@@ -43,7 +43,7 @@ pub(crate) const FLUSH_FAILED: u8 = 4;
 
 // The list so far, which call failed, the record in hand or at which it failed, whether the list goes on, how many of the bytes that were
 // read ahead are used, and, behind zeros in a hole of the file, where that hole ends.
-#[derive(Drop)]
+#[derive(Clone, Copy)]
 struct Progress {
     applying: Applying,
     failed: u8,

@@ -18,14 +18,14 @@ const ENXIO: i32 = 6;
 
 // What became of a piece: it is done, or the call that failed. Where it was zeros in a hole of the file, `until` is where that hole ends;
 // else 0.
-#[derive(Drop)]
+#[derive(Clone, Copy)]
 pub(crate) struct Piece {
     pub(crate) failed: u8,
     pub(crate) until: u64,
 }
 
 // How many bytes one write took, and why it stopped where that is none.
-#[derive(Drop)]
+#[derive(Clone, Copy)]
 struct Put {
     n: usize,
     stop: u8,

@@ -12,7 +12,7 @@ use libc::{SEEK_END, SEEK_SET};
 use request_texts::{decimal, leading};
 
 // Size and sectors in bytes; `failed` is 0, or says what can't be read.
-#[derive(Drop)]
+#[derive(Clone, Copy)]
 pub struct Sizes {
     pub failed: u8,
     pub size: u64,

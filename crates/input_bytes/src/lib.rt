@@ -7,14 +7,14 @@ ghost use Rattle.io.specs.Counts.{IsPrefixLen};
 use std::io::{Error, Read};
 
 // How many bytes were read, and why the last read failed, if it did.
-#[derive(Drop)]
+#[derive(Clone, Copy)]
 pub struct Input {
     pub n: usize,
     pub failed: Option<Error>,
 }
 
 // The same, and whether there may be more.
-#[derive(Drop)]
+#[derive(Clone, Copy)]
 struct Reading {
     n: usize,
     more: bool,

@@ -27,7 +27,7 @@ fn area() -> Value {
 }
 
 // The cabinet so far, where the lines of its disks end, and whether a file couldn't be read.
-#[derive(Drop)]
+#[derive(Clone, Copy)]
 struct Filled {
     cabinet: Cabinet,
     end: usize,

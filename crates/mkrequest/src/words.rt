@@ -7,7 +7,7 @@ use table_lines::{Written, put_number};
 use text_pages::put_text;
 
 // The bytes of the words so far, which argument is `device=` (0: none so far), and whether a word was refused; which one is said then.
-#[derive(Drop)]
+#[derive(Clone, Copy)]
 pub(crate) struct Taken {
     pub(crate) n: usize,
     pub(crate) device: usize,

@@ -1,28 +1,30 @@
-// Prints a table to a file descriptor: part by part, each filled into a lent buffer and written.
+// Prints a table to a writer: part by part, each filled into a lent buffer and written.
 #![tactic(auto)]
 
 ghost use Rattle.std.specs.Prelude.{◌≡◌, true, length};
 ghost use Rattle.plan_table.specs.Filling.{table_behind, table_filled, Printing};
 
 use plan_table::{Table, fill};
+use std::io::{Error, Result, Write};
 
-// The table behind the parts that were filled, and whether each of them was written.
-#[derive(Drop)]
+// The table behind the parts that were filled, whether each of them was written, and why the last one was not, where the writer said so.
+#[derive(Clone, Copy)]
 pub struct Printed {
     pub table: Table,
     pub written: bool,
+    pub error: Option<Error>,
 }
 
 // Writes the first `end` bytes.
-fn flush(fd: i32, buf: &[u8], end: usize) -> bool {
+fn flush<W: Write>(out: &mut W, buf: &[u8], end: usize) -> Result<()> {
     if end <= buf.len() {
-        return io::write_all(fd, &buf[..end]);
+        return out.write_all(&buf[..end]);
     }
-    false
+    Err(Error::other("the lines end behind their buffer"))
 }
 
 // Fills the next part and writes it.
-fn turn(fd: i32, t: Table, buf: &mut [u8]) -> Printed
+fn turn<W: Write>(out: &mut W, t: Table, buf: &mut [u8]) -> Printed
     ensures table_value { result.table ≡ table_behind t (length buf.old) }
     ensures buf_value { result.written ≡ true → (table_filled t (length buf.old)).number ≡ 0 }
 {
@@ -32,22 +34,28 @@ fn turn(fd: i32, t: Table, buf: &mut [u8]) -> Printed
         return Printed {
             table,
             written: false,
+            error: None,
         };
     }
-    let written = flush(fd, buf, f.end);
-    Printed { table, written }
+    let flushed = flush(out, buf, f.end);
+    Printed {
+        table,
+        written: flushed.is_ok(),
+        error: flushed.err(),
+    }
 }
 
 // Fills and writes part after part until no line is left. It stops where a write fails, and where not even one line fits the buffer.
-pub fn print(fd: i32, t: Table, buf: &mut [u8]) -> Printed
+pub fn print<W: Write>(out: &mut W, t: Table, buf: &mut [u8]) -> Printed
     ensures { Printing (length buf.old) t result.table result.written }
 {
     let mut p = Printed {
         table: t,
         written: true,
+        error: None,
     };
     while p.written && 0 < p.table.left {
-        p = turn(fd, p.table, buf);
+        p = turn(out, p.table, buf);
     }
     p
 }

@@ -5,15 +5,16 @@
 ghost use Rattle.std.specs.Prelude.{length};
 ghost use Rattle.plan_table.specs.Filling.{table_begun, Printing};
 
-use libc::{STDERR_FILENO, STDIN_FILENO, STDOUT_FILENO};
 use plan_print::Printed;
+use program_calls::{STDERR_FILENO, STDOUT_FILENO, say_failed, word_count};
+use std::io::Write;
 
 // Prints what the input asks for.
-fn answer(input: &[u8], buf: &mut [u8]) -> Printed
+fn answer<W: Write>(out: &mut W, input: &[u8], buf: &mut [u8]) -> Printed
     ensures { Printing (length buf.old) (table_begun input.now) result.table result.written }
 {
     let t = plan_table::begin(input);
-    plan_print::print(STDOUT_FILENO, t, buf)
+    plan_print::print(out, t, buf)
 }
 
 fn usage(fd: i32) {
@@ -25,37 +26,35 @@ fn usage(fd: i32) {
 }
 
 // Whether the first argument is this word.
-fn is_word(word: &[u8]) -> bool {
-    let mut argument = io::buffer();
-    let n = os::arg(1, &mut argument);
-    check::same(&argument[..n], word)
+fn is_word(rt: &HostRuntime, word: &[u8]) -> bool {
+    program_calls::is_word(rt, 1, word)
 }
 
-fn plan() {
+fn plan(rt: &HostRuntime) {
     let mut input = request::input_buffer();
     let mut buf = io::large_buffer();
-    let i = input_bytes::read_input(STDIN_FILENO, &mut input);
-    if i.failed {
-        os::fail(b"standard input");
+    let i = input_bytes::read_input(&mut rt.stdin(), &mut input);
+    if i.failed.is_some() {
+        say_failed(b"standard input", i.failed);
         return;
     }
     let n = i.n;
-    let p = answer(&input[..n], &mut buf);
+    let p = answer(&mut rt.stdout(), &input[..n], &mut buf);
     if !p.written {
-        os::fail(b"standard output");
+        say_failed(b"standard output", p.error);
         return;
     }
     refusal_print::say_refusal(p.table.number);
 }
 
-fn main() {
-    if is_word(b"--help") {
+fn main(rt: HostRuntime) {
+    if is_word(&rt, b"--help") {
         usage(STDOUT_FILENO);
         return;
     }
-    if os::arg_count() != 1 {
+    if word_count(&rt) != 1 {
         usage(STDERR_FILENO);
         return;
     }
-    plan();
+    plan(&rt);
 }

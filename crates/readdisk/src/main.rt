@@ -41,7 +41,7 @@ fn most_bytes() -> [u8; 163840]
 }
 
 // The pass, what it wants next, how it stands with the reading, and where the bytes that were read last stand on the disk.
-#[derive(Drop)]
+#[derive(Clone, Copy)]
 struct Reading {
     stop: u8,
     pass: Pass,

@@ -2,7 +2,7 @@
 // written. Standard output is left to the program.
 #![tactic(auto)]
 
-use libc::STDERR_FILENO;
+use program_calls::STDERR_FILENO;
 use refusal_sentences::put_sentence;
 
 // Writes the first `end` bytes.

@@ -1,11 +1,11 @@
 // What writelist sends of an input.
 ghost use Rattle.std.specs.Prelude.{◌≡◌, length};
 
-use libc::STDOUT_FILENO;
+use program_calls::STDOUT_FILENO;
 use run::Run;
 
 // What was written of a list: a number, its bytes, and the checksum's register.
-#[derive(Drop)]
+#[derive(Clone, Copy)]
 struct Sum {
     number: u32,
     length: u64,

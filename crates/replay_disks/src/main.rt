@@ -21,7 +21,7 @@ const HEAD: usize = 8192;
 const PLACES: usize = 25600;
 
 // What is kept from case to case, and whether there may be more of these.
-#[derive(Drop)]
+#[derive(Clone, Copy)]
 struct Kept {
     more: bool,
     found: Found,

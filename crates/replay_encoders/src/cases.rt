@@ -6,7 +6,7 @@ use params::{Features, Timestamp};
 use replay_frames::{long, word};
 
 // What a function answers beside the lent bytes.
-#[derive(Drop)]
+#[derive(Clone, Copy)]
 pub(crate) struct Answer {
     pub(crate) number: u32,
     pub(crate) value: u64,

@@ -15,7 +15,7 @@ ghost use Rattle.endian.specs.Answer.{room, valued};
 ghost use Rattle.endian.specs.Bytes.{be_at};
 ghost use Rattle.io.specs.Counts.{IsPrefixLen};
 
-use libc::{STDIN_FILENO, STDOUT_FILENO};
+use program_calls::{STDIN_FILENO, STDOUT_FILENO};
 
 // What stands before a case's parameters: its length, and its own first bytes.
 const HEAD: usize = 10;
@@ -31,7 +31,7 @@ const REPEATED: u8 = 2;
 const MOST: usize = 1048576;
 
 // The next case, with how many bytes its parameters and its body have; there is none unless `found`.
-#[derive(Drop)]
+#[derive(Clone, Copy)]
 pub struct Case {
     pub found: bool,
     pub form: u8,

@@ -7,7 +7,7 @@ use plan_free::FreeList;
 use plan_rmap::RmapList;
 
 // What a function answers: its number, and how many bytes of the row.
-#[derive(Drop)]
+#[derive(Clone, Copy)]
 pub(crate) struct Answer {
     pub(crate) number: u32,
     pub(crate) length: usize,

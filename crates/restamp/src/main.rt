@@ -9,7 +9,7 @@ use chunk::root_chunk;
 use crc::stamp;
 use geometry_counts::inodes::root_chunk_of;
 use group_bytes::{head_left, head_length};
-use libc::{STDIN_FILENO, STDOUT_FILENO};
+use program_calls::STDOUT_FILENO;
 use run::Run;
 
 // Of a disk with sectors of 512 bytes, blocks of 4096 and inodes of 512: the checksums of the head's free list and of its last root, and
@@ -170,11 +170,11 @@ fn disk(run: Run) {
     chunk_again(b"chunk of no bytes", run, &mut none);
 }
 
-fn main() {
+fn main(rt: HostRuntime) {
     stamps();
     leaves();
     let mut input = request::input_buffer();
-    let i = input_bytes::read_input(STDIN_FILENO, &mut input);
+    let i = input_bytes::read_input(&mut rt.stdin(), &mut input);
     let n = i.n;
     disk(run::accept(&input[..n]));
 }

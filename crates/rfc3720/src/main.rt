@@ -2,7 +2,7 @@
 #![tactic(auto)]
 
 use crc::crc32c;
-use libc::STDOUT_FILENO;
+use program_calls::STDOUT_FILENO;
 
 fn rising() -> [u8; 32] {
     [

@@ -6,8 +6,9 @@
 ghost use Rattle.std.specs.Prelude.{◌≡◌, true, length};
 ghost use Rattle.list_send.specs.Sending.{sent_def, all_sent};
 
-use libc::{STDERR_FILENO, STDIN_FILENO, STDOUT_FILENO};
 use list_send::{Sending, begin, left_of, longest, number_of, send};
+use program_calls::{STDERR_FILENO, STDOUT_FILENO, say_failed, word_count};
+use std::io::{Error, Result, Write};
 
 // Bytes of ten blocks of 4096 bytes, each with the 18 bytes before it: enough for the pieces and parts of most disks.
 const FEW: usize = 41140;
@@ -26,22 +27,23 @@ fn most_bytes() -> [u8; 164020]
 }
 
 // Writes the first bytes.
-fn flush(buf: &[u8], end: usize) -> bool {
+fn flush<W: Write>(out: &mut W, buf: &[u8], end: usize) -> Result<()> {
     if end <= buf.len() {
-        return io::write_all(STDOUT_FILENO, &buf[..end]);
+        return out.write_all(&buf[..end]);
     }
-    false
+    Err(Error::other("the bytes end behind their buffer"))
 }
 
-// What is left to send after a turn, and whether its bytes were written.
-#[derive(Drop)]
+// What is left to send after a turn, whether its bytes were written, and why not, where the system said so.
+#[derive(Clone, Copy)]
 struct Turn {
     sending: Sending,
     written: bool,
+    error: Option<Error>,
 }
 
 // Takes the next piece and writes it.
-fn take_turn(s: Sending, work: &mut [u8], buf: &mut [u8]) -> Turn
+fn take_turn<W: Write>(out: &mut W, s: Sending, work: &mut [u8], buf: &mut [u8]) -> Turn
     ensures { result.sending ≡ (sent_def s (length work.old) (length buf.old)).sending }
 {
     let sent = send(s, work, buf);
@@ -50,61 +52,76 @@ fn take_turn(s: Sending, work: &mut [u8], buf: &mut [u8]) -> Turn
         return Turn {
             sending,
             written: false,
+            error: None,
         };
     }
-    let written = flush(buf, sent.length);
-    Turn { sending, written }
+    let flushed = flush(out, buf, sent.length);
+    Turn {
+        sending,
+        written: flushed.is_ok(),
+        error: flushed.err(),
+    }
 }
 
 // Writes all pieces; where a write fails, nothing more is written. Where none fails, as many turns were taken as there are pieces.
-fn write_list(first: Sending, work: &mut [u8], buf: &mut [u8]) -> Turn
+fn write_list<W: Write>(out: &mut W, first: Sending, work: &mut [u8], buf: &mut [u8]) -> Turn
     ensures { result.written ≡ true → result.sending ≡ all_sent first work.old buf.old }
 {
     let mut left = left_of(first);
     let mut t = Turn {
         sending: first,
         written: true,
+        error: None,
     };
     while 0 < left && t.written {
-        t = take_turn(t.sending, work, buf);
+        t = take_turn(out, t.sending, work, buf);
         left -= 1;
     }
     t
 }
 
-fn write_few(s: Sending) -> bool {
-    let mut work = few_bytes();
-    let mut buf = few_bytes();
-    let t = write_list(s, &mut work, &mut buf);
-    t.written
+// What a turn came to: an error where its bytes weren't written.
+fn outcome(t: Turn) -> Result<()> {
+    if t.written {
+        return Ok(());
+    }
+    match t.error {
+        Some(error) => Err(error),
+        None => Err(Error::other("the next piece has no room")),
+    }
 }
 
-fn write_most(s: Sending) -> bool {
+fn write_few<W: Write>(out: &mut W, s: Sending) -> Result<()> {
+    let mut work = few_bytes();
+    let mut buf = few_bytes();
+    outcome(write_list(out, s, &mut work, &mut buf))
+}
+
+fn write_most<W: Write>(out: &mut W, s: Sending) -> Result<()> {
     let mut work = most_bytes();
     let mut buf = most_bytes();
-    let t = write_list(s, &mut work, &mut buf);
-    t.written
+    outcome(write_list(out, s, &mut work, &mut buf))
 }
 
 // The number's line, and its sentence on standard error.
-fn print_refused(number: u32) -> bool {
+fn print_refused<W: Write>(out: &mut W, number: u32) -> Result<()> {
     let mut line = [0u8; 32];
     let w = table_lines::put_refused(number as u64, &mut line, 0);
     refusal_print::say_refusal(number);
-    flush(&line, w.end)
+    flush(out, &line, w.end)
 }
 
-// Writes what the input asks for; false where a write failed.
-fn answer(input: &[u8]) -> bool {
+// Writes what the input asks for; an error where a write failed.
+fn answer<W: Write>(out: &mut W, input: &[u8]) -> Result<()> {
     let s = begin(input);
     let number = number_of(s);
     if number != 0 {
-        return print_refused(number);
+        return print_refused(out, number);
     }
     if longest(s) <= FEW as u64 {
-        return write_few(s);
+        return write_few(out, s);
     }
-    write_most(s)
+    write_most(out, s)
 }
 
 // What to hand in.
@@ -117,29 +134,27 @@ fn usage(fd: i32) {
 }
 
 // Whether the first argument is this word.
-fn is_word(word: &[u8]) -> bool {
-    let mut argument = io::buffer();
-    let n = os::arg(1, &mut argument);
-    check::same(&argument[..n], word)
+fn is_word(rt: &HostRuntime, word: &[u8]) -> bool {
+    program_calls::is_word(rt, 1, word)
 }
 
-fn main() {
-    if is_word(b"--help") {
+fn main(rt: HostRuntime) {
+    if is_word(&rt, b"--help") {
         usage(STDOUT_FILENO);
         return;
     }
-    if os::arg_count() != 1 {
+    if word_count(&rt) != 1 {
         usage(STDERR_FILENO);
         return;
     }
     let mut input = request::input_buffer();
-    let i = input_bytes::read_input(STDIN_FILENO, &mut input);
-    if i.failed {
-        os::fail(b"standard input");
+    let i = input_bytes::read_input(&mut rt.stdin(), &mut input);
+    if i.failed.is_some() {
+        say_failed(b"standard input", i.failed);
         return;
     }
     let n = i.n;
-    if !answer(&input[..n]) {
-        os::fail(b"standard output");
+    if let Err(error) = answer(&mut rt.stdout(), &input[..n]) {
+        say_failed(b"standard output", Some(error));
     }
 }
