@@ -4,12 +4,17 @@
 #![tactic(auto)]
 
 ghost use Rattle.std.specs.Prelude.{◌≡◌, ◌≤◌, length};
-ghost use Rattle.io.specs.Counts.{IsPrefixLen};
-ghost use Rattle.libc.specs.Io.{Ended};
 ghost use Rattle.device_sizes.specs.Offsets.{bytes_to};
 
-use libc::{SEEK_END, SEEK_SET};
+use input_bytes::read_input;
 use request_texts::{decimal, leading};
+use std::alloc::Allocator;
+use std::fs::{File, read_link};
+use std::io::{Error, ErrorKind, Read, Result, Seek, SeekFrom};
+use std::os::fd::AsRawFd;
+use std::os::unix::fs::FileTypeExt;
+use std::path::PathBuf;
+use std::rt::Files;
 
 // Size and sectors in bytes; `failed` is 0, or says what can't be read.
 #[derive(Clone, Copy)]
@@ -25,9 +30,6 @@ pub const NO_SIZE: u8 = 1;
 pub const NO_LOGICAL: u8 = 2;
 
 pub const NO_PHYSICAL: u8 = 3;
-
-// What lseek is asked for the next hole.
-const SEEK_HOLE: i32 = 4;
 
 // The sector of a plain file.
 const PLAIN: u64 = 512;
@@ -45,32 +47,24 @@ pub fn bytes_to(offset: i64) -> u64
     offset as u64
 }
 
-// Whether the file is a block device: a plain file answers where its next hole is.
-pub fn is_device(fd: i32) -> bool {
-    let hole = libc::lseek(fd, 0, SEEK_HOLE);
-    let error = os::errno();
-    libc::lseek(fd, 0, SEEK_SET);
-    hole < 0 && error == libc::EINVAL
+// Whether the file is a block device.
+pub fn is_device(file: &File) -> bool {
+    match file.metadata() {
+        Ok(m) => m.file_type().is_block_device(),
+        Err(_) => false,
+    }
 }
 
 // The link that the system keeps to an open file.
-fn link_to(fd: i32) -> [u8; 4096]
-    ensures { Ended result }
-{
-    let mut link = io::buffer();
-    endian::put_bytes(&mut link, 0, b"/proc/self/fd/");
-    table_lines::put_number(bytes_to(fd as i64), 0, &mut link, 14);
-    link[4095] = 0;
-    link
+fn link_to<A: Allocator>(alloc: A, file: &File) -> Result<String<A>> {
+    let fd = file.as_raw_fd();
+    Ok(format!(in alloc; "/proc/self/fd/{fd}")?)
 }
 
-// The path of an open file, at the start of the buffer; no byte where it can't be read.
-fn path_of(fd: i32, path: &mut [u8]) -> usize
-    ensures { IsPrefixLen result path.new }
-{
-    let link = link_to(fd);
-    let got = libc::readlink(&link, path);
-    io::count(got, path)
+// The path of an open file.
+fn path_of<R: Files + Alloc>(rt: &R, file: &File) -> Result<PathBuf<R::A>> {
+    let link = link_to(rt.alloc(), file)?;
+    read_link(rt, link.as_str())
 }
 
 // How many bytes stand behind the last slash of a path.
@@ -90,12 +84,12 @@ fn name_length(path: &[u8]) -> usize
 }
 
 // Opens the file of this name in the system's folder of the device.
-fn open_of(name: &[u8], file: &[u8]) -> i32 {
+fn open_of<R: Files>(rt: &R, name: &[u8], file: &[u8]) -> Result<R::File> {
     if 3000 < name.len() {
-        return -1;
+        return Err(Error::from(ErrorKind::InvalidFilename));
     }
     if 1000 < file.len() {
-        return -1;
+        return Err(Error::from(ErrorKind::InvalidFilename));
     }
     let behind = 17 + name.len();
     let end = behind + file.len();
@@ -103,7 +97,10 @@ fn open_of(name: &[u8], file: &[u8]) -> i32 {
     endian::put_bytes(&mut path, 0, b"/sys/class/block/");
     endian::put_bytes(&mut path, 17, name);
     endian::put_bytes(&mut path, behind, file);
-    os::open_read(&path[..end])
+    match str::from_utf8(&path[..end]) {
+        Ok(text) => File::open(rt, text),
+        Err(_) => Err(Error::from(ErrorKind::InvalidFilename)),
+    }
 }
 
 // The number that the text begins with.
@@ -114,24 +111,22 @@ fn number_of(text: &[u8]) -> u64 {
 }
 
 // The number that the file of this name begins with; 0 where it can't be read.
-fn number_in(name: &[u8], file: &[u8]) -> u64 {
-    let fd = open_of(name, file);
-    if fd < 0 {
+fn number_in<R: Files>(rt: &R, name: &[u8], file: &[u8]) -> u64 {
+    let Ok(mut opened) = open_of(rt, name, file) else {
         return 0;
-    }
+    };
     let mut text = io::buffer();
-    let n = io::read_full(fd, &mut text);
-    libc::close(fd);
-    number_of(&text[..n])
+    let i = read_input(&mut opened, &mut text);
+    number_of(&text[..i.n])
 }
 
 // A number of the device of this name, or of the disk that it is a partition of; 0 where the system doesn't say.
-fn number_at(name: &[u8], own: &[u8], disk: &[u8]) -> u64 {
-    let n = number_in(name, own);
+fn number_at<R: Files>(rt: &R, name: &[u8], own: &[u8], disk: &[u8]) -> u64 {
+    let n = number_in(rt, name, own);
     if n != 0 {
         return n;
     }
-    number_in(name, disk)
+    number_in(rt, name, disk)
 }
 
 fn failed(what: u8) -> Sizes {
@@ -144,11 +139,12 @@ fn failed(what: u8) -> Sizes {
 }
 
 // The sectors of the device of this name, which has to have this size.
-fn named_sizes(name: &[u8], size: u64) -> Sizes {
-    if number_in(name, b"/size") != size / UNIT {
+fn named_sizes<R: Files>(rt: &R, name: &[u8], size: u64) -> Sizes {
+    if number_in(rt, name, b"/size") != size / UNIT {
         return failed(NO_LOGICAL);
     }
     let logical = number_at(
+        rt,
         name,
         b"/queue/logical_block_size",
         b"/../queue/logical_block_size",
@@ -157,6 +153,7 @@ fn named_sizes(name: &[u8], size: u64) -> Sizes {
         return failed(NO_LOGICAL);
     }
     let physical = number_at(
+        rt,
         name,
         b"/queue/physical_block_size",
         b"/../queue/physical_block_size",
@@ -173,23 +170,24 @@ fn named_sizes(name: &[u8], size: u64) -> Sizes {
 }
 
 // The same of the device at a path.
-fn sizes_at(path: &[u8], size: u64) -> Sizes {
+fn sizes_at<R: Files>(rt: &R, path: &[u8], size: u64) -> Sizes {
     let n = name_length(path);
     let start = path.len() - n;
-    named_sizes(&path[start..], size)
+    named_sizes(rt, &path[start..], size)
 }
 
 // The same of an open device.
-fn device_sizes(fd: i32, size: u64) -> Sizes {
-    let mut path = io::buffer();
-    let n = path_of(fd, &mut path);
-    sizes_at(&path[..n], size)
+fn device_sizes<R: Files + Alloc>(rt: &R, file: &File, size: u64) -> Sizes {
+    match path_of(rt, file) {
+        Ok(path) => sizes_at(rt, path.as_str().as_bytes(), size),
+        Err(_) => failed(NO_LOGICAL),
+    }
 }
 
 // A plain file can be read; a folder, of which the system says some size too, can't.
-fn file_sizes(fd: i32, size: u64) -> Sizes {
+fn file_sizes(mut file: &File, size: u64) -> Sizes {
     let mut first = [0u8; 1];
-    if libc::read(fd, &mut first) < 0 {
+    if file.read(&mut first).is_err() {
         return failed(NO_SIZE);
     }
     Sizes {
@@ -201,14 +199,12 @@ fn file_sizes(fd: i32, size: u64) -> Sizes {
 }
 
 // Size and sectors of an open file or block device.
-pub fn sizes_of(fd: i32) -> Sizes {
-    let end = libc::lseek(fd, 0, SEEK_END);
-    if end < 0 {
+pub fn sizes_of<R: Files + Alloc>(rt: &R, mut file: &File) -> Sizes {
+    let Ok(size) = file.seek(SeekFrom::End(0)) else {
         return failed(NO_SIZE);
+    };
+    if is_device(file) {
+        return device_sizes(rt, file, size);
     }
-    let size = bytes_to(end);
-    if is_device(fd) {
-        return device_sizes(fd, size);
-    }
-    file_sizes(fd, size)
+    file_sizes(file, size)
 }

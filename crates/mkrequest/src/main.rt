@@ -5,55 +5,62 @@
 mod said; // what is said on standard error
 mod words; // the words, as they are handed on
 
-use libc::{STDERR_FILENO, STDOUT_FILENO};
-use said::{explain, usage, write_first};
+use program_calls::{STDERR_FILENO, STDOUT_FILENO, say_failed, word_count};
+use said::{explain, usage};
+use std::io::{Error, Result, Write};
 use words::take_words;
 
-// Writes the records of the words, or which one is refused; false where a write failed.
-fn answer(words: &[u8], device: usize) -> bool {
+// Writes the first n bytes.
+fn write_first<W: Write>(out: &mut W, text: &[u8], n: usize) -> Result<()> {
+    if n <= text.len() {
+        return out.write_all(&text[..n]);
+    }
+    Err(Error::other("the records end behind their buffer"))
+}
+
+// Writes the records of the words, or which one is refused; an error where a write failed.
+fn answer(rt: &HostRuntime, words: &[u8], device: usize) -> Result<()> {
     let mut records = io::buffer();
     let made = request_words::make_records(words, &mut records);
     if made.number != 0 {
-        explain(made, device);
-        return true;
+        explain(rt, made, device);
+        return Ok(());
     }
-    write_first(STDOUT_FILENO, &records, made.length)
+    write_first(&mut rt.stdout(), &records, made.length)
 }
 
 // The same of the first n bytes.
-fn answer_first(words: &[u8], n: usize, device: usize) -> bool {
+fn answer_first(rt: &HostRuntime, words: &[u8], n: usize, device: usize) -> Result<()> {
     if n <= words.len() {
-        return answer(&words[..n], device);
+        return answer(rt, &words[..n], device);
     }
-    false
+    Err(Error::other("the words end behind their buffer"))
 }
 
 // Whether the first argument is this word.
-fn is_word(word: &[u8]) -> bool {
-    let mut argument = io::buffer();
-    let n = os::arg(1, &mut argument);
-    check::same(&argument[..n], word)
+fn is_word(rt: &HostRuntime, word: &[u8]) -> bool {
+    program_calls::is_word(rt, 1, word)
 }
 
-fn make() {
+fn make(rt: &HostRuntime) {
     let mut words = io::buffer();
-    let taken = take_words(&mut words);
+    let taken = take_words(rt, &mut words);
     if taken.failed {
         return;
     }
-    if !answer_first(&words, taken.n, taken.device) {
-        os::fail(b"standard output");
+    if let Err(error) = answer_first(rt, &words, taken.n, taken.device) {
+        say_failed(b"standard output", Some(error));
     }
 }
 
-fn main() {
-    if is_word(b"--help") {
+fn main(rt: HostRuntime) {
+    if is_word(&rt, b"--help") {
         usage(STDOUT_FILENO);
         return;
     }
-    if os::arg_count() < 2 {
+    if word_count(&rt) < 2 {
         usage(STDERR_FILENO);
         return;
     }
-    make();
+    make(&rt);
 }

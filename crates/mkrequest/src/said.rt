@@ -1,5 +1,5 @@
 // What is said on standard error: which word is refused, why, and what is expected.
-use libc::STDERR_FILENO;
+use program_calls::{STDERR_FILENO, take_word};
 use request_expected::{put_expected, put_name};
 use request_texts::{MALFORMED, TOO_LARGE};
 use request_words::Made;
@@ -11,7 +11,7 @@ pub(crate) fn say(text: &[u8]) {
 }
 
 // Writes the first n bytes; false where that failed.
-pub(crate) fn write_first(fd: i32, text: &[u8], n: usize) -> bool {
+fn write_first(fd: i32, text: &[u8], n: usize) -> bool {
     if n <= text.len() {
         return io::write_all(fd, &text[..n]);
     }
@@ -35,16 +35,16 @@ fn write_expected(fd: i32, key: usize) {
 }
 
 // The argument itself, or as much of it as there is room for.
-fn say_word(i: usize) {
+fn say_word(rt: &HostRuntime, i: usize) {
     let mut word = io::buffer();
-    let n = os::arg(i, &mut word);
+    let n = take_word(rt, i, &mut word);
     io::write_all(STDERR_FILENO, &word[..n]);
 }
 
 // The argument that gave the word of this index: `device=` gives three.
 fn argument_of(index: usize, device: usize) -> usize {
     if device == 0 {
-        return std::num::wrapping_add_usize(index, 1);
+        return index.wrapping_add(1);
     }
     if index < device {
         return index + 1;
@@ -69,7 +69,7 @@ fn say_why(number: u32) {
 }
 
 // Which word is refused or missing, why, and what is expected.
-pub(crate) fn explain(made: Made, device: usize) {
+pub(crate) fn explain(rt: &HostRuntime, made: Made, device: usize) {
     say(b"mkrequest: ");
     if made.number == MISSING as u32 {
         write_name(STDERR_FILENO, made.key);
@@ -77,7 +77,7 @@ pub(crate) fn explain(made: Made, device: usize) {
         write_expected(STDERR_FILENO, made.key);
         return;
     }
-    say_word(argument_of(made.index, device));
+    say_word(rt, argument_of(made.index, device));
     if made.number == TWICE as u32 {
         say(b": ");
         write_name(STDERR_FILENO, made.key);

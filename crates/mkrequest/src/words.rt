@@ -2,7 +2,12 @@
 // `uuid=random` by a UUID that it draws, `time=now` by its seconds. So `words_request` says what is written of words that anyone can read.
 use crate::said::say;
 use device_sizes::{NO_LOGICAL, NO_SIZE, Sizes, sizes_of};
-use libc::STDERR_FILENO;
+use input_bytes::read_input;
+use program_calls::{STDERR_FILENO, say_failed, word_count};
+use std::env::Env;
+use std::fs::File;
+use std::io::{Error, ErrorKind, Result};
+use std::time::Clock;
 use table_lines::{Written, put_number};
 use text_pages::put_text;
 
@@ -85,16 +90,24 @@ fn say_unread(path: &[u8], failed: u8) {
     say(b": its physical sector can't be read\n");
 }
 
-// Size and sectors of the device or file at a path, which argument i names.
-fn push_device(path: &[u8], i: usize, n: usize, words: &mut [u8]) -> Taken {
-    let fd = os::open_read(path);
-    if fd < 0 {
-        io::write_all(STDERR_FILENO, b"open: ");
-        os::fail(path);
-        return refused();
+// Opens the file at a path; one that isn't UTF-8 names none.
+fn open(rt: &HostRuntime, path: &[u8]) -> Result<File> {
+    match str::from_utf8(path) {
+        Ok(text) => File::open(rt, text),
+        Err(_) => Err(Error::from(ErrorKind::InvalidFilename)),
     }
-    let s = sizes_of(fd);
-    libc::close(fd);
+}
+
+// Size and sectors of the device or file at a path, which argument i names.
+fn push_device(rt: &HostRuntime, path: &[u8], i: usize, n: usize, words: &mut [u8]) -> Taken {
+    let s = match open(rt, path) {
+        Ok(file) => sizes_of(rt, &file),
+        Err(error) => {
+            io::write_all(STDERR_FILENO, b"open: ");
+            say_failed(path, Some(error));
+            return refused();
+        }
+    };
     if s.failed != 0 {
         say_unread(path, s.failed);
         return refused();
@@ -108,20 +121,18 @@ fn push_device(path: &[u8], i: usize, n: usize, words: &mut [u8]) -> Taken {
 }
 
 // Whether the system drew a UUID: 36 characters.
-fn draws(uuid: &mut [u8]) -> bool {
-    let fd = os::open_read(b"/proc/sys/kernel/random/uuid");
-    if fd < 0 {
+fn draws(rt: &HostRuntime, uuid: &mut [u8]) -> bool {
+    let Ok(mut file) = File::open(rt, "/proc/sys/kernel/random/uuid") else {
         return false;
-    }
-    let got = io::read_full(fd, uuid);
-    libc::close(fd);
-    got == 36
+    };
+    let got = read_input(&mut file, uuid);
+    got.n == 36
 }
 
 // A UUID that the system draws.
-fn push_uuid(n: usize, words: &mut [u8]) -> Taken {
+fn push_uuid(rt: &HostRuntime, n: usize, words: &mut [u8]) -> Taken {
     let mut uuid = [0u8; 36];
-    if !draws(&mut uuid) {
+    if !draws(rt, &mut uuid) {
         say(b"mkrequest: uuid=random: the system draws none\n");
         return refused();
     }
@@ -133,40 +144,41 @@ fn push_uuid(n: usize, words: &mut [u8]) -> Taken {
 }
 
 // The system's clock, in seconds since 1970.
-fn push_time(n: usize, words: &mut [u8]) -> Taken {
-    let mut seconds: i64 = 0;
-    libc::time(&mut seconds);
-    if seconds <= 0 {
+fn push_time(rt: &HostRuntime, n: usize, words: &mut [u8]) -> Taken {
+    let seconds = match rt.since_1970() {
+        Ok(t) => t.as_secs(),
+        Err(_) => 0,
+    };
+    if seconds == 0 {
         say(b"mkrequest: time=now: the system has no clock\n");
         return refused();
     }
-    push_number(b"time=", device_sizes::bytes_to(seconds), n, words)
+    push_number(b"time=", seconds, n, words)
 }
 
 // A word, or what stands for it.
-fn push_word(word: &[u8], i: usize, n: usize, words: &mut [u8]) -> Taken {
+fn push_word(rt: &HostRuntime, word: &[u8], i: usize, n: usize, words: &mut [u8]) -> Taken {
     if 7 <= word.len() {
         if check::same(&word[..7], b"device=") {
-            return push_device(&word[7..], i, n, words);
+            return push_device(rt, &word[7..], i, n, words);
         }
     }
     if check::same(word, b"uuid=random") {
-        return push_uuid(n, words);
+        return push_uuid(rt, n, words);
     }
     if check::same(word, b"time=now") {
-        return push_time(n, words);
+        return push_time(rt, n, words);
     }
     push(word, n, words)
 }
 
 // The argument of this index, behind the first `n` bytes.
-fn take_word(i: usize, n: usize, words: &mut [u8]) -> Taken {
+fn take_word(rt: &HostRuntime, i: usize, n: usize, words: &mut [u8]) -> Taken {
     let mut word = io::buffer();
-    let got = os::arg(i, &mut word);
-    if os::errno() != 0 {
-        return too_long();
+    match rt.arg(i, &mut word) {
+        Ok(got) => push_word(rt, &word[..got], i, n, words),
+        Err(_) => too_long(),
     }
-    push_word(&word[..got], i, n, words)
 }
 
 // Both: the first `device=` counts.
@@ -182,8 +194,8 @@ fn and_then(before: Taken, next: Taken) -> Taken {
 }
 
 // All arguments.
-pub(crate) fn take_words(words: &mut [u8]) -> Taken {
-    let count = os::arg_count();
+pub(crate) fn take_words(rt: &HostRuntime, words: &mut [u8]) -> Taken {
+    let count = word_count(rt);
     let mut t = Taken {
         n: 0,
         device: 0,
@@ -191,7 +203,7 @@ pub(crate) fn take_words(words: &mut [u8]) -> Taken {
     };
     let mut i = 1;
     while i < count && !t.failed {
-        t = and_then(t, take_word(i, t.n, words));
+        t = and_then(t, take_word(rt, i, t.n, words));
         i += 1;
     }
     t
