@@ -3,10 +3,8 @@
 use crate::said::say;
 use device_sizes::{NO_LOGICAL, NO_SIZE, Sizes, sizes_of};
 use input_bytes::read_input;
-use program_calls::{STDERR_FILENO, say_failed, word_count};
+use program_calls::{STDERR_FILENO, open_read, say_failed, word_count};
 use std::env::Env;
-use std::fs::File;
-use std::io::{Error, ErrorKind, Result};
 use std::time::Clock;
 use table_lines::{Written, put_number};
 use text_pages::put_text;
@@ -90,17 +88,9 @@ fn say_unread(path: &[u8], failed: u8) {
     say(b": its physical sector can't be read\n");
 }
 
-// Opens the file at a path; one that isn't UTF-8 names none.
-fn open(rt: &HostRuntime, path: &[u8]) -> Result<File> {
-    match str::from_utf8(path) {
-        Ok(text) => File::open(rt, text),
-        Err(_) => Err(Error::from(ErrorKind::InvalidFilename)),
-    }
-}
-
 // Size and sectors of the device or file at a path, which argument i names.
 fn push_device(rt: &HostRuntime, path: &[u8], i: usize, n: usize, words: &mut [u8]) -> Taken {
-    let s = match open(rt, path) {
+    let s = match open_read(rt, path) {
         Ok(file) => sizes_of(rt, &file),
         Err(error) => {
             io::write_all(STDERR_FILENO, b"open: ");
@@ -122,7 +112,7 @@ fn push_device(rt: &HostRuntime, path: &[u8], i: usize, n: usize, words: &mut [u
 
 // Whether the system drew a UUID: 36 characters.
 fn draws(rt: &HostRuntime, uuid: &mut [u8]) -> bool {
-    let Ok(mut file) = File::open(rt, "/proc/sys/kernel/random/uuid") else {
+    let Ok(mut file) = open_read(rt, b"/proc/sys/kernel/random/uuid") else {
         return false;
     };
     let got = read_input(&mut file, uuid);

@@ -1,10 +1,13 @@
-// What the programs have in common where they meet the system: the words that they are given, and how a call that failed is said.
+// What the programs have in common where they meet the system: the words that they are given, the files that these name, and how a call
+// that failed is said.
 #![tactic(auto)]
 
 ghost use Rattle.io.specs.Counts.{IsPrefixLen};
 
 use std::env::{Env, FillError};
-use std::io::{Cursor, Error, Write};
+use std::fs::{File, OpenOptions};
+use std::io::{Cursor, Error, ErrorKind, Result, Write};
+use std::rt::Files;
 
 // The numbers of the three streams.
 pub const STDIN_FILENO: i32 = 0;
@@ -34,11 +37,43 @@ pub fn take_word<E: Env>(rt: &E, i: usize, word: &mut [u8]) -> usize
     }
 }
 
+// The system's error for a word that isn't there or is too long: EINVAL or ENAMETOOLONG.
+pub fn fill_error(error: FillError) -> Error {
+    match error {
+        FillError::NotPresent => Error::from_raw_os_error(22),
+        FillError::TooLong => Error::from_raw_os_error(36),
+    }
+}
+
 // Whether the word of this index is this one.
 pub fn is_word<E: Env>(rt: &E, i: usize, text: &[u8]) -> bool {
     let mut word = io::buffer();
     let n = take_word(rt, i, &mut word);
     check::same(&word[..n], text)
+}
+
+// The text of a path. The library names a file by text alone, so one that isn't UTF-8 names none.
+fn path_text(path: &[u8]) -> Result<&str> {
+    match str::from_utf8(path) {
+        Ok(text) => Ok(text),
+        Err(_) => Err(Error::from(ErrorKind::InvalidFilename)),
+    }
+}
+
+// Opens the file at a path for reading.
+pub fn open_read<R: Files>(rt: &R, path: &[u8]) -> Result<R::File> {
+    match path_text(path) {
+        Ok(text) => File::open(rt, text),
+        Err(error) => Err(error),
+    }
+}
+
+// Opens the file at a path for reading and writing. It has to be there, and its bytes are left as they are.
+pub fn open_update<R: Files>(rt: &R, path: &[u8]) -> Result<R::File> {
+    match path_text(path) {
+        Ok(text) => OpenOptions::new().read(true).write(true).open(rt, text),
+        Err(error) => Err(error),
+    }
 }
 
 // How many bytes stand before the system's number, as ` (os error 2)`.

@@ -12,17 +12,27 @@ mod words; // standard error
 ghost use Rattle.std.specs.Prelude.{◌≡◌, length};
 
 use arith::numbers::min_usize;
-use libc::{STDERR_FILENO, STDOUT_FILENO};
+use program_calls::{STDERR_FILENO, STDOUT_FILENO, fill_error, open_read, say_failed, word_count};
 use reader_pass::{Pass, Verdict, Wanted};
+use std::env::Env;
+use std::fs::File;
+use std::io::{Error, Write};
 
 // How it stands with the reading and the writing: nothing stopped it, or why it stopped.
-pub(crate) const WHOLE: u8 = 0;
+#[derive(Clone, Copy)]
+pub(crate) enum Stop {
+    Whole,
+    Ended,
+    ReadFailed(Error),
+    WriteFailed(Option<Error>),
+}
 
-pub(crate) const ENDED: u8 = 1;
-
-pub(crate) const READ_FAILED: u8 = 2;
-
-pub(crate) const WRITE_FAILED: u8 = 3;
+fn is_whole(stop: Stop) -> bool {
+    match stop {
+        Stop::Whole => true,
+        _ => false,
+    }
+}
 
 // Bytes of ten blocks of 4096 bytes: room for the heads of most disks.
 const FEW: usize = 40960;
@@ -43,14 +53,14 @@ fn most_bytes() -> [u8; 163840]
 // The pass, what it wants next, how it stands with the reading, and where the bytes that were read last stand on the disk.
 #[derive(Clone, Copy)]
 struct Reading {
-    stop: u8,
+    stop: Stop,
     pass: Pass,
     wanted: Wanted,
     offset: u64,
     length: usize,
 }
 
-fn read_so_far(stop: u8, pass: Pass, offset: u64, length: usize) -> Reading {
+fn read_so_far(stop: Stop, pass: Pass, offset: u64, length: usize) -> Reading {
     let wanted = reader_pass::wants(pass);
     Reading {
         stop,
@@ -62,131 +72,139 @@ fn read_so_far(stop: u8, pass: Pass, offset: u64, length: usize) -> Reading {
 }
 
 // Reads at the offset and feeds what was read, in buffers of its length.
-fn read_and_feed(fd: i32, p: Pass, offset: u64, work: &mut [u8], buf: &mut [u8]) -> Reading {
-    let stop = input::fill(fd, offset, buf);
-    if stop != WHOLE {
+fn read_and_feed(file: &File, p: Pass, offset: u64, work: &mut [u8], buf: &mut [u8]) -> Reading {
+    let stop = input::fill(file, offset, buf);
+    if !is_whole(stop) {
         return read_so_far(stop, p, offset, 0);
     }
     let fed = reader_pass::feed(p, buf, work);
-    read_so_far(WHOLE, fed, offset, buf.len())
+    read_so_far(Stop::Whole, fed, offset, buf.len())
 }
 
 // One turn. Buffers that are shorter than what is wanted give the pass fewer bytes, and it refuses them.
-fn turn(fd: i32, r: Reading, work: &mut [u8], buf: &mut [u8]) -> Reading {
+fn turn(file: &File, r: Reading, work: &mut [u8], buf: &mut [u8]) -> Reading {
     let p = r.pass;
     let w = r.wanted;
     let n = min_usize(w.length, min_usize(work.len(), buf.len()));
-    read_and_feed(fd, p, w.offset, &mut work[..n], &mut buf[..n])
+    read_and_feed(file, p, w.offset, &mut work[..n], &mut buf[..n])
 }
 
 fn goes_on(r: Reading) -> bool {
     let w = r.wanted;
-    r.stop == WHOLE && !w.done
+    is_whole(r.stop) && !w.done
 }
 
 // All turns that are still to come.
-fn read_on(fd: i32, first: Reading, work: &mut [u8], buf: &mut [u8]) -> Reading {
+fn read_on(file: &File, first: Reading, work: &mut [u8], buf: &mut [u8]) -> Reading {
     let mut r = first;
     let mut turns = u64::MAX;
     while 0 < turns && goes_on(r) {
-        r = turn(fd, r, work, buf);
+        r = turn(file, r, work, buf);
         turns -= 1;
     }
     r
 }
 
 // The table of an accepted disk, the refusal of the bytes that stand at this offset, or that of a disk outside the profile.
-fn answer(v: Verdict, told: bool, offset: u64, bytes: &[u8]) -> u8 {
+fn answer<W: Write>(out: &mut W, v: Verdict, told: bool, offset: u64, bytes: &[u8]) -> Stop {
     let g = v.geometry;
     let uuid = v.uuid;
     if v.number != 0 {
         words::say_refused(v, offset, bytes);
-        return printed::print_refused(v.number);
+        return printed::print_refused(out, v.number);
     }
     let n = reader_admit::admit(told, g, v.number);
     if n != 0 {
         words::say_outside();
-        return printed::print_refused(n);
+        return printed::print_refused(out, n);
     }
     words::say_disk(g, uuid);
-    printed::print_table(g)
+    printed::print_table(out, g)
 }
 
 // What is said where the answer wasn't written.
-fn say_written(stop: u8) {
-    if stop != WHOLE {
+fn say_written(stop: Stop) {
+    if !is_whole(stop) {
         io::write_all(STDERR_FILENO, b"table");
         words::say_stop(stop);
     }
 }
 
 // A disk that ends early is refused by the number of a pass that isn't finished.
-fn refuse_short(stop: u8, number: u32) {
-    if stop == ENDED {
-        say_written(printed::print_refused(number));
+fn refuse_short<W: Write>(out: &mut W, stop: Stop, number: u32) {
+    if let Stop::Ended = stop {
+        say_written(printed::print_refused(out, number));
     }
 }
 
 // What is said of a disk that was read; the buffer begins with the bytes that were read last.
-fn say_read(r: Reading, told: bool, buf: &[u8]) {
+fn say_read<W: Write>(out: &mut W, r: Reading, told: bool, buf: &[u8]) {
     let v = reader_pass::finish(r.pass);
     let g = v.geometry;
-    if r.stop != WHOLE {
+    if !is_whole(r.stop) {
         words::say_place(v.place, g.agcount);
         words::say_stop(r.stop);
-        refuse_short(r.stop, v.number);
+        refuse_short(out, r.stop, v.number);
         return;
     }
     let n = min_usize(r.length, buf.len());
-    say_written(answer(v, told, r.offset, &buf[..n]));
+    say_written(answer(out, v, told, r.offset, &buf[..n]));
 }
 
-fn read_few(fd: i32, told: bool, first: Reading) {
+fn read_few<W: Write>(out: &mut W, file: &File, told: bool, first: Reading) {
     let mut work = few_bytes();
     let mut buf = few_bytes();
-    let r = read_on(fd, first, &mut work, &mut buf);
-    say_read(r, told, &buf);
+    let r = read_on(file, first, &mut work, &mut buf);
+    say_read(out, r, told, &buf);
 }
 
-fn read_most(fd: i32, told: bool, first: Reading) {
+fn read_most<W: Write>(out: &mut W, file: &File, told: bool, first: Reading) {
     let mut work = most_bytes();
     let mut buf = most_bytes();
-    let r = read_on(fd, first, &mut work, &mut buf);
-    say_read(r, told, &buf);
+    let r = read_on(file, first, &mut work, &mut buf);
+    say_read(out, r, told, &buf);
 }
 
 // The first turn says how long a head is.
-fn read_open(fd: i32, told: bool) {
+fn read_open<W: Write>(out: &mut W, file: &File, told: bool) {
     let mut work = [0u8; 512];
     let mut buf = [0u8; 512];
-    let begun = read_so_far(WHOLE, reader_pass::begin(), 0, 0);
-    let first = turn(fd, begun, &mut work, &mut buf);
+    let begun = read_so_far(Stop::Whole, reader_pass::begin(), 0, 0);
+    let first = turn(file, begun, &mut work, &mut buf);
     let w = first.wanted;
     if !goes_on(first) {
-        say_read(first, told, &buf);
+        say_read(out, first, told, &buf);
         return;
     }
     if w.length <= FEW {
-        read_few(fd, told, first);
+        read_few(out, file, told, first);
         return;
     }
-    read_most(fd, told, first);
+    read_most(out, file, told, first);
+}
+
+// Opens the file at a path, or says why not.
+fn open_path(rt: &HostRuntime, path: &[u8]) -> Option<File> {
+    match open_read(rt, path) {
+        Ok(file) => Some(file),
+        Err(error) => {
+            io::write_all(STDERR_FILENO, b"open: ");
+            say_failed(path, Some(error));
+            None
+        }
+    }
 }
 
 // Opens the file that argument i names.
-fn open(i: usize) -> i32 {
+fn open(rt: &HostRuntime, i: usize) -> Option<File> {
     let mut path = io::buffer();
-    let n = os::arg(i, &mut path);
-    if n == 0 && os::errno() != 0 {
-        os::fail(b"path");
-        return -1;
+    match rt.arg(i, &mut path) {
+        Ok(n) => open_path(rt, &path[..n]),
+        Err(error) => {
+            say_failed(b"path", Some(fill_error(error)));
+            None
+        }
     }
-    let fd = os::open_read(&path[..n]);
-    if fd < 0 {
-        io::write_all(STDERR_FILENO, b"open: ");
-        os::fail(&path[..n]);
-    }
-    fd
 }
 
 fn usage(fd: i32) {
@@ -194,32 +212,29 @@ fn usage(fd: i32) {
 }
 
 // Whether the first argument is this word.
-fn is_word(word: &[u8]) -> bool {
-    let mut argument = io::buffer();
-    let n = os::arg(1, &mut argument);
-    check::same(&argument[..n], word)
+fn is_word(rt: &HostRuntime, word: &[u8]) -> bool {
+    program_calls::is_word(rt, 1, word)
 }
 
 // Reads what argument i names, the last of `count` words.
-fn read(i: usize, count: usize, told: bool) {
-    if os::arg_count() != count {
+fn read(rt: &HostRuntime, i: usize, count: usize, told: bool) {
+    if word_count(rt) != count {
         usage(STDERR_FILENO);
         return;
     }
-    let fd = open(i);
-    if 0 <= fd {
-        read_open(fd, told);
+    if let Some(file) = open(rt, i) {
+        read_open(&mut rt.stdout(), &file, told);
     }
 }
 
-fn main() {
-    if is_word(b"--help") {
+fn main(rt: HostRuntime) {
+    if is_word(&rt, b"--help") {
         usage(STDOUT_FILENO);
         return;
     }
-    if is_word(b"--profile") {
-        read(2, 3, true);
+    if is_word(&rt, b"--profile") {
+        read(&rt, 2, 3, true);
         return;
     }
-    read(1, 2, false);
+    read(&rt, 1, 2, false);
 }

@@ -1,9 +1,9 @@
 // What is said of a disk in words, on standard error.
-use crate::{ENDED, READ_FAILED};
+use crate::Stop;
 use endian::{be16, be32};
 use geometry::Geometry;
-use libc::STDERR_FILENO;
 use params::Features;
+use program_calls::{STDERR_FILENO, say_failed};
 use reader_agreement::{Agreement, agreed_at};
 use reader_pass::Verdict;
 
@@ -122,11 +122,12 @@ pub(crate) fn say_place(k: u64, agcount: u64) {
 }
 
 // Why the reading stopped.
-pub(crate) fn say_stop(stop: u8) {
+pub(crate) fn say_stop(stop: Stop) {
     match stop {
-        ENDED => say(b": the file ends before it\n"),
-        READ_FAILED => os::fail(b": read"),
-        _ => os::fail(b": standard output"),
+        Stop::Whole => {}
+        Stop::Ended => say(b": the file ends before it\n"),
+        Stop::ReadFailed(error) => say_failed(b": read", Some(error)),
+        Stop::WriteFailed(error) => say_failed(b": standard output", error),
     }
 }
 
