@@ -5,7 +5,9 @@ use crate::words::take_word;
 use inquire_lines::put_item;
 use list_cabinet::{Cabinet, enter, left_of};
 use list_size::ListSize;
+use program_calls::{open_read, say_failed, word_count};
 use request_texts::Value;
+use std::io::{Read, Result};
 use table_lines::Written;
 
 // The index of AREA among the words, and that of the first file.
@@ -20,9 +22,9 @@ pub(crate) fn usage(fd: i32) {
     );
 }
 
-fn area() -> Value {
+fn area(rt: &HostRuntime) -> Value {
     let mut word = io::buffer();
-    let n = take_word(AREA, &mut word);
+    let n = take_word(rt, AREA, &mut word);
     request_texts::number(&word[..n])
 }
 
@@ -64,11 +66,11 @@ fn unread(f: Filled) -> Filled {
 }
 
 // Reads a file's records and enters their disk.
-fn enter_read(f: Filled, fd: i32, path: &[u8], lines: &mut [u8]) -> Filled {
+fn enter_read<R: Read>(f: Filled, file: &mut R, path: &[u8], lines: &mut [u8]) -> Filled {
     let mut input = request::input_buffer();
-    let i = input_bytes::read_input(fd, &mut input);
-    if i.failed {
-        os::fail(path);
+    let i = input_bytes::read_input(file, &mut input);
+    if i.failed.is_some() {
+        say_failed(path, i.failed);
         return unread(f);
     }
     let n = i.n;
@@ -76,74 +78,73 @@ fn enter_read(f: Filled, fd: i32, path: &[u8], lines: &mut [u8]) -> Filled {
 }
 
 // Enters the disk of the file that the word of this index names.
-fn enter_file(f: Filled, i: usize, lines: &mut [u8]) -> Filled {
+fn enter_file(rt: &HostRuntime, f: Filled, i: usize, lines: &mut [u8]) -> Filled {
     let mut word = io::buffer();
-    let n = take_word(i, &mut word);
-    let fd = os::open_read(&word[..n]);
-    if fd < 0 {
-        os::fail(&word[..n]);
-        return unread(f);
+    let n = take_word(rt, i, &mut word);
+    match open_read(rt, &word[..n]) {
+        Ok(mut file) => enter_read(f, &mut file, &word[..n], lines),
+        Err(error) => {
+            say_failed(&word[..n], Some(error));
+            unread(f)
+        }
     }
-    let entered = enter_read(f, fd, &word[..n], lines);
-    libc::close(fd);
-    entered
 }
 
 // All files, up to the first that can't be read.
-fn enter_files(first: Filled, lines: &mut [u8]) -> Filled {
-    let count = os::arg_count();
+fn enter_files(rt: &HostRuntime, first: Filled, lines: &mut [u8]) -> Filled {
+    let count = word_count(rt);
     let mut f = first;
     let mut i = FILES;
     while i < count && !f.failed {
-        f = enter_file(f, i, lines);
+        f = enter_file(rt, f, i, lines);
         i += 1;
     }
     f
 }
 
-// Enters the disks and prints what they are answered; false where a write failed.
-fn answer(c: Cabinet) -> bool {
+// Enters the disks and prints what they are answered; an error where a write failed.
+fn answer(rt: &HostRuntime, c: Cabinet) -> Result<()> {
     let mut lines = io::buffer();
     let first = Filled {
         cabinet: c,
         end: 0,
         failed: false,
     };
-    let f = enter_files(first, &mut lines);
+    let f = enter_files(rt, first, &mut lines);
     if f.failed {
-        return true;
+        return Ok(());
     }
     let w = put_item(b"left", left_of(f.cabinet), true, &mut lines, f.end);
-    write_line(w, &lines)
+    write_line(rt, w, &lines)
 }
 
 // The files among the words.
-fn files() -> u64 {
-    let count = os::arg_count();
+fn files(rt: &HostRuntime) -> u64 {
+    let count = word_count(rt);
     if count < FILES {
         return 0;
     }
     (count - FILES) as u64
 }
 
-// 41 before any file is looked at; false where a write failed.
-fn answer_all(area: u64) -> bool {
-    let c = list_cabinet::open(files(), area);
+// 41 before any file is looked at; an error where a write failed.
+fn answer_all(rt: &HostRuntime, area: u64) -> Result<()> {
+    let c = list_cabinet::open(files(rt), area);
     let number = list_cabinet::number_of(c);
     if number != 0 {
-        return say_refused(number);
+        return say_refused(rt, number);
     }
-    answer(c)
+    answer(rt, c)
 }
 
 // Answers, or says why not; false where the words are wrong.
-pub(crate) fn answered() -> bool {
-    let a = area();
+pub(crate) fn answered(rt: &HostRuntime) -> bool {
+    let a = area(rt);
     if a.number != 0 {
         return false;
     }
-    if !answer_all(a.value) {
-        os::fail(b"standard output");
+    if let Err(error) = answer_all(rt, a.value) {
+        say_failed(b"standard output", Some(error));
     }
     true
 }

@@ -3,9 +3,10 @@
 use crate::output::{say_refused, write_line};
 use crate::words::take_word;
 use inquire_holds::{Call, Opened};
-use libc::STDIN_FILENO;
 use plan_holds::Holds;
+use program_calls::{say_failed, word_count};
 use request_texts::Value;
+use std::io::{Error, Result};
 
 // The index of GROUP among the words, and that of the first call.
 const GROUP: usize = 2;
@@ -19,124 +20,116 @@ pub(crate) fn usage(fd: i32) {
     );
 }
 
-fn group() -> Value {
+fn group(rt: &HostRuntime) -> Value {
     let mut word = io::buffer();
-    let n = take_word(GROUP, &mut word);
+    let n = take_word(rt, GROUP, &mut word);
     inquire_holds::words::number_alone(&word[..n])
 }
 
-fn call(i: usize) -> Call {
+fn call(rt: &HostRuntime, i: usize) -> Call {
     let mut word = io::buffer();
-    let n = take_word(i, &mut word);
+    let n = take_word(rt, i, &mut word);
     inquire_holds::words::call_of(&word[..n])
 }
 
 // Whether every word from the first call on says one.
-fn all_calls() -> bool {
-    let count = os::arg_count();
+fn all_calls(rt: &HostRuntime) -> bool {
+    let count = word_count(rt);
     let mut good = true;
     let mut i = CALLS;
     while i < count && good {
-        let c = call(i);
+        let c = call(rt, i);
         good = c.number == 0;
         i += 1;
     }
     good
 }
 
-fn say_answer(release: bool, number: u32) -> bool {
+fn say_answer<P: Print>(rt: &P, release: bool, number: u32) -> Result<()> {
     let mut line = io::buffer();
     let w = table_lines::put_answer(release, number as u64, &mut line, 0);
-    write_line(w, &line)
+    write_line(rt, w, &line)
 }
 
-fn say_run(held: bool, start: u32, count: u32) -> bool {
+fn say_run<P: Print>(rt: &P, held: bool, start: u32, count: u32) -> Result<()> {
     let mut line = io::buffer();
     let w = table_lines::put_run(held, start as u64, count as u64, &mut line, 0);
-    write_line(w, &line)
+    write_line(rt, w, &line)
 }
 
 // The free records in order.
-fn say_free(s: Holds) -> bool {
+fn say_free<P: Print>(rt: &P, s: Holds) -> Result<()> {
     let free = s.free;
     let n = free.len;
     if 64 < n {
-        return false;
+        return Err(Error::other("more free records than there is room for"));
     }
     let mut i = 0;
     while i < n {
         let r = free.recs[i];
-        if !say_run(false, r.start, r.count) {
-            return false;
-        }
+        say_run(rt, false, r.start, r.count)?;
         i += 1;
     }
-    true
+    Ok(())
 }
 
 // The runs held, in order.
-fn say_held(s: Holds) -> bool {
+fn say_held<P: Print>(rt: &P, s: Holds) -> Result<()> {
     let held = s.held;
     let n = held.len;
     if 8 < n {
-        return false;
+        return Err(Error::other("more runs held than there is room for"));
     }
     let mut i = 0;
     while i < n {
         let r = held.recs[i];
-        if !say_run(true, r.start, r.count) {
-            return false;
-        }
+        say_run(rt, true, r.start, r.count)?;
         i += 1;
     }
-    true
+    Ok(())
 }
 
-// Makes the calls one after the other, then says what they leave; false where a write failed.
-fn answer(o: Opened) -> bool {
+// Makes the calls one after the other, then says what they leave; an error where a write failed.
+fn answer(rt: &HostRuntime, o: Opened) -> Result<()> {
     let g = o.geometry;
     let mut s = o.state;
-    let count = os::arg_count();
+    let count = word_count(rt);
     let mut i = CALLS;
     while i < count {
-        let c = call(i);
+        let c = call(rt, i);
         let t = inquire_holds::step(g, s, c);
-        if !say_answer(c.release, t.number) {
-            return false;
-        }
+        say_answer(rt, c.release, t.number)?;
         s = t.state;
         i += 1;
     }
-    if say_free(s) {
-        return say_held(s);
-    }
-    false
+    say_free(rt, s)?;
+    say_held(rt, s)
 }
 
-// Reads the records and answers; false where a write failed.
-fn inquire(agno: u64, input: &[u8]) -> bool {
+// Reads the records and answers; an error where a write failed.
+fn inquire(rt: &HostRuntime, agno: u64, input: &[u8]) -> Result<()> {
     let o = inquire_holds::open(input, agno);
     if o.number != 0 {
-        return say_refused(o.number);
+        return say_refused(rt, o.number);
     }
-    answer(o)
+    answer(rt, o)
 }
 
 // Answers, or says why not; false where the words are wrong.
-pub(crate) fn answered() -> bool {
-    let agno = group();
-    if agno.number != 0 || !all_calls() {
+pub(crate) fn answered(rt: &HostRuntime) -> bool {
+    let agno = group(rt);
+    if agno.number != 0 || !all_calls(rt) {
         return false;
     }
     let mut input = request::input_buffer();
-    let i = input_bytes::read_input(STDIN_FILENO, &mut input);
-    if i.failed {
-        os::fail(b"standard input");
+    let i = input_bytes::read_input(&mut rt.stdin(), &mut input);
+    if i.failed.is_some() {
+        say_failed(b"standard input", i.failed);
         return true;
     }
     let n = i.n;
-    if !inquire(agno.value, &input[..n]) {
-        os::fail(b"standard output");
+    if let Err(error) = inquire(rt, agno.value, &input[..n]) {
+        say_failed(b"standard output", Some(error));
     }
     true
 }

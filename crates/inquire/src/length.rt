@@ -2,8 +2,9 @@
 // `inquire_lines`'.
 use crate::output::{say_refused, write_line};
 use inquire_lines::put_size;
-use libc::STDIN_FILENO;
 use list_size::{ListSize, list_size};
+use program_calls::{say_failed, word_count};
+use std::io::Result;
 
 pub(crate) fn usage(fd: i32) {
     io::write_all(
@@ -12,35 +13,35 @@ pub(crate) fn usage(fd: i32) {
     );
 }
 
-fn say_size(s: ListSize) -> bool {
+fn say_size<P: Print>(rt: &P, s: ListSize) -> Result<()> {
     let mut line = io::buffer();
     let w = put_size(s, &mut line, 0);
-    write_line(w, &line)
+    write_line(rt, w, &line)
 }
 
-// False where a write failed.
-fn answer(input: &[u8]) -> bool {
+// An error where a write failed.
+fn answer<P: Print>(rt: &P, input: &[u8]) -> Result<()> {
     let s = list_size(input);
     if s.number != 0 {
-        return say_refused(s.number);
+        return say_refused(rt, s.number);
     }
-    say_size(s)
+    say_size(rt, s)
 }
 
 // Answers, or says why not; false where the words are wrong.
-pub(crate) fn answered() -> bool {
-    if os::arg_count() != 2 {
+pub(crate) fn answered(rt: &HostRuntime) -> bool {
+    if word_count(rt) != 2 {
         return false;
     }
     let mut input = request::input_buffer();
-    let i = input_bytes::read_input(STDIN_FILENO, &mut input);
-    if i.failed {
-        os::fail(b"standard input");
+    let i = input_bytes::read_input(&mut rt.stdin(), &mut input);
+    if i.failed.is_some() {
+        say_failed(b"standard input", i.failed);
         return true;
     }
     let n = i.n;
-    if !answer(&input[..n]) {
-        os::fail(b"standard output");
+    if let Err(error) = answer(rt, &input[..n]) {
+        say_failed(b"standard output", Some(error));
     }
     true
 }

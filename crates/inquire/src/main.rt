@@ -10,7 +10,7 @@ mod sizes; // whether every device size of a range is formatted
 mod smallest; // the smallest device size that leaves so many free blocks
 mod words; // the program's words
 
-use libc::{STDERR_FILENO, STDOUT_FILENO};
+use program_calls::{STDERR_FILENO, STDOUT_FILENO};
 
 fn usage(fd: i32) {
     length::usage(fd);
@@ -21,31 +21,31 @@ fn usage(fd: i32) {
 }
 
 // Answers the question that the words ask; false where they ask none.
-fn answered() -> bool {
-    if words::is_word(1, b"length") {
-        return length::answered();
+fn answered(rt: &HostRuntime) -> bool {
+    if words::is_word(rt, 1, b"length") {
+        return length::answered(rt);
     }
-    if words::is_word(1, b"cabinet") {
-        return cabinet::answered();
+    if words::is_word(rt, 1, b"cabinet") {
+        return cabinet::answered(rt);
     }
-    if words::is_word(1, b"holds") {
-        return holds::answered();
+    if words::is_word(rt, 1, b"holds") {
+        return holds::answered(rt);
     }
-    if words::is_word(1, b"sizes") {
-        return sizes::answered();
+    if words::is_word(rt, 1, b"sizes") {
+        return sizes::answered(rt);
     }
-    if words::is_word(1, b"smallest") {
-        return smallest::answered();
+    if words::is_word(rt, 1, b"smallest") {
+        return smallest::answered(rt);
     }
     false
 }
 
-fn main() {
-    if words::is_word(1, b"--help") {
+fn main(rt: HostRuntime) {
+    if words::is_word(&rt, 1, b"--help") {
         usage(STDOUT_FILENO);
         return;
     }
-    if !answered() {
+    if !answered(&rt) {
         usage(STDERR_FILENO);
     }
 }

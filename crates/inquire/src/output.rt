@@ -1,21 +1,21 @@
 // Lines on standard output.
-use libc::STDOUT_FILENO;
 use refusal_print::say_refusal;
+use std::io::{Error, Result};
 use table_lines::Written;
 
-// Writes the line; false where that failed.
-pub(crate) fn write_line(w: Written, line: &[u8]) -> bool {
+// Writes the line.
+pub(crate) fn write_line<P: Print>(rt: &P, w: Written, line: &[u8]) -> Result<()> {
     let end = w.end;
     if end <= line.len() {
-        return io::write_all(STDOUT_FILENO, &line[..end]);
+        return rt.write_all(&line[..end]);
     }
-    false
+    Err(Error::other("the line ends behind its buffer"))
 }
 
 // `refused` and the number, and its sentence on standard error.
-pub(crate) fn say_refused(number: u32) -> bool {
+pub(crate) fn say_refused<P: Print>(rt: &P, number: u32) -> Result<()> {
     let mut line = io::buffer();
     say_refusal(number);
     let w = table_lines::put_refused(number as u64, &mut line, 0);
-    write_line(w, &line)
+    write_line(rt, w, &line)
 }

@@ -3,7 +3,8 @@
 use crate::output::{say_refused, write_line};
 use crate::words::size;
 use inquire_sizes::Range;
-use libc::STDIN_FILENO;
+use program_calls::{say_failed, word_count};
+use std::io::Result;
 
 // The indices of the two words, and how many words there are.
 const SMALLEST: usize = 2;
@@ -19,46 +20,47 @@ pub(crate) fn usage(fd: i32) {
     );
 }
 
-fn say_formatted() -> bool {
+fn say_formatted<P: Print>(rt: &P) -> Result<()> {
     let mut line = io::buffer();
     let w = inquire_lines::put_word(b"formatted", &mut line, 0);
-    write_line(w, &line)
+    write_line(rt, w, &line)
 }
 
 // The smallest refused size, and its number.
-fn say_size(blocks: u64, number: u32) -> bool {
+fn say_size<P: Print>(rt: &P, blocks: u64, number: u32) -> Result<()> {
     let mut line = io::buffer();
     let w = inquire_lines::put_item(b"blocks", blocks, false, &mut line, 0);
     let v = inquire_lines::put_item(b"refused", number as u64, true, &mut line, w.end);
-    write_line(v, &line)
+    write_line(rt, v, &line)
 }
 
-fn say(r: Range) -> bool {
+fn say<P: Print>(rt: &P, r: Range) -> Result<()> {
     if r.number != 0 {
-        return say_refused(r.number);
+        return say_refused(rt, r.number);
     }
     if r.refusal != 0 {
-        return say_size(r.blocks, r.refusal);
+        return say_size(rt, r.blocks, r.refusal);
     }
-    say_formatted()
+    say_formatted(rt)
 }
 
 // Answers, or says why not; false where the words are wrong.
-pub(crate) fn answered() -> bool {
-    let smallest = size(SMALLEST);
-    let largest = size(LARGEST);
-    if os::arg_count() != WORDS || smallest.number != 0 || largest.number != 0 {
+pub(crate) fn answered(rt: &HostRuntime) -> bool {
+    let smallest = size(rt, SMALLEST);
+    let largest = size(rt, LARGEST);
+    if word_count(rt) != WORDS || smallest.number != 0 || largest.number != 0 {
         return false;
     }
     let mut input = request::input_buffer();
-    let i = input_bytes::read_input(STDIN_FILENO, &mut input);
-    if i.failed {
-        os::fail(b"standard input");
+    let i = input_bytes::read_input(&mut rt.stdin(), &mut input);
+    if i.failed.is_some() {
+        say_failed(b"standard input", i.failed);
         return true;
     }
     let n = i.n;
-    if !say(inquire_sizes::sizes_of(&input[..n], smallest.value, largest.value)) {
-        os::fail(b"standard output");
+    let r = inquire_sizes::sizes_of(&input[..n], smallest.value, largest.value);
+    if let Err(error) = say(rt, r) {
+        say_failed(b"standard output", Some(error));
     }
     true
 }

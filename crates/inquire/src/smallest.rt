@@ -3,7 +3,8 @@
 use crate::output::{say_refused, write_line};
 use crate::words::{number, size};
 use inquire_smallest::Found;
-use libc::STDIN_FILENO;
+use program_calls::{say_failed, word_count};
+use std::io::Result;
 
 // The indices of the three words, and how many words there are.
 const START: usize = 2;
@@ -21,37 +22,38 @@ pub(crate) fn usage(fd: i32) {
     );
 }
 
-fn say(f: Found) -> bool {
+fn say<P: Print>(rt: &P, f: Found) -> Result<()> {
     if f.number != 0 {
-        return say_refused(f.number);
+        return say_refused(rt, f.number);
     }
     let mut line = io::buffer();
     let w = inquire_lines::put_item(b"size", f.size, true, &mut line, 0);
-    write_line(w, &line)
+    write_line(rt, w, &line)
 }
 
 // Reads the records and answers, or says why not.
-fn answer(start: u64, count: u64, wanted: u64) {
+fn answer(rt: &HostRuntime, start: u64, count: u64, wanted: u64) {
     let mut input = request::input_buffer();
-    let i = input_bytes::read_input(STDIN_FILENO, &mut input);
-    if i.failed {
-        os::fail(b"standard input");
+    let i = input_bytes::read_input(&mut rt.stdin(), &mut input);
+    if i.failed.is_some() {
+        say_failed(b"standard input", i.failed);
         return;
     }
     let n = i.n;
-    if !say(inquire_smallest::smallest_of(&input[..n], start, count, wanted)) {
-        os::fail(b"standard output");
+    let f = inquire_smallest::smallest_of(&input[..n], start, count, wanted);
+    if let Err(error) = say(rt, f) {
+        say_failed(b"standard output", Some(error));
     }
 }
 
 // Answers; false where the words are wrong.
-pub(crate) fn answered() -> bool {
-    let start = size(START);
-    let count = number(COUNT);
-    let wanted = number(WANTED);
-    if os::arg_count() != WORDS || start.number != 0 || count.number != 0 || wanted.number != 0 {
+pub(crate) fn answered(rt: &HostRuntime) -> bool {
+    let start = size(rt, START);
+    let count = number(rt, COUNT);
+    let wanted = number(rt, WANTED);
+    if word_count(rt) != WORDS || start.number != 0 || count.number != 0 || wanted.number != 0 {
         return false;
     }
-    answer(start.value, count.value, wanted.value);
+    answer(rt, start.value, count.value, wanted.value);
     true
 }
