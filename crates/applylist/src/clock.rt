@@ -1,6 +1,7 @@
 // A line of progress on standard error, where that is a terminal and the list takes longer than a second.
-use device_sizes::bytes_to;
-use libc::STDERR_FILENO;
+use program_calls::STDERR_FILENO;
+use std::io::IsTerminal;
+use std::time;
 
 // Whether lines are shown, whether one was, and the second of the start or of the last one.
 #[derive(Clone, Copy)]
@@ -10,18 +11,19 @@ pub(crate) struct Clock {
     last: u64,
 }
 
-// The system's clock, in seconds.
-fn now() -> u64 {
-    let mut t: i64 = 0;
-    libc::time(&mut t);
-    bytes_to(t)
+// The system's clock, in seconds; 0 where it can't be read.
+fn now<C: time::Clock>(rt: &C) -> u64 {
+    match rt.since_1970() {
+        Ok(t) => t.as_secs(),
+        Err(_) => 0,
+    }
 }
 
-pub(crate) fn start() -> Clock {
+pub(crate) fn start(rt: &HostRuntime) -> Clock {
     Clock {
-        terminal: libc::isatty(STDERR_FILENO) == 1,
+        terminal: rt.stderr().is_terminal(),
         shown: false,
-        last: now(),
+        last: now(rt),
     }
 }
 
@@ -33,12 +35,12 @@ fn say(record: u64) {
 
 impl Clock {
     // Shows the record in hand, a second after the last line at the earliest.
-    pub(crate) fn show(self, record: u64) -> Clock {
+    pub(crate) fn show<C: time::Clock>(self, rt: &C, record: u64) -> Clock {
         if !self.terminal {
             return self;
         }
-        let t = now();
-        if t <= std::num::wrapping_add_u64(self.last, 1) {
+        let t = now(rt);
+        if t <= self.last.wrapping_add(1) {
             return self;
         }
         say(record);

@@ -1,19 +1,12 @@
 // Whether a file or device is empty: it holds nothing but zeros at its ends, or, as a plain file, nothing at all.
 ghost use Rattle.std.specs.Prelude.{◌≡◌, length};
 
-use libc::{SEEK_END, SEEK_SET};
 use list_holes::is_blank;
-
-// What lseek is asked for the first data, and its error where there is none.
-const SEEK_DATA: i32 = 3;
-
-const ENXIO: i32 = 6;
+use std::fs::File;
+use std::os::unix::fs::{FileExt, MetadataExt};
 
 // How many bytes an end has: the first and the last 128 KiB.
 const END: u64 = 131072;
-
-// The place of the last ones, counted from the end.
-const BACK: i64 = -131072;
 
 // Room for one end.
 fn one_end() -> [u8; 131072]
@@ -22,40 +15,40 @@ fn one_end() -> [u8; 131072]
     [0; 131072]
 }
 
-// Whether the next bytes are there, as many as are lent, and all of them are zero.
-fn is_blank_next(fd: i32, buf: &mut [u8]) -> bool {
-    let n = io::read_full(fd, buf);
-    if n < buf.len() {
-        return false;
+// Whether the bytes from the offset on are there, as many as are lent, and all of them are zero.
+pub(crate) fn is_blank_at(file: &File, at: u64, buf: &mut [u8]) -> bool {
+    match file.read_exact_at(buf, at) {
+        Ok(()) => is_blank(buf),
+        Err(_) => false,
     }
-    is_blank(buf)
 }
 
-// The same of the next 128 KiB.
-fn is_blank_end(fd: i32) -> bool {
+// The same of 128 KiB.
+fn is_blank_end(file: &File, at: u64) -> bool {
     let mut bytes = one_end();
-    is_blank_next(fd, &mut bytes)
+    is_blank_at(file, at, &mut bytes)
 }
 
 // Whether both ends hold zeros alone; bytes that can't be read aren't zeros. No list fits a file that is shorter than one end.
-pub(crate) fn are_blank(fd: i32, size: u64) -> bool {
+pub(crate) fn are_blank(file: &File, size: u64) -> bool {
     if size < END {
         return true;
     }
-    if libc::lseek(fd, 0, SEEK_SET) < 0 {
+    if !is_blank_end(file, 0) {
         return false;
     }
-    if !is_blank_end(fd) {
-        return false;
-    }
-    if libc::lseek(fd, BACK, SEEK_END) < 0 {
-        return false;
-    }
-    is_blank_end(fd)
+    is_blank_end(file, size - END)
 }
 
-// Whether a plain file is one hole, so that it holds no data at all.
-pub(crate) fn is_hole(fd: i32) -> bool {
-    let data = libc::lseek(fd, 0, SEEK_DATA);
-    data < 0 && os::errno() == ENXIO
+// Whether it is a plain file for which the system keeps no block, so that it holds no data at all.
+fn has_no_block(file: &File) -> bool {
+    match file.metadata() {
+        Ok(m) => m.is_file() && m.blocks() == 0,
+        Err(_) => false,
+    }
+}
+
+// Whether a plain file is one hole. Its ends are read too, since some systems count no blocks.
+pub(crate) fn is_hole(file: &File, size: u64) -> bool {
+    has_no_block(file) && are_blank(file, size)
 }

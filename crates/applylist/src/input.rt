@@ -2,15 +2,15 @@
 ghost use Rattle.std.specs.Prelude.{◌+◌, ◌<◌, ◌≤◌, length};
 
 use arith::numbers::min_usize;
-use libc::STDIN_FILENO;
+use std::io::{Error, Read};
 
-// How many bytes were read, whether there may be more, and whether a read failed.
+// How many bytes were read, whether there may be more, and why a read failed, if one did.
 // `used` counts the bytes that were read ahead and are taken.
 #[derive(Clone, Copy)]
 pub(crate) struct Input {
     pub(crate) n: usize,
     pub(crate) more: bool,
-    pub(crate) failed: bool,
+    pub(crate) failed: Option<Error>,
     pub(crate) used: usize,
 }
 
@@ -20,7 +20,7 @@ fn nothing(used: usize) -> Input
     Input {
         n: 0,
         more: false,
-        failed: false,
+        failed: None,
         used,
     }
 }
@@ -35,13 +35,20 @@ fn take_ahead(ahead: &[u8], used: usize, n: usize, want: usize, buf: &mut [u8]) 
     Input {
         n: n + k,
         more: true,
-        failed: false,
+        failed: None,
         used: used + k,
     }
 }
 
 // Reads once, behind the first `n` bytes and up to `want` of them.
-fn read_more(ahead: &[u8], used: usize, n: usize, want: usize, buf: &mut [u8]) -> Input
+fn read_more<R: Read>(
+    list: &mut R,
+    ahead: &[u8],
+    used: usize,
+    n: usize,
+    want: usize,
+    buf: &mut [u8],
+) -> Input
     requires { (n ≤ want) × (want ≤ length buf.old) }
     ensures { result.n ≤ want }
 {
@@ -49,37 +56,57 @@ fn read_more(ahead: &[u8], used: usize, n: usize, want: usize, buf: &mut [u8]) -
         return take_ahead(ahead, used, n, want, buf);
     }
     let rest = &mut buf[n..want];
-    let got = libc::read(STDIN_FILENO, rest);
-    let read = io::count(got, rest);
-    Input {
-        n: n + read,
-        more: 0 < read,
-        failed: got < 0,
-        used,
+    match list.read(rest) {
+        Ok(read) => Input {
+            n: n + read,
+            more: 0 < read,
+            failed: None,
+            used,
+        },
+        Err(error) => Input {
+            n,
+            more: false,
+            failed: Some(error),
+            used,
+        },
     }
 }
 
 // Reads behind the first `n` bytes until there are `want` or the input ends. Every turn but the last reads a byte at least.
-fn fill(ahead: &[u8], used: usize, n: usize, want: usize, buf: &mut [u8]) -> Input
+fn fill<R: Read>(
+    list: &mut R,
+    ahead: &[u8],
+    used: usize,
+    n: usize,
+    want: usize,
+    buf: &mut [u8],
+) -> Input
     requires { (n ≤ want) × (want ≤ length buf.old) }
     ensures { result.n ≤ want }
 {
     let mut i = Input {
         n,
         more: true,
-        failed: false,
+        failed: None,
         used,
     };
     let mut turns = want - n;
     while 0 < turns && i.more && i.n < want {
-        i = read_more(ahead, i.used, i.n, want, buf);
+        i = read_more(list, ahead, i.used, i.n, want, buf);
         turns -= 1;
     }
     i
 }
 
 // The same without a condition; where the buffer is too short, nothing is read.
-pub(crate) fn fill_wanted(ahead: &[u8], used: usize, n: usize, want: usize, buf: &mut [u8]) -> Input
+pub(crate) fn fill_wanted<R: Read>(
+    list: &mut R,
+    ahead: &[u8],
+    used: usize,
+    n: usize,
+    want: usize,
+    buf: &mut [u8],
+) -> Input
     ensures { result.n ≤ length buf.new }
 {
     if want < n {
@@ -88,5 +115,5 @@ pub(crate) fn fill_wanted(ahead: &[u8], used: usize, n: usize, want: usize, buf:
     if buf.len() < want {
         return nothing(used);
     }
-    fill(ahead, used, n, want, buf)
+    fill(list, ahead, used, n, want, buf)
 }

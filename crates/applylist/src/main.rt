@@ -13,15 +13,18 @@ ghost use Rattle.std.specs.Prelude.{◌≡◌, ◌≤◌, length};
 ghost use Rattle.list_apply.specs.Applying.{applying_begun};
 ghost use Rattle.list_apply_laws.specs.Turns.{Fed};
 
-use device_sizes::bytes_to;
-use libc::{SEEK_END, STDERR_FILENO, STDOUT_FILENO};
 use list_apply::{
     Applying, BEHIND, CUT, ENDED, FIRST, GOES_ON, MALFORMED, Step, TOO_FAR, begin, feed, kept_of,
     record_of, stop_of, wants,
 };
 use list_read::{BYTES, FLUSH, ZEROS};
 use list_sector::{below_logical, enough};
-use output::{Piece, done};
+use program_calls::{
+    STDERR_FILENO, STDOUT_FILENO, fill_error, open_update, say_failed, take_word, word_count,
+};
+use std::env::Env;
+use std::fs::File;
+use std::io::{Error, Read, Seek, SeekFrom, Write};
 
 // What a file or device may hold: anything, nothing at its ends, or, as a plain file, nothing at all.
 const ANYTHING: u8 = 0;
@@ -30,23 +33,24 @@ const BLANK: u8 = 1;
 
 const HOLE: u8 = 2;
 
-// What became of a piece: it is done, or the call that failed.
-pub(crate) const DONE: u8 = 0;
+// The end of the largest file.
+const LARGEST: u64 = 0x7fff_ffff_ffff_ffff;
 
-pub(crate) const READ_FAILED: u8 = 1;
-
-pub(crate) const WRITE_FAILED: u8 = 2;
-
-pub(crate) const NOTHING_TAKEN: u8 = 3; // a write that took no byte, and named no error
-
-pub(crate) const FLUSH_FAILED: u8 = 4;
+// The call that failed, and why, where the system said so.
+#[derive(Clone, Copy)]
+pub(crate) enum Failed {
+    Read(Error),
+    Write(Option<Error>),
+    NothingTaken, // a write that took no byte, and named no error
+    Flush(Error),
+}
 
 // The list so far, which call failed, the record in hand or at which it failed, whether the list goes on, how many of the bytes that were
-// read ahead are used, and, behind zeros in a hole of the file, where that hole ends.
+// read ahead are used, and, behind zeros that stood in the file already, where they end.
 #[derive(Clone, Copy)]
 struct Progress {
     applying: Applying,
-    failed: u8,
+    failed: Option<Failed>,
     record: u64,
     goes_on: bool,
     used: usize,
@@ -54,29 +58,38 @@ struct Progress {
 }
 
 // Zeros, and then a flush.
-fn put_and_flush(fd: i32, zeros: &[u8], len: usize, at: u64, extends: bool) -> u8 {
-    let failed = output::put_zeros(fd, zeros, len as u64, at, extends);
-    if failed != DONE {
-        return failed;
-    }
-    output::flush(fd)
+fn put_and_flush(
+    file: &File,
+    zeros: &[u8],
+    len: usize,
+    at: u64,
+    fills: bool,
+) -> Result<(), Failed> {
+    output::put_zeros(file, zeros, len as u64, at, fills)?;
+    output::flush(file)
 }
 
-// What a step asks for: the first record's zeros and a flush, zeros, the bytes that were read, or a flush.
-fn perform(fd: i32, extends: bool, s: Step, until: u64, zeros: &[u8], buf: &[u8]) -> Piece {
-    if s.action == FIRST {
-        return done(put_and_flush(fd, zeros, s.len, s.at, extends));
-    }
-    if s.action == FLUSH {
-        return done(output::flush(fd));
-    }
+// What a step asks for: the first record's zeros and a flush, zeros, the bytes that were read, or a flush. The answer is where zeros end
+// that stood in the file already, else 0.
+fn perform(
+    file: &File,
+    fills: bool,
+    s: Step,
+    until: u64,
+    zeros: &[u8],
+    buf: &[u8],
+) -> Result<u64, Failed> {
     if s.action == ZEROS {
-        return output::put_blank(fd, zeros, s.len, s.at, extends, until);
+        return output::put_blank(file, zeros, s.len, s.at, fills, until);
     }
-    if s.action == BYTES {
-        return done(output::put_bytes(fd, buf, s.len, s.at));
+    if s.action == FIRST {
+        put_and_flush(file, zeros, s.len, s.at, fills)?;
+    } else if s.action == FLUSH {
+        output::flush(file)?;
+    } else if s.action == BYTES {
+        output::put_bytes(file, buf, s.len, s.at)?;
     }
-    done(DONE)
+    Ok(0)
 }
 
 // The record that a step is for.
@@ -88,12 +101,12 @@ fn record_for(a: Applying, action: u8) -> u64 {
 }
 
 // A call failed, at this record: the list stays where it was.
-fn halted(a: Applying, failed: u8, record: u64) -> Progress
+fn halted(a: Applying, failed: Failed, record: u64) -> Progress
     ensures { result.applying ≡ a }
 {
     Progress {
         applying: a,
-        failed,
+        failed: Some(failed),
         record,
         goes_on: false,
         used: 0,
@@ -103,8 +116,8 @@ fn halted(a: Applying, failed: u8, record: u64) -> Progress
 
 // Feeds the first n bytes of the buffer, and does what they ask for.
 fn feed_first(
-    fd: i32,
-    extends: bool,
+    file: &File,
+    fills: bool,
     a: Applying,
     n: usize,
     used: usize,
@@ -116,25 +129,27 @@ fn feed_first(
     ensures { Fed (length buf.now) a result.applying }
 {
     let s = feed(a, &buf[..n], buf.len());
-    let piece = perform(fd, extends, s, until, zeros, buf);
-    if piece.failed != DONE {
-        return halted(a, piece.failed, record_for(a, s.action));
-    }
-    let next = s.applying;
-    Progress {
-        applying: next,
-        failed: DONE,
-        record: record_of(next),
-        goes_on: stop_of(next) == GOES_ON,
-        used,
-        until: piece.until,
+    match perform(file, fills, s, until, zeros, buf) {
+        Ok(end) => {
+            let next = s.applying;
+            Progress {
+                applying: next,
+                failed: None,
+                record: record_of(next),
+                goes_on: stop_of(next) == GOES_ON,
+                used,
+                until: end,
+            }
+        }
+        Err(failed) => halted(a, failed, record_for(a, s.action)),
     }
 }
 
 // Reads what is wanted, behind what is kept of it, and feeds it.
-fn take_turn(
-    fd: i32,
-    extends: bool,
+fn take_turn<R: Read>(
+    list: &mut R,
+    file: &File,
+    fills: bool,
     a: Applying,
     ahead: &[u8],
     used: usize,
@@ -144,43 +159,52 @@ fn take_turn(
 ) -> Progress
     ensures { Fed (length buf.old) a result.applying }
 {
-    let i = input::fill_wanted(ahead, used, kept_of(a), wants(a, buf.len()), buf);
-    if i.failed {
-        return halted(a, READ_FAILED, record_of(a));
+    let i = input::fill_wanted(list, ahead, used, kept_of(a), wants(a, buf.len()), buf);
+    if let Some(error) = i.failed {
+        return halted(a, Failed::Read(error), record_of(a));
     }
-    feed_first(fd, extends, a, i.n, i.used, until, zeros, buf)
+    feed_first(file, fills, a, i.n, i.used, until, zeros, buf)
 }
 
 // All records, as far as the limit. A proved loop has to end, so it counts its turns down from a number that no list uses up.
-fn apply(fd: i32, extends: bool, limit: u64, ahead: &[u8], zeros: &[u8], buf: &mut [u8]) -> Progress
+fn apply(
+    rt: &HostRuntime,
+    file: &File,
+    fills: bool,
+    limit: u64,
+    ahead: &[u8],
+    zeros: &[u8],
+    buf: &mut [u8],
+) -> Progress
     ensures { Fed (length buf.old) (applying_begun limit) result.applying }
 {
     let mut p = Progress {
         applying: begin(limit),
-        failed: DONE,
+        failed: None,
         record: 1,
         goes_on: true,
         used: 0,
         until: 0,
     };
-    let mut clock = clock::start();
+    let mut list = rt.stdin();
+    let mut clock = clock::start(rt);
     let mut turns = u64::MAX;
     while 0 < turns && p.goes_on {
-        p = take_turn(fd, extends, p.applying, ahead, p.used, p.until, zeros, buf);
-        clock = clock.show(p.record);
+        p = take_turn(&mut list, file, fills, p.applying, ahead, p.used, p.until, zeros, buf);
+        clock = clock.show(rt, p.record);
         turns -= 1;
     }
     clock.end();
     p
 }
 
-// The call that failed and its error, before any other call, while errno is still that call's.
-fn name_error(failed: u8) {
+// The call that failed and its error.
+fn name_error(failed: Failed) {
     match failed {
-        READ_FAILED => os::fail(b"standard input"),
-        WRITE_FAILED => os::fail(b"write"),
-        FLUSH_FAILED => os::fail(b"flush"),
-        _ => {}
+        Failed::Read(error) => say_failed(b"standard input", Some(error)),
+        Failed::Write(error) => say_failed(b"write", error),
+        Failed::NothingTaken => {}
+        Failed::Flush(error) => say_failed(b"flush", Some(error)),
     }
 }
 
@@ -190,10 +214,10 @@ fn print_record(record: u64) {
 }
 
 // A call that failed, on standard error: at which record.
-fn report_failed(failed: u8, record: u64) {
+fn report_failed(failed: Failed, record: u64) {
     name_error(failed);
     print_record(record);
-    if failed == NOTHING_TAKEN {
+    if let Failed::NothingTaken = failed {
         io::write_all(STDERR_FILENO, b": no room\n");
         return;
     }
@@ -226,29 +250,32 @@ fn report_stopped(stop: u8, record: u64) {
 }
 
 // A line that ends with the number of the last record that was applied.
-fn print_last(fd: i32, words: &[u8], record: u64) -> bool {
-    let n = std::num::wrapping_sub_u64(record, 1);
-    io::write_all(fd, words) && io::print_decimal(fd, n) && io::write_all(fd, b"\n")
+fn print_last<W: Write>(out: &mut W, words: &[u8], record: u64) -> std::io::Result<()> {
+    let mut number = [0u8; 20];
+    let n = io::decimal(record.wrapping_sub(1), &mut number);
+    out.write_all(words)?;
+    out.write_all(&number[..n])?;
+    out.write_all(b"\n")
 }
 
 // The list's last word: how many records it had, on standard output, once all are applied.
-fn finish(p: Progress) {
+fn finish(rt: &HostRuntime, p: Progress) {
     let record = p.record;
-    if p.failed != DONE {
-        report_failed(p.failed, record);
+    if let Some(failed) = p.failed {
+        report_failed(failed, record);
         return;
     }
     let stop = stop_of(p.applying);
     if stop == CUT {
-        print_last(STDERR_FILENO, b"list cut after record ", record);
+        let _ = print_last(&mut rt.stderr(), b"list cut after record ", record);
         return;
     }
     if stop != ENDED {
         report_stopped(stop, record);
         return;
     }
-    if !print_last(STDOUT_FILENO, b"records applied: ", record) {
-        os::fail(b"standard output");
+    if let Err(error) = print_last(&mut rt.stdout(), b"records applied: ", record) {
+        say_failed(b"standard output", Some(error));
     }
 }
 
@@ -267,28 +294,36 @@ fn usage(fd: i32) {
     );
 }
 
-// Opens the file that argument i names; it has to be there.
-fn open(i: usize) -> i32 {
+// Opens the file at a path, or says why not; it has to be there.
+fn open_path(rt: &HostRuntime, path: &[u8]) -> Option<File> {
+    match open_update(rt, path) {
+        Ok(file) => Some(file),
+        Err(error) => {
+            io::write_all(STDERR_FILENO, b"open: ");
+            say_failed(path, Some(error));
+            None
+        }
+    }
+}
+
+// Opens the file that argument i names.
+fn open(rt: &HostRuntime, i: usize) -> Option<File> {
     let mut path = io::buffer();
-    let n = os::arg(i, &mut path);
-    if n == 0 && os::errno() != 0 {
-        os::fail(b"path");
-        return -1;
+    match rt.arg(i, &mut path) {
+        Ok(n) => open_path(rt, &path[..n]),
+        Err(error) => {
+            say_failed(b"path", Some(fill_error(error)));
+            None
+        }
     }
-    let fd = os::open_update(&path[..n]);
-    if fd < 0 {
-        io::write_all(STDERR_FILENO, b"open: ");
-        os::fail(&path[..n]);
-    }
-    fd
 }
 
 // Where the last byte may end: the end of the file or device, or of the largest file where it may be extended.
-fn limit_of(fd: i32, extends: bool) -> i64 {
+fn limit_of(mut file: &File, extends: bool) -> std::io::Result<u64> {
     if extends {
-        return i64::MAX;
+        return Ok(LARGEST);
     }
-    libc::lseek(fd, 0, SEEK_END)
+    file.seek(SeekFrom::End(0))
 }
 
 // As many bytes as one write has at most.
@@ -299,16 +334,17 @@ fn mebibyte() -> [u8; 1048576]
 }
 
 // Applies the list, of which some bytes were read ahead, to an open file or device.
-fn apply_from(fd: i32, extends: bool, limit: u64, ahead: &[u8]) {
+fn apply_from(rt: &HostRuntime, file: &File, fills: bool, limit: u64, ahead: &[u8]) {
     let zeros = mebibyte();
     let mut buf = mebibyte();
-    let p = apply(fd, extends, limit, ahead, &zeros, &mut buf);
-    finish(p);
+    let p = apply(rt, file, fills, limit, ahead, &zeros, &mut buf);
+    finish(rt, p);
 }
 
-// The list's first bytes are held back until they say that its sectors aren't smaller than the device's.
-fn apply_to_device(fd: i32, extends: bool, limit: u64, path: &[u8]) {
-    let sizes = device_sizes::sizes_of(fd);
+// The list's first bytes are held back until they say that its sectors aren't smaller than the device's. A device has no holes: zeros are
+// always written.
+fn apply_to_device(rt: &HostRuntime, file: &File, limit: u64, path: &[u8]) {
+    let sizes = device_sizes::sizes_of(rt, file);
     if sizes.failed != 0 {
         io::write_all(STDERR_FILENO, path);
         io::write_all(STDERR_FILENO, b": its sectors can't be read\n");
@@ -317,9 +353,9 @@ fn apply_to_device(fd: i32, extends: bool, limit: u64, path: &[u8]) {
     let none = [0u8; 1];
     let mut ahead = io::large_buffer();
     let want = enough();
-    let i = input::fill_wanted(&none, 1, 0, want, &mut ahead);
-    if i.failed {
-        os::fail(b"standard input");
+    let i = input::fill_wanted(&mut rt.stdin(), &none, 1, 0, want, &mut ahead);
+    if i.failed.is_some() {
+        say_failed(b"standard input", i.failed);
         return;
     }
     let n = i.n;
@@ -330,80 +366,80 @@ fn apply_to_device(fd: i32, extends: bool, limit: u64, path: &[u8]) {
         );
         return;
     }
-    apply_from(fd, extends, limit, &ahead[..n]);
+    apply_from(rt, file, true, limit, &ahead[..n]);
 }
 
 // Whether the file or device is as empty as it has to be; that it isn't is said.
-fn is_empty(fd: i32, size: u64, empty: u8) -> bool {
-    if empty == BLANK && !ends::are_blank(fd, size) {
+fn is_empty(file: &File, size: u64, empty: u8) -> bool {
+    if empty == BLANK && !ends::are_blank(file, size) {
         io::write_all(
             STDOUT_FILENO,
             b"nothing applied: a byte of the first or last 128 KiB isn't zero\n",
         );
         return false;
     }
-    if empty == HOLE && !ends::is_hole(fd) {
+    if empty == HOLE && !ends::is_hole(file, size) {
         io::write_all(STDOUT_FILENO, b"nothing applied: not one hole\n");
         return false;
     }
     true
 }
 
-// Applies the list to an open file or device.
-fn apply_open(fd: i32, extends: bool, empty: u8, path: &[u8]) {
-    let end = limit_of(fd, extends);
-    if end < 0 {
-        os::fail(b"size");
+// Applies the list to an open file or device, whose last byte may end at `end`.
+fn apply_below(rt: &HostRuntime, file: &File, extends: bool, empty: u8, end: u64, path: &[u8]) {
+    if !is_empty(file, end, empty) {
         return;
     }
-    if !is_empty(fd, bytes_to(end), empty) {
-        return;
-    }
-    if device_sizes::is_device(fd) {
-        apply_to_device(fd, extends, bytes_to(end), path);
+    if device_sizes::is_device(file) {
+        apply_to_device(rt, file, end, path);
         return;
     }
     let none = [0u8; 1];
-    apply_from(fd, extends, bytes_to(end), &none[..0]);
+    apply_from(rt, file, extends, end, &none[..0]);
+}
+
+// Applies the list to an open file or device.
+fn apply_open(rt: &HostRuntime, file: &File, extends: bool, empty: u8, path: &[u8]) {
+    match limit_of(file, extends) {
+        Ok(end) => apply_below(rt, file, extends, empty, end, path),
+        Err(error) => say_failed(b"size", Some(error)),
+    }
 }
 
 // Applies the list to what argument i names, the last of `count` words.
-fn apply_to(i: usize, count: usize, extends: bool, empty: u8) {
-    if os::arg_count() != count {
+fn apply_to(rt: &HostRuntime, i: usize, count: usize, extends: bool, empty: u8) {
+    if word_count(rt) != count {
         usage(STDERR_FILENO);
         return;
     }
-    let fd = open(i);
-    if 0 <= fd {
+    if let Some(file) = open(rt, i) {
         let mut path = io::buffer();
-        let n = os::arg(i, &mut path);
-        apply_open(fd, extends, empty, &path[..n]);
+        let n = take_word(rt, i, &mut path);
+        apply_open(rt, &file, extends, empty, &path[..n]);
     }
 }
 
 // Whether the first argument is this word.
-fn is_word(word: &[u8]) -> bool {
-    let mut argument = io::buffer();
-    let n = os::arg(1, &mut argument);
-    check::same(&argument[..n], word)
+fn is_word(rt: &HostRuntime, word: &[u8]) -> bool {
+    program_calls::is_word(rt, 1, word)
 }
 
-fn main() {
-    if is_word(b"--help") {
+fn main(rt: HostRuntime) {
+    if is_word(&rt, b"--help") {
         usage(STDOUT_FILENO);
         return;
     }
-    if is_word(b"--extend") {
-        apply_to(2, 3, true, ANYTHING);
+    if is_word(&rt, b"--extend") {
+        apply_to(&rt, 2, 3, true, ANYTHING);
         return;
     }
-    if is_word(b"--empty") {
-        apply_to(2, 3, false, BLANK);
+    if is_word(&rt, b"--empty") {
+        apply_to(&rt, 2, 3, false, BLANK);
         return;
     }
-    if is_word(b"--hole") {
-        apply_to(2, 3, false, HOLE);
+    if is_word(&rt, b"--hole") {
+        apply_to(&rt, 2, 3, false, HOLE);
         return;
     }
-    apply_to(1, 2, false, ANYTHING);
+    apply_to(&rt, 1, 2, false, ANYTHING);
 }
