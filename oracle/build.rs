@@ -1,4 +1,4 @@
-//! Links the port's static library libbench_ffi.a where the feature `bench` is on. It stands where `rt staticlib bench_ffi` leaves it,
+//! Links the port's static library libbench_ffi.a where the feature `bench` is on. It stands where `./build bench_ffi` leaves it,
 //! or in the folder that ZECHURQI_STATICLIB names.
 
 use std::env;
