@@ -1,11 +1,10 @@
 -- The reader's answers, test by test.
 -- Assumes nothing.
 use mathlib.Core.Path.{◌≡◌, refl}
-use mathlib.Core.Bool.{Bool, true, false, not}
+use mathlib.Core.Bool.{Bool, true}
 use mathlib.Core.List.{List}
 use Prim.Native.Nat.{ℕ, ◌<◌, ◌≤◌}
 use borrow.Author.Tests.{eq-eqb, ne_eqb, lt-ltb, le-ltb, lt-leb}
-use lib.Dec.{eqb}
 use lib.ListN.{length, replicate}
 use Rattle.refusals.specs.Numbers.{not_left}
 use Rattle.arith.specs.Choice.{when}
@@ -15,8 +14,6 @@ use Rattle.geometry.specs.Compute.{zero_geometry}
 use Rattle.geometry_answers.specs.Named.{is_answer}
 use Rattle.plan.specs.declared.Planned.{Planned}
 use Rattle.plan.specs.Plan.{refused_plan, planned}
-use Rattle.plan_totals.specs.Totals.{plans_number}
-use Rattle.plan_same.specs.Same.{eq_list}
 use Rattle.reader_names.specs.Named.{named_by, uuid_at}
 use Rattle.reader_exact.specs.declared.Found.{Found}
 use Rattle.reader_exact.specs.Read.{not_found, found, first_tests, found_as, read_sized, place_tests, group_number, read_group}
