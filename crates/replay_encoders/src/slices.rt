@@ -1,5 +1,5 @@
-// The record lists of lent slices: at most 65 records, 16 bytes each, of which a free extent has the first 8. Two functions lend, and are
-// proved by a walk of their MIR, by hand; whoever calls them needs no walk.
+// The record lists of lent slices: at most 65 records, 16 bytes each, of which a free extent has the first 8. Two functions lend the first
+// records of an array to the encoders.
 ghost use Rattle.std.specs.Prelude.{◌≤◌, length, take};
 ghost use Rattle.structs.specs.Written.{Written};
 ghost use Rattle.btree.specs.Records.{records_bytes, recs_number, alloc_bytes, rmap_bytes};
