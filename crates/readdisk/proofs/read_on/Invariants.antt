@@ -1,5 +1,4 @@
 -- Turn after turn, counted down from a number that no disk uses up.
-use Rattle.std.proofs.Common.{ℕ}
 use Rattle.readdisk.proofs.read_on.Given as goal
 
 abbrev pub decreases-loop-turns : goal.decreases-loop-turns
