@@ -190,7 +190,9 @@ fn apply(
     let mut clock = clock::start(rt);
     let mut turns = u64::MAX;
     while 0 < turns && p.goes_on {
-        p = take_turn(&mut list, file, fills, p.applying, ahead, p.used, p.until, zeros, buf);
+        p = take_turn(
+            &mut list, file, fills, p.applying, ahead, p.used, p.until, zeros, buf,
+        );
         clock = clock.show(rt, p.record);
         turns -= 1;
     }
