@@ -203,6 +203,9 @@ pub fn sizes_of<R: Files + Alloc>(rt: &R, mut file: &File) -> Sizes {
     let Ok(size) = file.seek(SeekFrom::End(0)) else {
         return failed(NO_SIZE);
     };
+    if file.seek(SeekFrom::Start(0)).is_err() {
+        return failed(NO_SIZE);
+    }
     if is_device(file) {
         return device_sizes(rt, file, size);
     }
