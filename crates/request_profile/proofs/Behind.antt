@@ -1,5 +1,4 @@
--- AN INPUT WITH CODE 13 PUT BEHIND IT ASKS FOR THE SAME: every other option and the device stay, and 1 puts it under the profile. So the geometry step gives
--- equal answers with and without, and with 0 the run is the same.
+-- AN INPUT WITH CODE 13 PUT BEHIND IT ASKS FOR THE SAME: every other option and the device stay, and 1 puts it under the profile.
 -- Assumes nothing.
 use mathlib.Core.Path.{◌≡◌, refl, sym, ap, ◌∙◌}
 use mathlib.Core.Bool.{Bool, true, false, not, ◌&&◌}
@@ -7,7 +6,7 @@ use mathlib.Core.List.{List, [], ◌∷◌, ◌++◌, append-nil}
 use Prim.Native.Nat.{ℕ, ◌+◌, ◌^◌, ◌<◌, min}
 use native.Mathlib.Omega.{arith}
 use borrow.Author.Tests.{eq-eqb, ne_eqb, lt-ltb, eqb-false}
-use lib.Dec.{eqb, lit<}
+use lib.Dec.{eqb}
 use lib.ListN.{length, get_or}
 use Rattle.arith.proofs.Both.{both_true, left-true, right-true}
 use Rattle.seqs.proofs.Laws.{never}
@@ -21,8 +20,6 @@ use Rattle.request.specs.Parse.{under, parse_def}
 use Rattle.request.specs.Cases.{op}
 use Rattle.request.proofs.Values.{sound-each, device-inside, label_inside, uuid-inside}
 use Rattle.request_reading.proofs.Pieces.{joined, entries, option-piece, option-reads, records-are}
-use Rattle.run.specs.Runs.{step_of, run_of, accepted}
-use Rattle.run.proofs.Profile.{step-ignores}
 use Rattle.request_profile.proofs.Fronts.{get_d_front, at_front, part-front, records-front}
 
 -- ---- one more record
@@ -143,10 +140,6 @@ module _ (xs : List ℕ) (well : well_formed xs ≡ true) (free : value_with (op
   unfolding profile_of
   turned = ap turned_on (ap (value_with (option 13)) all-records ∙ the_last last (records 0 xs) free)
 
-  not-turned : profile_of xs ≡ false
-  unfolding profile_of
-  not-turned = ap turned_on free
-
   -- EVERY OTHER OPTION AND THE DEVICE STAY
   pub code-behind : parse_def (xs ++ op 13 v) ≡ under (eqb v 1) (parse_def xs)
   unfolding parse_def
@@ -162,16 +155,3 @@ module _ (xs : List ℕ) (well : well_formed xs ≡ true) (free : value_with (op
         at_front 4 14 xs (op 13 v) (omega arith),
       )
       refl
-
-  -- EQUAL ANSWERS OF THE GEOMETRY STEP
-  pub step-behind : step_of (parse_def (xs ++ op 13 v)) ≡ step_of (parse_def xs)
-  step-behind = ap step_of code-behind ∙ step-ignores (parse_def xs) (eqb v 1)
-
-  own-under : under false (parse_def xs) ≡ parse_def xs
-  unfolding parse_def
-  own-under = rw (well, not-turned) refl
-
--- 0 is as absent
-pub zero-behind : (xs : List ℕ) → well_formed xs ≡ true → value_with (option 13) (records 0 xs) ≡ Absent → accepted (xs ++ op 13 0) ≡ accepted xs
-unfolding accepted
-zero-behind xs well free = ap run_of (code-behind xs well free 0 (lit< tt) ∙ own-under xs well free 0 (lit< tt))
