@@ -3,7 +3,7 @@
 use Rattle.std.specs.Prelude.{Bool, true, false, not, ℕ}
 
 -- n where the test holds, else the rest
-unfoldable pub when : Bool → ℕ → ℕ → ℕ
+unfoldable pub when : {A : Type 0} → Bool → A → A → A
 when true n rest = n
 when false n rest = rest
 

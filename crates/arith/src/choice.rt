@@ -24,21 +24,7 @@ pub fn same_bool(a: bool, b: bool) -> bool
 }
 
 // a where the test holds, else b.
-pub fn pick_u8(test: bool, a: u8, b: u8) -> u8
-    ensures { result ≡ when test a b }
-{
-    if test { a } else { b }
-}
-
-// The same at 32 bits.
-pub fn pick_u32(test: bool, a: u32, b: u32) -> u32
-    ensures { result ≡ when test a b }
-{
-    if test { a } else { b }
-}
-
-// The same at 64 bits.
-pub fn pick_u64(test: bool, a: u64, b: u64) -> u64
+pub fn pick<T: Copy>(test: bool, a: T, b: T) -> T
     ensures { result ≡ when test a b }
 {
     if test { a } else { b }

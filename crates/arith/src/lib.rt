@@ -2,5 +2,5 @@
 #![tactic(auto)]
 
 pub mod choice; // choice.rt: picking by a test
-pub mod numbers; // numbers.rt: minimum, difference, quotient and remainder
+pub mod numbers; // numbers.rt: minimum, quotient and remainder
 pub mod powers; // powers.rt: logarithms of powers of two

@@ -1,5 +1,5 @@
-// Minimum, difference, quotient and remainder, as natural numbers have them: x - y is 0 where y is larger, x / 0 is 0, x % 0 is x.
-ghost use Rattle.std.specs.Prelude.{◌≡◌, ◌*◌, ◌/◌, ◌%◌, ◌-◌, ◌^◌, min, max, ltb};
+// Minimum, quotient and remainder, as natural numbers have them: x / 0 is 0, x % 0 is x.
+ghost use Rattle.std.specs.Prelude.{◌≡◌, ◌*◌, ◌/◌, ◌%◌, ◌^◌, min, max, ltb};
 ghost use Rattle.arith.specs.Numbers.{ceil_div};
 
 use crate::choice::bit_of;
@@ -26,27 +26,6 @@ pub fn min_usize(a: usize, b: usize) -> usize
     ensures { result ≡ min a b }
 {
     if a < b { a } else { b }
-}
-
-// The difference, 0 where b is the larger.
-pub fn minus(a: u64, b: u64) -> u64
-    ensures { result ≡ a - b }
-{
-    if a < b { 0 } else { a - b }
-}
-
-// The same at 32 bits.
-pub fn minus_u32(a: u32, b: u32) -> u32
-    ensures { result ≡ a - b }
-{
-    if a < b { 0 } else { a - b }
-}
-
-// The same at 8 bits.
-pub fn minus_u8(a: u8, b: u8) -> u8
-    ensures { result ≡ a - b }
-{
-    if a < b { 0 } else { a - b }
 }
 
 // The quotient, 0 for the divisor 0.

@@ -23,14 +23,8 @@ pub fn pow2_log(v: u32) -> u8
 pub fn log2_roundup(n: u64) -> u8
     ensures { result ≡ log2_up n }
 {
-    let mut l: u8 = 0;
-    let mut p: u64 = 1;
-    while l < 63 {
-        if n <= p {
-            return l;
-        }
-        p = p * 2;
-        l += 1;
+    match n.checked_next_power_of_two() {
+        Some(p) => p.ilog2() as u8,
+        None => 64,
     }
-    if n <= p { 63 } else { 64 }
 }

@@ -103,5 +103,5 @@ pub const NOT_HELD: u32 = 43;
 pub fn first(test: bool, n: u32, rest: u32) -> u32
     ensures { result ≡ when test n rest }
 {
-    arith::choice::pick_u32(test, n, rest)
+    arith::choice::pick(test, n, rest)
 }

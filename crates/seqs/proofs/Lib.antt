@@ -3,3 +3,4 @@ pub mod Validity
 pub mod Weights
 pub mod Parts
 pub mod Members
+pub mod Chains
