@@ -1,4 +1,4 @@
 pub mod Header
 pub mod LogGroup
-pub mod Loops
 pub mod Answer
+pub mod Bit

@@ -1,20 +1,18 @@
 -- Block count and allocation groups, and refusals 9 to 18.
 -- Assumes nothing.
-use Rattle.std.specs.Prelude.{Bool, ◌&&◌, not, List, [], ◌∷◌, ℕ, ◌*◌, ◌-◌, ◌/◌, ◌%◌, min, ltb, leb, eqb}
+use Rattle.std.specs.Prelude.{Bool, ◌&&◌, not, List, [], ◌∷◌, ℕ, ◌*◌, ◌-◌, ◌/◌, ◌%◌, min, ltb, leb, eqb, Option, Some, None, is_some}
 use Rattle.refusals.specs.Numbers.{size_above_device, too_few_blocks, agsize_no_multiple, agsize_zero, agcount_zero, last_group_short, group_too_small, group_too_large, group_above_disk, too_many_groups}
 use Rattle.arith.specs.Choice.{when}
 use Rattle.arith.specs.Numbers.{ceil_div}
 use Rattle.refusals.specs.Table.{Refusal, ◌if◌}
 use Rattle.geometry.specs.Limits.{min_group, max_group, max_groups, large_bytes, four_group_bytes, two_group_bytes}
-use Rattle.params.specs.Options.{given64, zero64, partial64}
-use Rattle.params.specs.declared.OptU64.{OptU64}
-use Rattle.params.specs.declared.OptU64.TheVariants.{Absent, Given}
+use Rattle.params.specs.Options.{zero64, partial64}
 use Rattle.geometry.specs.declared.groups.Groups.{Groups}
 
 -- the blocks that are asked for: the size option's, else the device's
-unfoldable pub asked_blocks : OptU64 → ℕ → ℕ → ℕ
-asked_blocks (Given bytes) device bs = bytes / bs
-asked_blocks Absent device bs = device / bs
+unfoldable pub asked_blocks : Option ℕ → ℕ → ℕ → ℕ
+asked_blocks (Some bytes) device bs = bytes / bs
+asked_blocks None device bs = device / bs
 
 -- blocks of a group where neither option is given: from 4 TiB on the largest; below, a quarter,
 -- or a half below 64 MiB, or all below 32 MiB
@@ -33,10 +31,10 @@ unfoldable pub group_blocks : ℕ → ℕ → ℕ → ℕ → ℕ
 group_blocks d s n k = when (eqb k (n - 1)) (d - k * s) s
 
 -- agsize decides where both are given
-unfoldable pub initial_groups : OptU64 → OptU64 → ℕ → ℕ → Groups
-initial_groups (Given a) count bs d = groups_of d (a / bs)
-initial_groups Absent (Given n) bs d = record { dblocks = d; agsize = ceil_div d n; agcount = n }
-initial_groups Absent Absent bs d = groups_of d (default_size bs d)
+unfoldable pub initial_groups : Option ℕ → Option ℕ → ℕ → ℕ → Groups
+initial_groups (Some a) count bs d = groups_of d (a / bs)
+initial_groups None (Some n) bs d = record { dblocks = d; agsize = ceil_div d n; agcount = n }
+initial_groups None None bs d = groups_of d (default_size bs d)
 
 -- the last group is partial and under the least size
 unfoldable pub is_short : Groups → ℕ → Bool
@@ -52,14 +50,14 @@ trim g least =
     }
 
 -- refusals 9 to 14: d blocks are asked for, and the device has `device`; `short`: the last group is partial and under 16 MiB
-unfoldable pub options_refusals : OptU64 → OptU64 → ℕ → ℕ → ℕ → Bool → List Refusal
+unfoldable pub options_refusals : Option ℕ → Option ℕ → ℕ → ℕ → ℕ → Bool → List Refusal
 options_refusals agsize agcount bs device d short =
     size_above_device if ltb device d
     ∷ too_few_blocks if ltb d (min_group bs)
     ∷ agsize_no_multiple if partial64 agsize bs
     ∷ agsize_zero if zero64 agsize
-    ∷ agcount_zero if (not (given64 agsize) && zero64 agcount)
-    ∷ last_group_short if (given64 agcount && short)
+    ∷ agcount_zero if (not (is_some agsize) && zero64 agcount)
+    ∷ last_group_short if (is_some agcount && short)
     ∷ []
 
 -- refusals 15 to 18, of the groups without a short last one

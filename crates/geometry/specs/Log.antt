@@ -1,14 +1,12 @@
 -- Head blocks, log and imaxpct, and refusals 19 to 24.
 -- Assumes nothing.
-use Rattle.std.specs.Prelude.{Bool, not, List, [], ◌∷◌, ℕ, ◌+◌, ◌*◌, ◌-◌, ◌/◌, min, max, ltb, eqb}
+use Rattle.std.specs.Prelude.{Bool, not, List, [], ◌∷◌, ℕ, ◌+◌, ◌*◌, ◌-◌, ◌/◌, min, max, ltb, eqb, Option, unwrap_or}
 use Rattle.refusals.specs.Numbers.{imaxpct_above100, label_too_long, disk_too_small, log_too_small, too_few_groups, agcount_unlike}
 use Rattle.arith.specs.Choice.{when, bit}
 use Rattle.arith.specs.Numbers.{ceil_div}
 use Rattle.refusals.specs.Table.{Refusal, ◌if◌}
 use Rattle.geometry.specs.Limits.{tib, min_bytes, realistic_log_bytes, max_log_bytes, max_log_blocks, log_ratio, log_reserve, rmap_freelist, plain_freelist, min_groups, max_imaxpct, label_room}
 use Rattle.geometry.specs.Groups.{group_blocks}
-use Rattle.params.specs.Options.{or8}
-use Rattle.params.specs.declared.OptU8.{OptU8}
 use Rattle.params.specs.declared.Features.{Features}
 
 -- the blocks of the four header sectors
@@ -39,8 +37,8 @@ log_blocks dblocks limit bs =
 unfoldable pub default_imaxpct : ℕ → ℕ → ℕ
 default_imaxpct bs d = when (ltb d (tib / bs)) 25 (when (ltb d (50 * tib / bs)) 5 1)
 
-abbrev pub imaxpct_of : OptU8 → ℕ → ℕ → ℕ
-imaxpct_of option bs d = or8 option (default_imaxpct bs d)
+abbrev pub imaxpct_of : Option ℕ → ℕ → ℕ → ℕ
+imaxpct_of option bs d = unwrap_or option (default_imaxpct bs d)
 
 -- refusals 19 to 24; `label` is the label's length
 unfoldable pub last_refusals : ℕ → ℕ → ℕ → ℕ → ℕ → ℕ → ℕ → List Refusal

@@ -1,18 +1,16 @@
 -- Block, sector and inode size, and refusals 2 to 8.
 -- Assumes nothing.
-use Rattle.std.specs.Prelude.{List, [], ◌∷◌, ℕ, ◌/◌, max, ltb, leb, eqb}
+use Rattle.std.specs.Prelude.{List, [], ◌∷◌, ℕ, ◌/◌, max, ltb, leb, eqb, Option, unwrap_or}
 use Rattle.refusals.specs.Numbers.{block_no_power, block_of512, block_too_large, bad_sector, block_below_sector, sector_below_logical, bad_inode}
 use Rattle.arith.specs.Choice.{when}
 use Rattle.arith.specs.Powers.{power_log}
 use Rattle.refusals.specs.Table.{Refusal, ◌if◌}
 use Rattle.geometry.specs.SizeLimits.{default_block, min_crc_block, max_supported_block, min_sector, max_sector, default_inode, max_inode}
-use Rattle.params.specs.Options.{or32}
-use Rattle.params.specs.declared.OptU32.{OptU32}
 use Rattle.params.specs.declared.Params.{Params}
 use Rattle.geometry.specs.declared.sizes.Sizes.{Sizes}
 
-abbrev pub block_of : OptU32 → ℕ
-block_of option = or32 option default_block
+abbrev pub block_of : Option ℕ → ℕ
+block_of option = unwrap_or option default_block
 
 -- the sector size where none is given: the larger of the physical and the logical sector,
 -- but the logical one where the larger is above 32768, or where only the logical one fits the block
@@ -22,11 +20,11 @@ default_sector block logical physical =
     (when (leb (max physical logical) block) (max physical logical)
     (when (leb logical block) logical (max physical logical)))
 
-abbrev pub sector_of : OptU32 → ℕ → ℕ → ℕ → ℕ
-sector_of option block logical physical = or32 option (default_sector block logical physical)
+abbrev pub sector_of : Option ℕ → ℕ → ℕ → ℕ → ℕ
+sector_of option block logical physical = unwrap_or option (default_sector block logical physical)
 
-abbrev pub inode_of : OptU32 → ℕ
-inode_of option = or32 option default_inode
+abbrev pub inode_of : Option ℕ → ℕ
+inode_of option = unwrap_or option default_inode
 
 -- the logical sector counts as 512 where it is smaller
 unfoldable pub sizes_of : Params → ℕ → ℕ → Sizes

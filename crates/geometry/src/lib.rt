@@ -23,7 +23,7 @@ pub struct Chosen {
 }
 
 // Every number that the formatter needs, fixed before a byte is written.
-#[derive(Clone, Copy)]
+#[derive(Clone, Copy, PartialEq, Eq)]
 pub struct Geometry {
     pub blocksize: u32, // bytes
     pub blocklog: u8,

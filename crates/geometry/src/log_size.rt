@@ -5,17 +5,15 @@ ghost use Rattle.geometry.specs.Groups.{group_blocks};
 ghost use Rattle.geometry.specs.Log.{header_of, prealloc_of, freelist_of, log_limit, log_blocks, default_imaxpct, imaxpct_of, last_refusals};
 
 use crate::Geometry;
-use arith::choice::{bit_of, pick_u8, pick_u64};
-use arith::numbers::{div_ceil, max_u64, min_u64, minus, quotient};
-use params::{Features, OptU8};
+use arith::numbers::{div_ceil, quotient};
+use params::Features;
 use refusals::first;
 
 // The blocks of the four header sectors.
 pub fn header_of(sector: u32, bs: u64) -> u64
     ensures { result ≡ header_of sector bs }
 {
-    let bytes = 4 * (sector as u64);
-    div_ceil(bytes, bs)
+    div_ceil(4 * (sector as u64), bs)
 }
 
 // The head of a group: header blocks, three roots, and one more for each of finobt, rmapbt, reflink.
@@ -23,27 +21,29 @@ pub fn prealloc_of(f: Features, sector: u32, bs: u64) -> u64
     ensures { result ≡ prealloc_of f sector bs }
 {
     let header = header_of(sector, bs);
-    header + 3 + bit_of(f.finobt) + bit_of(f.rmapbt) + bit_of(f.reflink)
+    header + 3 + u64::from(f.finobt) + u64::from(f.rmapbt) + u64::from(f.reflink)
 }
 
 // Blocks of the free list with these features.
 pub fn freelist_of(f: Features) -> u64
     ensures { result ≡ freelist_of f }
 {
-    pick_u64(f.rmapbt, Geometry::RMAP_FREELIST, Geometry::PLAIN_FREELIST)
+    if f.rmapbt {
+        Geometry::RMAP_FREELIST
+    } else {
+        Geometry::PLAIN_FREELIST
+    }
 }
 
 // Blocks of the log group: only of one group or two it is the last.
 fn log_group_blocks(dblocks: u64, agsize: u64, agcount: u64) -> u64
     ensures { result ≡ group_blocks dblocks agsize agcount (agcount / 2) }
 {
-    if agcount < 2 {
-        return dblocks;
+    match agcount {
+        0 | 1 => dblocks,
+        2 => dblocks.saturating_sub(agsize),
+        _ => agsize,
     }
-    if agcount == 2 {
-        return minus(dblocks, agsize);
-    }
-    agsize
 }
 
 // The log's upper limit, by its sizing.
@@ -58,10 +58,12 @@ pub fn log_limit(
     ensures { result ≡ log_limit roomy f dblocks agsize agcount prealloc }
 {
     let reserve = Geometry::ALLOCBT_AGFL_RESERVE + 1;
+    if !roomy {
+        return agsize.saturating_sub(prealloc).saturating_sub(reserve);
+    }
     let own = log_group_blocks(dblocks, agsize, agcount);
-    let left = max_u64(reserve, freelist_of(f));
-    let limit = minus(minus(own, prealloc), left);
-    pick_u64(roomy, limit, minus(minus(agsize, prealloc), reserve))
+    let left = reserve.max(freelist_of(f));
+    own.saturating_sub(prealloc).saturating_sub(left)
 }
 
 // The blocks of the log.
@@ -69,27 +71,29 @@ pub fn log_blocks(dblocks: u64, limit: u64, bs: u64) -> u64
     ensures { result ≡ log_blocks dblocks limit bs }
 {
     let least = quotient(Geometry::REALISTIC_LOG_BYTES, bs);
-    let wanted = max_u64(dblocks / Geometry::LOG_RATIO, least);
-    let within = min_u64(min_u64(wanted, limit), Geometry::MAX_LOG_BLOCKS);
-    min_u64(within, quotient(Geometry::MAX_LOG_BYTES, bs))
+    let most = quotient(Geometry::MAX_LOG_BYTES, bs);
+    let wanted = (dblocks / Geometry::LOG_RATIO).max(least);
+    wanted.min(limit).min(Geometry::MAX_LOG_BLOCKS).min(most)
 }
 
 // imaxpct where none is given.
 fn default_imaxpct(bs: u64, d: u64) -> u8
     ensures { result ≡ default_imaxpct bs d }
 {
-    let n = pick_u8(d < quotient(50 * Geometry::TIB, bs), 5, 1);
-    pick_u8(d < quotient(Geometry::TIB, bs), 25, n)
+    if d < quotient(Geometry::TIB, bs) {
+        25
+    } else if d < quotient(50 * Geometry::TIB, bs) {
+        5
+    } else {
+        1
+    }
 }
 
 // The percentage of blocks that inodes may take.
-pub fn imaxpct_of(option: OptU8, bs: u64, d: u64) -> u8
+pub fn imaxpct_of(option: Option<u8>, bs: u64, d: u64) -> u8
     ensures { result ≡ imaxpct_of option bs d }
 {
-    match option {
-        OptU8::Given(n) => n,
-        OptU8::Absent => default_imaxpct(bs, d),
-    }
+    option.unwrap_or(default_imaxpct(bs, d))
 }
 
 // Refusals 19 to 24, the last test first; `label` is the label's length.

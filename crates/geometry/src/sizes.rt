@@ -1,12 +1,10 @@
 // Block, sector and inode size, and the refusals that they meet.
 ghost use Rattle.std.specs.Prelude.{◌≡◌};
 ghost use Rattle.refusals.specs.Table.{first};
-ghost use Rattle.geometry.specs.Sizes.{block_of, default_sector, sector_of, inode_of, sizes_of, sizes_refusals};
+ghost use Rattle.geometry.specs.Sizes.{default_sector, sizes_of, sizes_refusals};
 
-use arith::choice::pick_u32;
-use arith::numbers::max_u32;
 use arith::powers::pow2_log;
-use params::{OptU32, Params};
+use params::Params;
 use refusals::first;
 
 // The limits of sizes, under the Rust's names where it has them.
@@ -33,61 +31,31 @@ pub struct Sizes {
     pub logical: u32,
 }
 
-// The block size.
-fn block_of(option: OptU32) -> u32
-    ensures { result ≡ block_of option }
-{
-    match option {
-        OptU32::Given(n) => n,
-        OptU32::Absent => DEFAULT_BLOCKSIZE,
-    }
-}
-
 // The sector size where none is given.
 fn default_sector(block: u32, logical: u32, physical: u32) -> u32
     ensures { result ≡ default_sector block logical physical }
 {
-    let larger = max_u32(physical, logical);
-    let chosen = pick_u32(logical <= block, logical, larger);
-    let chosen = pick_u32(larger <= block, larger, chosen);
-    pick_u32(MAX_SECTORSIZE < larger, logical, chosen)
-}
-
-// The sector size.
-fn sector_of(option: OptU32, block: u32, logical: u32, physical: u32) -> u32
-    ensures { result ≡ sector_of option block logical physical }
-{
-    match option {
-        OptU32::Given(n) => n,
-        OptU32::Absent => default_sector(block, logical, physical),
+    let larger = physical.max(logical);
+    if MAX_SECTORSIZE < larger {
+        return logical;
     }
-}
-
-// The inode size.
-fn inode_of(option: OptU32) -> u32
-    ensures { result ≡ inode_of option }
-{
-    match option {
-        OptU32::Given(n) => n,
-        OptU32::Absent => DEFAULT_INODESIZE,
+    if block < larger && logical <= block {
+        return logical;
     }
+    larger
 }
 
 // The sizes for the options and the device's sectors.
 pub fn chosen_sizes(params: Params, logical: u32, physical: u32) -> Sizes
     ensures { result ≡ sizes_of params logical physical }
 {
-    let block_size = params.block_size;
-    let sector_size = params.sector_size;
-    let inode_size = params.inode_size;
-    let block = block_of(block_size);
-    let least = max_u32(logical, MIN_SECTORSIZE);
-    let sector = sector_of(sector_size, block, least, physical);
-    let inode = inode_of(inode_size);
+    let block = params.block_size.unwrap_or(DEFAULT_BLOCKSIZE);
+    let least = logical.max(MIN_SECTORSIZE);
+    let sector = default_sector(block, least, physical);
     Sizes {
         block,
-        sector,
-        inode,
+        sector: params.sector_size.unwrap_or(sector),
+        inode: params.inode_size.unwrap_or(DEFAULT_INODESIZE),
         logical: least,
     }
 }

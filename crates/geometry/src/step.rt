@@ -8,23 +8,19 @@ use crate::groups::{
 use crate::log_size::{imaxpct_of, last_refusal, log_blocks, log_limit, prealloc_of};
 use crate::sizes::{chosen_sizes, sizes_refusal};
 use crate::{Chosen, Computed, Geometry};
-use arith::choice::{both, pick_u8};
-use arith::numbers::{min_usize, minus_u8, quotient, quotient_u32};
+use arith::numbers::{quotient, quotient_u32};
 use arith::powers::{log2_roundup, pow2_log};
 use params::{Features, Params};
 use refusals::first;
 
 // The label's bytes, filled up with zeros.
+#[tactic(auto, unfolding(crate::specs::Compute::label_of))]
 fn padded(bytes: [u8; 12], length: usize) -> [u8; 12]
     ensures { result ≡ label_of length bytes }
 {
-    let n = min_usize(length, Geometry::MAX_LABEL);
+    let n = length.min(Geometry::MAX_LABEL);
     let mut out = [0u8; 12];
-    let mut i: usize = 0;
-    while i < n {
-        out[i] = bytes[i];
-        i += 1;
-    }
+    out[..n].copy_from_slice(&bytes[..n]);
     out
 }
 
@@ -32,33 +28,27 @@ fn padded(bytes: [u8; 12], length: usize) -> [u8; 12]
 fn choose(params: Params, device: u64, logical: u32, physical: u32) -> Chosen
     ensures { result ≡ chosen_of params device logical physical }
 {
-    let size = params.size;
-    let agsize = params.agsize;
-    let agcount = params.agcount;
-    let imaxpct = params.imaxpct;
-    let features = params.features;
     let sizes = chosen_sizes(params, logical, physical);
     let bs = sizes.block as u64;
-    let asked = initial_groups(agsize, agcount, bs, asked_blocks(size, device, bs));
+    let blocks = asked_blocks(params.size, device, bs);
+    let asked = initial_groups(params.agsize, params.agcount, bs, blocks);
     let groups = trimmed(asked, min_group(bs));
-    let percent = imaxpct_of(imaxpct, bs, groups.dblocks);
-    let prealloc = prealloc_of(features, sizes.sector, bs);
+    let prealloc = prealloc_of(params.features, sizes.sector, bs);
     let limit = log_limit(
         params.roomy,
-        features,
+        params.features,
         groups.dblocks,
         groups.agsize,
         groups.agcount,
         prealloc,
     );
-    let log = log_blocks(groups.dblocks, limit, bs);
     Chosen {
         sizes,
         asked,
         groups,
-        imaxpct: percent,
+        imaxpct: imaxpct_of(params.imaxpct, bs, groups.dblocks),
         prealloc,
-        log,
+        log: log_blocks(groups.dblocks, limit, bs),
     }
 }
 
@@ -66,18 +56,14 @@ fn choose(params: Params, device: u64, logical: u32, physical: u32) -> Chosen
 fn refusal(params: Params, device: u64, c: Chosen) -> u32
     ensures { result ≡ refusal_of params device c }
 {
-    let agsize = params.agsize;
-    let agcount = params.agcount;
-    let label = params.label;
     let f = params.features;
     let s = c.sizes;
-    let a = c.asked;
     let g = c.groups;
     let bs = s.block as u64;
     // 19 to 24
     let n = last_refusal(
         c.imaxpct,
-        label.length,
+        params.label.length,
         bs,
         g.dblocks,
         g.agsize,
@@ -85,23 +71,28 @@ fn refusal(params: Params, device: u64, c: Chosen) -> u32
         c.log,
     );
     let n = groups_refusal(bs, g.dblocks, g.agsize, g.agcount, n); // 15 to 18
-    let short = is_short(a, min_group(bs));
+    let short = is_short(c.asked, min_group(bs));
     let blocks = quotient(device, bs);
-    let n = options_refusal(agsize, agcount, bs, blocks, a.dblocks, short, n); // 9 to 14
+    // 9 to 14
+    let n = options_refusal(
+        params.agsize,
+        params.agcount,
+        bs,
+        blocks,
+        c.asked.dblocks,
+        short,
+        n,
+    );
     let n = sizes_refusal(s.block, s.sector, s.inode, s.logical, n); // 2 to 8
-    first(both(f.inobtcount, !f.finobt), refusals::INOBTCOUNT_ALONE, n)
+    first(f.inobtcount && !f.finobt, refusals::INOBTCOUNT_ALONE, n)
 }
 
 // The geometry of what was chosen.
 fn built(params: Params, c: Chosen) -> Geometry
     ensures { result ≡ geometry_of params c }
 {
-    let features = params.features;
-    let asked = params.label;
-    let bytes = asked.bytes;
     let s = c.sizes;
     let g = c.groups;
-    let label = padded(bytes, asked.length);
     let blocklog = pow2_log(s.block);
     let sectlog = pow2_log(s.sector);
     let inodelog = pow2_log(s.inode);
@@ -115,12 +106,12 @@ fn built(params: Params, c: Chosen) -> Geometry
         inodesize: s.inode,
         inodelog,
         inopblock: quotient_u32(s.block, s.inode),
-        inopblog: minus_u8(blocklog, inodelog),
-        dirblocklog: pick_u8(
-            s.block < Geometry::MIN_DIR_BLOCK,
-            Geometry::MIN_DIR_LOG,
-            blocklog,
-        ),
+        inopblog: blocklog.saturating_sub(inodelog),
+        dirblocklog: if s.block < Geometry::MIN_DIR_BLOCK {
+            Geometry::MIN_DIR_LOG
+        } else {
+            blocklog
+        },
         dblocks: g.dblocks,
         agsize: g.agsize,
         agcount: g.agcount,
@@ -129,8 +120,8 @@ fn built(params: Params, c: Chosen) -> Geometry
         logblocks: c.log,
         logagno: g.agcount / 2,
         log_agbno: c.prealloc,
-        features,
-        label,
+        features: params.features,
+        label: padded(params.label.bytes, params.label.length),
         roomy: params.roomy,
     }
 }
@@ -186,11 +177,11 @@ impl Geometry {
     {
         let c = choose(params, device_size, logical_sector, physical_sector);
         let number = refusal(params, device_size, c);
-        if number == 0 {
-            let geometry = built(params, c);
-            return Computed { number, geometry };
-        }
-        let geometry = Geometry::zero();
+        let geometry = if number == 0 {
+            built(params, c)
+        } else {
+            Geometry::zero()
+        };
         Computed { number, geometry }
     }
 }

@@ -1,16 +1,7 @@
 -- The options, set one by one: each sets its own and leaves the others.
 -- Assumes nothing.
-use Rattle.std.specs.Prelude.{Bool, true, false, List, ℕ, ℤ, replicate}
-use Rattle.params.specs.declared.OptU64.{OptU64}
-use Rattle.params.specs.declared.OptU64.TheVariants.{Absent, Given}
-use Rattle.params.specs.declared.OptU32.{OptU32}
-use Rattle.params.specs.declared.OptU32.TheVariants.{Absent as Absent32, Given as Given32}
-use Rattle.params.specs.declared.OptU8.{OptU8}
-use Rattle.params.specs.declared.OptU8.TheVariants.{Absent as Absent8, Given as Given8}
-use Rattle.params.specs.declared.OptTime.{OptTime}
-use Rattle.params.specs.declared.OptTime.TheVariants.{Absent as AbsentTime, Given as GivenTime}
-use Rattle.params.specs.declared.Presence.TheVariants.{Absent as No, Given as Yes}
-use Rattle.params.specs.declared.OptUuid.{OptUuid}
+use Rattle.std.specs.Prelude.{Bool, true, false, List, ℕ, ℤ, replicate, Option, Some, None}
+use Rattle.params.specs.declared.Timestamp.{Timestamp}
 use Rattle.params.specs.declared.Label.{Label}
 use Rattle.params.specs.declared.Features.{Features}
 use Rattle.params.specs.declared.Params.{Params}
@@ -20,7 +11,7 @@ abbrev pub all_features : Features
 all_features = record { finobt = true; rmapbt = true; reflink = true; inobtcount = true; bigtime = true; nrext64 = true; sparse = true }
 
 -- the options in the order of the record
-abbrev pub options : OptU64 → OptU32 → OptU32 → OptU32 → OptU64 → OptU64 → OptU8 → Label → OptUuid → OptTime → OptU64
+abbrev pub options : Option ℕ → Option ℕ → Option ℕ → Option ℕ → Option ℕ → Option ℕ → Option ℕ → Label → Option (List ℕ) → Option Timestamp → Option ℕ
     → Features → Bool → Params
 options size block sector inode agcount agsize imaxpct label uuid time seed features roomy =
     record {
@@ -43,41 +34,37 @@ options size block sector inode agcount agsize imaxpct label uuid time seed feat
 abbrev pub no_label : Label
 no_label = record { length = 0; bytes = replicate 12 0 }
 
--- no UUID: absent, before 16 zeros
-abbrev pub no_uuid : OptUuid
-no_uuid = record { presence = No; bytes = replicate 16 0 }
-
 -- no option given, all features on
 abbrev pub no_options : Params
-no_options = options Absent Absent32 Absent32 Absent32 Absent Absent Absent8 no_label no_uuid AbsentTime Absent all_features false
+no_options = options None None None None None None None no_label None None None all_features false
 
 module _ (p : Params) where
   abbrev pub with_size : ℕ → Params
-  with_size n = options (Given n) p.block_size p.sector_size p.inode_size p.agcount p.agsize p.imaxpct p.label
+  with_size n = options (Some n) p.block_size p.sector_size p.inode_size p.agcount p.agsize p.imaxpct p.label
       p.uuid p.time p.gen_seed p.features p.roomy
 
   abbrev pub with_block_size : ℕ → Params
-  with_block_size n = options p.size (Given32 n) p.sector_size p.inode_size p.agcount p.agsize p.imaxpct p.label
+  with_block_size n = options p.size (Some n) p.sector_size p.inode_size p.agcount p.agsize p.imaxpct p.label
       p.uuid p.time p.gen_seed p.features p.roomy
 
   abbrev pub with_sector_size : ℕ → Params
-  with_sector_size n = options p.size p.block_size (Given32 n) p.inode_size p.agcount p.agsize p.imaxpct p.label
+  with_sector_size n = options p.size p.block_size (Some n) p.inode_size p.agcount p.agsize p.imaxpct p.label
       p.uuid p.time p.gen_seed p.features p.roomy
 
   abbrev pub with_inode_size : ℕ → Params
-  with_inode_size n = options p.size p.block_size p.sector_size (Given32 n) p.agcount p.agsize p.imaxpct p.label
+  with_inode_size n = options p.size p.block_size p.sector_size (Some n) p.agcount p.agsize p.imaxpct p.label
       p.uuid p.time p.gen_seed p.features p.roomy
 
   abbrev pub with_agcount : ℕ → Params
-  with_agcount n = options p.size p.block_size p.sector_size p.inode_size (Given n) p.agsize p.imaxpct p.label
+  with_agcount n = options p.size p.block_size p.sector_size p.inode_size (Some n) p.agsize p.imaxpct p.label
       p.uuid p.time p.gen_seed p.features p.roomy
 
   abbrev pub with_agsize : ℕ → Params
-  with_agsize n = options p.size p.block_size p.sector_size p.inode_size p.agcount (Given n) p.imaxpct p.label
+  with_agsize n = options p.size p.block_size p.sector_size p.inode_size p.agcount (Some n) p.imaxpct p.label
       p.uuid p.time p.gen_seed p.features p.roomy
 
   abbrev pub with_imaxpct : ℕ → Params
-  with_imaxpct n = options p.size p.block_size p.sector_size p.inode_size p.agcount p.agsize (Given8 n) p.label
+  with_imaxpct n = options p.size p.block_size p.sector_size p.inode_size p.agcount p.agsize (Some n) p.label
       p.uuid p.time p.gen_seed p.features p.roomy
 
   abbrev pub with_label : Label → Params
@@ -86,15 +73,15 @@ module _ (p : Params) where
 
   abbrev pub with_uuid : List ℕ → Params
   with_uuid u = options p.size p.block_size p.sector_size p.inode_size p.agcount p.agsize p.imaxpct p.label
-      (record { presence = Yes; bytes = u }) p.time p.gen_seed p.features p.roomy
+      (Some u) p.time p.gen_seed p.features p.roomy
 
   abbrev pub with_time : ℤ → ℕ → Params
   with_time s n = options p.size p.block_size p.sector_size p.inode_size p.agcount p.agsize p.imaxpct p.label
-      p.uuid (GivenTime (record { secs = s; nsecs = n })) p.gen_seed p.features p.roomy
+      p.uuid (Some (record { secs = s; nsecs = n })) p.gen_seed p.features p.roomy
 
   abbrev pub with_gen_seed : ℕ → Params
   with_gen_seed n = options p.size p.block_size p.sector_size p.inode_size p.agcount p.agsize p.imaxpct p.label
-      p.uuid p.time (Given n) p.features p.roomy
+      p.uuid p.time (Some n) p.features p.roomy
 
   abbrev pub with_features : Features → Params
   with_features f = options p.size p.block_size p.sector_size p.inode_size p.agcount p.agsize p.imaxpct p.label

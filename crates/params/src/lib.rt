@@ -4,51 +4,11 @@
 ghost use Rattle.std.specs.Prelude.{◌≡◌};
 ghost use Rattle.params.specs.Params.{all_features, no_options, with_size, with_block_size, with_sector_size, with_inode_size, with_agcount, with_agsize, with_imaxpct, with_label, with_uuid, with_time, with_gen_seed, with_features, with_roomy};
 
-// An option of 64 bits.
-#[derive(Clone, Copy)]
-pub enum OptU64 {
-    Absent,
-    Given(u64),
-}
-
-// An option of 32 bits.
-#[derive(Clone, Copy)]
-pub enum OptU32 {
-    Absent,
-    Given(u32),
-}
-
-// An option of 8 bits.
-#[derive(Clone, Copy)]
-pub enum OptU8 {
-    Absent,
-    Given(u8),
-}
-
 // A point in time as XFS stores it: seconds since the Unix epoch, and nanoseconds within the second.
 #[derive(Clone, Copy)]
 pub struct Timestamp {
     pub secs: i64,
     pub nsecs: u32,
-}
-
-#[derive(Clone, Copy)]
-pub enum OptTime {
-    Absent,
-    Given(Timestamp),
-}
-
-// Whether the bytes beside it are given.
-#[derive(Clone, Copy)]
-pub enum Presence {
-    Absent,
-    Given,
-}
-
-#[derive(Clone, Copy)]
-pub struct OptUuid {
-    pub presence: Presence,
-    pub bytes: [u8; 16],
 }
 
 // A label's length and its first 12 bytes; a longer label keeps its length. An absent label has the length 0.
@@ -59,7 +19,7 @@ pub struct Label {
 }
 
 // The v5 features that mkfs.xfs turns on or off.
-#[derive(Clone, Copy)]
+#[derive(Clone, Copy, PartialEq, Eq)]
 pub struct Features {
     pub finobt: bool,
     pub rmapbt: bool,
@@ -73,17 +33,17 @@ pub struct Features {
 // What the caller asks for. All that is absent is chosen the way mkfs.xfs chooses it.
 #[derive(Clone, Copy)]
 pub struct Params {
-    pub size: OptU64, // bytes of the file system
-    pub block_size: OptU32,
-    pub sector_size: OptU32,
-    pub inode_size: OptU32,
-    pub agcount: OptU64,
-    pub agsize: OptU64, // bytes of an allocation group
-    pub imaxpct: OptU8,
+    pub size: Option<u64>, // bytes of the file system
+    pub block_size: Option<u32>,
+    pub sector_size: Option<u32>,
+    pub inode_size: Option<u32>,
+    pub agcount: Option<u64>,
+    pub agsize: Option<u64>, // bytes of an allocation group
+    pub imaxpct: Option<u8>,
     pub label: Label,
-    pub uuid: OptUuid,
-    pub time: OptTime,
-    pub gen_seed: OptU64,
+    pub uuid: Option<[u8; 16]>,
+    pub time: Option<Timestamp>,
+    pub gen_seed: Option<u64>,
     pub features: Features,
     pub roomy: bool, // roomy log sizing, else plain
 }
@@ -115,22 +75,18 @@ impl Params {
             length: 0,
             bytes: [0u8; 12],
         };
-        let uuid = OptUuid {
-            presence: Presence::Absent,
-            bytes: [0u8; 16],
-        };
         Params {
-            size: OptU64::Absent,
-            block_size: OptU32::Absent,
-            sector_size: OptU32::Absent,
-            inode_size: OptU32::Absent,
-            agcount: OptU64::Absent,
-            agsize: OptU64::Absent,
-            imaxpct: OptU8::Absent,
+            size: None,
+            block_size: None,
+            sector_size: None,
+            inode_size: None,
+            agcount: None,
+            agsize: None,
+            imaxpct: None,
             label,
-            uuid,
-            time: OptTime::Absent,
-            gen_seed: OptU64::Absent,
+            uuid: None,
+            time: None,
+            gen_seed: None,
             features,
             roomy: false,
         }
@@ -141,7 +97,7 @@ impl Params {
         ensures { result ≡ with_size self bytes }
     {
         Params {
-            size: OptU64::Given(bytes),
+            size: Some(bytes),
             ..self
         }
     }
@@ -150,7 +106,7 @@ impl Params {
         ensures { result ≡ with_block_size self bytes }
     {
         Params {
-            block_size: OptU32::Given(bytes),
+            block_size: Some(bytes),
             ..self
         }
     }
@@ -159,7 +115,7 @@ impl Params {
         ensures { result ≡ with_sector_size self bytes }
     {
         Params {
-            sector_size: OptU32::Given(bytes),
+            sector_size: Some(bytes),
             ..self
         }
     }
@@ -168,7 +124,7 @@ impl Params {
         ensures { result ≡ with_inode_size self bytes }
     {
         Params {
-            inode_size: OptU32::Given(bytes),
+            inode_size: Some(bytes),
             ..self
         }
     }
@@ -177,7 +133,7 @@ impl Params {
         ensures { result ≡ with_agcount self n }
     {
         Params {
-            agcount: OptU64::Given(n),
+            agcount: Some(n),
             ..self
         }
     }
@@ -187,7 +143,7 @@ impl Params {
         ensures { result ≡ with_agsize self bytes }
     {
         Params {
-            agsize: OptU64::Given(bytes),
+            agsize: Some(bytes),
             ..self
         }
     }
@@ -196,7 +152,7 @@ impl Params {
         ensures { result ≡ with_imaxpct self percent }
     {
         Params {
-            imaxpct: OptU8::Given(percent),
+            imaxpct: Some(percent),
             ..self
         }
     }
@@ -210,11 +166,10 @@ impl Params {
     pub fn uuid(self, bytes: [u8; 16]) -> Params
         ensures { result ≡ with_uuid self bytes }
     {
-        let uuid = OptUuid {
-            presence: Presence::Given,
-            bytes,
-        };
-        Params { uuid, ..self }
+        Params {
+            uuid: Some(bytes),
+            ..self
+        }
     }
 
     pub fn time(self, secs: i64, nsecs: u32) -> Params
@@ -222,7 +177,7 @@ impl Params {
     {
         let t = Timestamp { secs, nsecs };
         Params {
-            time: OptTime::Given(t),
+            time: Some(t),
             ..self
         }
     }
@@ -231,7 +186,7 @@ impl Params {
         ensures { result ≡ with_gen_seed self seed }
     {
         Params {
-            gen_seed: OptU64::Given(seed),
+            gen_seed: Some(seed),
             ..self
         }
     }

@@ -1,6 +1,6 @@
--- `geometry::Geometry::compute` meets its contract: a number that is 0 has the geometry beside it, any other zeros.
+-- `geometry::Geometry::compute` meets its contract.
 -- Assumes nothing.
-use mathlib.Core.Path.{◌∙◌, sym}
+use mathlib.Core.Path.{sym, ◌∙◌}
 use Rattle.geometry.specs.Compute.{geometry_of, compute_def}
 use Rattle.geometry.proofs.Answer.{accepted, refused}
 use Rattle.geometry.proofs.Geometry.compute.Goals as goal
@@ -8,12 +8,11 @@ use Rattle.geometry.proofs.Geometry.compute.Goals as goal
 pub returns-then-number-eq0 : goal.returns-then-number-eq0
 unfolding compute_def
 returns-then-number-eq0 c = let r = c.refusal-number in
-    sym (accepted r.result c.built-geometry.result c.if-number-eq0.true)
-    ∙ rw (c.built-geometry.ensures, r.ensures, c.choose-c.ensures)
+    sym (accepted r.result c.built-geometry.result c.if-number-eq0.true) ∙ rw (c.built-geometry.ensures, r.ensures, c.choose-c.ensures)
 
-pub returns : goal.returns
+pub returns-else-number-eq0 : goal.returns-else-number-eq0
 unfolding compute_def
-returns c = let r = c.refusal-number in
+returns-else-number-eq0 c = let r = c.refusal-number in
     rw c.zero-geometry.ensures
     (sym (refused r.result (geometry_of c.args.params c.choose-c.result) c.if-number-eq0.false)
     ∙ rw (r.ensures, c.choose-c.ensures))

@@ -1,18 +1,14 @@
--- `geometry::groups::default_size` meets its contract: each call gives what its definition says.
+-- `geometry::groups::default_size` meets its contract.
 -- Assumes nothing.
+use Rattle.std.proofs.Common.{rules}
+use Rattle.arith.specs.Choice.{when}
 use Rattle.geometry.specs.Groups.{default_size}
 use Rattle.geometry.proofs.groups.default_size.Goals as goal
 
+pub returns-then-quotient-d : goal.returns-then-quotient-d
+unfolding default_size when
+returns-then-quotient-d c = search rules
+
 pub returns : goal.returns
-unfolding default_size
-returns c = rw (
-  c.pick_u64.ensures,
-  c.quotient-3.ensures,
-  c.min_u64-part.ensures,
-  c.div_ceil.ensures,
-  c.pick_u64-groups-2.ensures,
-  c.quotient-2.ensures,
-  c.pick_u64-groups.ensures,
-  c.quotient.ensures,
-  c.ag_max_blocks-most.ensures,
-)
+unfolding default_size when
+returns c = search rules

@@ -1,16 +1,17 @@
--- `geometry::groups::initial_groups` meets its contract: by the case of each option, each call gives what its definition says.
+-- `geometry::groups::initial_groups` meets its contract.
 -- Assumes nothing.
+use Rattle.std.proofs.Common.{rules}
 use Rattle.geometry.specs.Groups.{initial_groups}
 use Rattle.geometry.proofs.groups.initial_groups.Goals as goal
 
-pub returns-in-Given : goal.returns-in-Given
+pub returns-in-Some-default : goal.returns-in-Some-default
 unfolding initial_groups
-returns-in-Given c = rw (c.groups_of.ensures, c.quotient.ensures, c.in-Given.is)
+returns-in-Some-default c = search rules
 
-pub returns-in-Given-agcount : goal.returns-in-Given-agcount
+pub returns-in-None-Some : goal.returns-in-None-Some
 unfolding initial_groups
-returns-in-Given-agcount c = rw (c.div_ceil-s.ensures, c.in-Given-agcount.is, c.in-Absent.is)
+returns-in-None-Some c = search rules
 
-pub returns-in-Absent-agcount : goal.returns-in-Absent-agcount
+pub returns-in-None-None : goal.returns-in-None-None
 unfolding initial_groups
-returns-in-Absent-agcount c = rw (c.default_ag_geometry.ensures, c.in-Absent-agcount.is, c.in-Absent.is)
+returns-in-None-None c = search rules

@@ -1,4 +1,4 @@
--- `geometry::log_size::header_of` meets its contract: each call gives what its definition says.
+-- `geometry::log_size::header_of` meets its contract.
 -- Assumes nothing.
 use Rattle.geometry.specs.Log.{header_of}
 use Rattle.geometry.proofs.log_size.header_of.Goals as goal

@@ -5,11 +5,11 @@ use native.Mathlib.Omega.{arith}
 use Rattle.geometry.proofs.LogGroup.{alone, second, middle}
 use Rattle.geometry.proofs.log_size.log_group_blocks.Goals as goal
 
-pub returns-then-agcount-lt2 : goal.returns-then-agcount-lt2
-returns-then-agcount-lt2 c = sym (alone _ _ _ (omega arith))
+pub returns-in-2 : goal.returns-in-2
+returns-in-2 c = c.saturating_sub.ensures ∙ sym (second _ _ _ (omega arith))
 
-pub returns-then-agcount-eq2 : goal.returns-then-agcount-eq2
-returns-then-agcount-eq2 c = c.minus.ensures ∙ sym (second _ _ _ (omega arith))
+pub returns-in-0 : goal.returns-in-0
+returns-in-0 c = sym (alone _ _ _ (omega arith))
 
-pub returns : goal.returns
-returns c = sym (middle _ _ _ (omega arith))
+pub returns-in_default : goal.returns-in_default
+returns-in_default c = sym (middle _ _ _ (omega arith))

@@ -1,17 +1,14 @@
--- `geometry::log_size::log_limit` meets its contract: each call gives what its definition says.
+-- `geometry::log_size::log_limit` meets its contract.
 -- Assumes nothing.
+use Rattle.std.proofs.Common.{rules}
+use Rattle.arith.specs.Choice.{when}
 use Rattle.geometry.specs.Log.{log_limit}
 use Rattle.geometry.proofs.log_size.log_limit.Goals as goal
 
+pub returns-then-not-roomy : goal.returns-then-not-roomy
+unfolding log_limit when
+returns-then-not-roomy c = search rules
+
 pub returns : goal.returns
-unfolding log_limit
-returns c = rw (
-  c.pick_u64.ensures,
-  c.minus-3.ensures,
-  c.minus-2.ensures,
-  c.minus-limit.ensures,
-  c.minus.ensures,
-  c.max_u64-left.ensures,
-  c.freelist_of.ensures,
-  c.log_group_blocks-own.ensures,
-)
+unfolding log_limit when
+returns c = search rules

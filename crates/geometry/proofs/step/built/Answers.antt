@@ -1,17 +1,10 @@
--- `geometry::step::built` meets its contract: each field is what the definition says.
+-- `geometry::step::built` meets its contract.
 -- Assumes nothing.
+use Rattle.std.proofs.Common.{rules}
+use Rattle.arith.specs.Choice.{when}
 use Rattle.geometry.specs.Compute.{geometry_of}
 use Rattle.geometry.proofs.step.built.Goals as goal
 
 pub returns : goal.returns
-unfolding geometry_of
-returns c = rw (
-  c.log2_roundup.ensures,
-  c.pick_u8.ensures,
-  c.minus_u8.ensures,
-  c.quotient_u32.ensures,
-  c.pow2_log-inodelog.ensures,
-  c.pow2_log-sectlog.ensures,
-  c.pow2_log-blocklog.ensures,
-  c.padded-label.ensures,
-)
+unfolding geometry_of when
+returns c = search rules
