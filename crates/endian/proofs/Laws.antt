@@ -1,7 +1,7 @@
 -- The laws of `patch`, `be_bytes` and `be_at`.
 -- Assumes nothing.
 use mathlib.Core.Path.{◌≡◌, refl, ap, ap₂, sym, ◌∙◌}
-use mathlib.Core.List.{List, [], ◌∷◌, ◌++◌}
+use mathlib.Core.List.{List, [], ◌∷◌, ◌++◌, reverse}
 use Prim.Native.Nat.{ℕ, zero, suc, ◌+◌, ◌-◌, ◌*◌, ◌/◌, ◌%◌, ◌^◌, ◌≤◌, ◌<◌}
 use native.Mathlib.Nat.{div-div-eq-div-mul, pow-suc, add-zero, zero-add, mul-one, zero-mul, mul_assoc, mul_comm, add_assoc, add-mul, mul-le-mul_right, lt_of_lt_of_le, pow-le-pow_right, mul-suc}
 use native.Mathlib.Numerals.{add-one}
@@ -14,6 +14,8 @@ use borrow.Rule.Slice.PartMut.{put_mid, Post-is}
 use native.Mathlib.Omega.{arith}
 use lib.ListN.{length, get_or, set, length-set, drop, take, take-append-drop, replicate}
 use lib.Seq.{drop-cons, take-suc, append_snoc, set_at, length-take-le, take-set-lt, drop-set-lt}
+use Rattle.std.proofs.lemmas.Grind.{get_or_default_zero}
+use Rattle.std.proofs.lemmas.List.{length-reverse, get_or-reverse}
 use Rattle.endian.specs.Bytes.{be_bytes, patch, be_at, numbers_bytes}
 
 pub length-patch : (off : ℕ) (bs xs : List ℕ) → length (patch off bs xs) ≡ length xs
@@ -56,6 +58,13 @@ module _ (off i : ℕ) (pos : 0 < i) where
   same_turn n b l =
       let e : suc (n - i) ≡ n - (i - 1) = omega arith in
       ap (λ (k : ℕ). replicate k b) e
+
+-- what a loop over a list from its end takes after `n` others
+pub taken-last : (xs : List ℕ) (m n v : ℕ) → length xs ≡ m → (n < length (reverse xs)) × (v ≡ get_or (reverse xs) n v) → (n < m) × (v ≡ get_or xs (m - n - 1) 0)
+taken-last xs m n v e h =
+    let l : n < length xs = rw length-reverse at h.0 in
+    let k : length xs - 1 - n ≡ m - n - 1 = omega arith in
+    (omega arith, h.1 ∙ get_or-reverse xs n v l ∙ get_or_default_zero xs (length xs - 1 - n) v (omega arith) ∙ ap (λ (i : ℕ). get_or xs i 0) k)
 
 -- one more byte, read after the others
 pub at_more : (n off : ℕ) (xs : List ℕ) → be_at (suc n) off xs ≡ be_at n off xs * 256 + get_or xs (off + n) 0

@@ -3,13 +3,16 @@
 use mathlib.Core.Path.{◌≡◌, refl, ap, sym, ◌∙◌, subst}
 use mathlib.Core.List.{List, [], ◌∷◌}
 use mathlib.Core.Bool.{Bool, true, false, ◌&&◌, ◌||◌, cond}
-use Prim.Native.Nat.{ℕ, suc, ◌+◌, ◌≤◌, ◌<◌}
+use Prim.Native.Nat.{ℕ, suc, ◌+◌, ◌*◌, ◌≤◌, ◌<◌}
 use native.Mathlib.Omega.{arith}
 use lib.Dec.{T, leb, leb→le}
-use lib.ListN.{length, set}
-use lib.Seq.{set_comm, set-set}
-use Rattle.endian.specs.Bytes.{patch}
+use lib.ListN.{length, get_or, set, drop, drop_of_length-le}
+use lib.Seq.{set_comm, set-set, drop-cons}
+use native.Mathlib.Nat.{mul-suc}
+use native.Mathlib.Numerals.{add-one}
+use Rattle.endian.specs.Bytes.{patch, be_bytes, numbers_bytes}
 use Rattle.endian.specs.Fields.{Field, Span, write_fields, spans, clear, tidy, insert, sorted}
+use Rattle.endian.proofs.Laws.{length-be, patch-append}
 use Rattle.endian.proofs.Fields.{and_left, and_right, either}
 
 ne-lt : (i j : ℕ) → i < j → i ≡ j → ⊥
@@ -46,6 +49,25 @@ trade f g xs t =
     either (patch f.at f.bytes (patch g.at g.bytes xs) ≡ patch g.at g.bytes (patch f.at f.bytes xs)) m n t
     (λ a. before f.at g.at f.bytes g.bytes xs (leb→le (f.at + length f.bytes) g.at a))
     (λ b. sym (before g.at f.at g.bytes f.bytes xs (leb→le (g.at + length g.bytes) f.at b)))
+
+-- a turn of a loop that writes numbers of `n` bytes one after the other: what is left to write, over what stands there now
+module _ (n o i : ℕ) (vs ys : List ℕ) where
+  pub run-next : (zs w : List ℕ) → i < length vs → patch (o + n * i) (numbers_bytes n (drop i vs)) ys ≡ w → zs ≡ patch (o + n * i) (be_bytes n (get_or vs i 0)) ys
+      → patch (o + n * (i + 1)) (numbers_bytes n (drop (i + 1) vs)) zs ≡ w
+  unfolding numbers_bytes
+  run-next zs w h e d =
+      let bs = be_bytes n (get_or vs i 0) in
+      let cs = numbers_bytes n (drop (i + 1) vs) in
+      let s : get_or vs i 0 ∷ drop (i + 1) vs ≡ drop i vs = rw add-one (sym (drop-cons vs i 0 h)) in
+      let m : n * (i + 1) ≡ n * i + n = rw add-one (mul-suc n i) in
+      let k : o + n * i + length bs ≡ o + n * (i + 1) = omega (arith, m, length-be n (get_or vs i 0)) in
+      ap (patch (o + n * (i + 1)) cs) d ∙ sym (before (o + n * i) (o + n * (i + 1)) bs cs ys (omega (arith, k)))
+      ∙ ap (λ (p : ℕ). patch (o + n * i) bs (patch p cs ys)) (sym k) ∙ sym (patch-append (o + n * i) bs cs ys)
+      ∙ ap (λ (l : List ℕ). patch (o + n * i) (numbers_bytes n l) ys) s ∙ e
+
+  pub run-done : (w : List ℕ) → length vs ≤ i → patch (o + n * i) (numbers_bytes n (drop i vs)) ys ≡ w → ys ≡ w
+  unfolding patch numbers_bytes
+  run-done w h e = rw (drop_of_length-le vs h) at e
 
 both : (a b : Bool) → T a → T b → T (a && b)
 both true b s t = t

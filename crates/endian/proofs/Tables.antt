@@ -2,7 +2,7 @@
 -- Assumes nothing.
 use mathlib.Core.Path.{◌≡◌, refl, ap, ap₂, sym, ◌∙◌, subst}
 use mathlib.Core.List.{List, [], ◌∷◌}
-use Prim.Native.Nat.{ℕ, suc, ◌+◌, ◌*◌, ◌≤◌, ◌<◌}
+use Prim.Native.Nat.{ℕ, zero, suc, ◌+◌, ◌*◌, ◌≤◌, ◌<◌}
 use native.Mathlib.Omega.{arith}
 use native.Mathlib.Numerals.{add-one}
 use mathlib.Core.Bool.{Bool, true, false, ◌&&◌}
@@ -10,6 +10,8 @@ use lib.Dec.{T, leb, leb→le, eqb, eqb→eq}
 use borrow.Author.Tests.{le-leb, eq-eqb, ne_eqb}
 use lib.ListN.{length, get_or, drop, drop_of_length-le}
 use lib.Seq.{drop-cons}
+use Rattle.std.proofs.Common.{◌↔◌}
+use Rattle.std.specs.Simd.{first_chunks}
 use Rattle.endian.specs.Bytes.{be_bytes, patch}
 use Rattle.endian.specs.Fields.{write_fields, table, table_inside, table_fits, PutAll}
 use Rattle.endian.proofs.Fields.{and_left, and_right}
@@ -26,23 +28,42 @@ next-pair i n at lt even =
 pub no_table : (m n : ℕ) (at : List ℕ) → (length at ≡ 2 * n → ⊥) → false ≡ table_fits m at n
 no_table m n at h = rw (ne_eqb (length at) (2 * n) h) refl
 
-module _ (m n : ℕ) (at : List ℕ) (even : length at ≡ 2 * n) where
-  all : table_inside m at ≡ table_fits m at n
-  all = rw (eq-eqb (length at) (2 * n) even) refl
+-- the pairs of a table, as the library's `as_chunks` gives them
+abbrev pair-inside : ℕ → List (List ℕ) → ℕ → Bool
+pair-inside m ps k = leb (get_or (get_or ps k []) 0 0 + get_or (get_or ps k []) 1 0) m
 
-  module _ (i : ℕ) (inv : table_inside m (drop (2 * i) at) ≡ table_inside m at) where
-    pub table-ends : n ≤ i → true ≡ table_fits m at n
-    table-ends h = sym (ap (table_inside m) (drop_of_length-le at (let g : length at ≤ 2 * i = omega arith in g))) ∙ inv ∙ all
+both-true : (a b : Bool) → (a && b) ≡ true → (a ≡ true) × (b ≡ true)
+both-true true b e = (refl, e)
+both-true false b e = absurd (subst T (sym e) tt)
 
-    module _ (lt : i < n) (b : Bool) (e : b ≡ leb (get_or at (2 * i) 0 + get_or at (2 * i + 1) 0) m) where
-      here : b && table_inside m (drop (2 * (i + 1)) at) ≡ table_inside m at
-      here = ap (λ (t : Bool). t && table_inside m (drop (2 * (i + 1)) at)) e ∙ sym (ap (table_inside m) (next-pair i n at lt even)) ∙ inv
+each-inside : (m k : ℕ) (at : List ℕ) → length at ≡ 2 * k → ((j : ℕ) → j < k → pair-inside m (first_chunks 2 k at) j ≡ true) → table_inside m at ≡ true
+each-inside m zero [] e h = refl
+each-inside m zero (o ∷ os) e h = absurd (omega arith)
+each-inside m (suc k) [] e h = absurd (omega arith)
+each-inside m (suc k) (o ∷ []) e h = absurd (omega arith)
+each-inside m (suc k) (o ∷ (n ∷ os)) e h =
+    let f : leb (o + n) m ≡ true = h 0 (omega arith) in
+    rw f (each-inside m k os (omega arith) (λ j l. h (suc j) (omega arith)))
 
-      pub table-turn : b ≡ true → table_inside m (drop (2 * (i + 1)) at) ≡ table_inside m at
-      table-turn t = sym (ap (λ (t : Bool). t && table_inside m (drop (2 * (i + 1)) at)) t) ∙ here
+inside-each : (m k : ℕ) (at : List ℕ) → length at ≡ 2 * k → table_inside m at ≡ true → (j : ℕ) → j < k → pair-inside m (first_chunks 2 k at) j ≡ true
+inside-each m zero at e t j h = absurd (omega arith)
+inside-each m (suc k) [] e t j h = absurd (omega arith)
+inside-each m (suc k) (o ∷ []) e t j h = absurd (omega arith)
+inside-each m (suc k) (o ∷ (n ∷ os)) e t zero h = (both-true (leb (o + n) m) (table_inside m os) t).0
+inside-each m (suc k) (o ∷ (n ∷ os)) e t (suc j) h = inside-each m k os (omega arith) (both-true (leb (o + n) m) (table_inside m os) t).1 j (omega arith)
 
-      pub table-stops : b ≡ false → false ≡ table_fits m at n
-      table-stops t = sym (ap (λ (t : Bool). t && table_inside m (drop (2 * (i + 1)) at)) t) ∙ here ∙ all
+-- what `all` says of them
+pub fits-by : (m n : ℕ) (at : List ℕ) (ps : List (List ℕ)) (t : Bool) → length at ≡ 2 * n → ps ≡ first_chunks 2 n at → length ps ≡ n
+    → (t ≡ true ↔ ((k : ℕ) → k < length ps → leb (get_or (get_or ps k []) 0 0 + get_or (get_or ps k []) 1 0) m ≡ true)) → t ≡ table_fits m at n
+fits-by m n at ps t even e l h = by t h ∙ rw (eq-eqb (length at) (2 * n) even) refl
+  where
+    by : (t : Bool) → (t ≡ true ↔ ((k : ℕ) → k < length ps → pair-inside m ps k ≡ true)) → t ≡ table_inside m at
+    by true h = sym (each-inside m n at even (λ j k. ap (λ (qs : List (List ℕ)). pair-inside m qs j) (sym e) ∙ h.0 refl j (omega arith)))
+    by false h = none (table_inside m at) refl
+      where
+        none : (u : Bool) → table_inside m at ≡ u → false ≡ u
+        none true f = h.1 (λ j k. ap (λ (qs : List (List ℕ)). pair-inside m qs j) e ∙ inside-each m n at even f j (omega arith))
+        none false f = refl
 
 -- what the test says
 pub is-fitting : (m n : ℕ) (at : List ℕ) → table_fits m at n ≡ true → T (table_inside m at)

@@ -38,12 +38,10 @@ pub(crate) fn store(buf: &mut [u8], off: usize, n: usize, v: u64)
     requires { off + n ≤ length buf.old }
     ensures { buf.new ≡ patch off (be_bytes n v) buf.old }
 {
-    let mut i = n;
     let mut x = v;
-    while 0 < i {
-        i -= 1;
+    for i in (0..n).rev() {
         buf[off + i] = (x % 256) as u8;
-        x = x / 256;
+        x /= 256;
     }
 }
 
@@ -93,11 +91,9 @@ fn load(buf: &[u8], off: usize, n: usize) -> u64
     requires { (off + n ≤ length buf.now) × (n ≤ 8) }
     ensures { (result ≡ be_at n off buf.now) × (result < 256 ^ n) }
 {
-    let mut i = 0;
     let mut x: u64 = 0;
-    while i < n {
-        x = x * 256 + wide(buf[off + i]);
-        i += 1;
+    for b in &buf[off..off + n] {
+        x = x * 256 + wide(*b);
     }
     x
 }

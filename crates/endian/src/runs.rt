@@ -7,38 +7,16 @@ ghost use Rattle.endian.specs.Fields.{write_fields, table, table_inside, table_f
 use crate::numbers::{inside, store};
 use refusals::WRONG_LENGTH;
 
-fn copy(buf: &mut [u8], off: usize, src: &[u8])
-    requires { off + length src.now ≤ length buf.old }
-    ensures { buf.new ≡ patch off src.now buf.old }
-{
-    let mut i = src.len();
-    while 0 < i {
-        i -= 1;
-        buf[off + i] = src[i];
-    }
-}
-
 // The bytes of `src`.
 pub fn put_bytes(buf: &mut [u8], off: usize, src: &[u8]) -> u32
     ensures { Put (off + length src.now) (patch off src.now buf.old) buf.old result
         buf.new }
 {
     if inside(buf.len(), off, src.len()) {
-        copy(buf, off, src);
+        buf[off..off + src.len()].copy_from_slice(src);
         return 0;
     }
     WRONG_LENGTH
-}
-
-fn repeat(buf: &mut [u8], off: usize, n: usize, b: u8)
-    requires { off + n ≤ length buf.old }
-    ensures { buf.new ≡ patch off (replicate n b) buf.old }
-{
-    let mut i = n;
-    while 0 < i {
-        i -= 1;
-        buf[off + i] = b;
-    }
 }
 
 // `n` copies of the byte `b`.
@@ -46,7 +24,7 @@ pub fn put_same(buf: &mut [u8], off: usize, n: usize, b: u8) -> u32
     ensures { Put (off + n) (patch off (replicate n b) buf.old) buf.old result buf.new }
 {
     if inside(buf.len(), off, n) {
-        repeat(buf, off, n, b);
+        buf[off..off + n].fill(b);
         return 0;
     }
     WRONG_LENGTH
@@ -56,10 +34,8 @@ fn store32_run(buf: &mut [u8], off: usize, v: &[u32])
     requires { off + 4 * length v.now ≤ length buf.old }
     ensures { buf.new ≡ patch off (numbers_bytes 4 v.now) buf.old }
 {
-    let mut i = v.len();
-    while 0 < i {
-        i -= 1;
-        store(buf, off + 4 * i, 4, v[i] as u64);
+    for (i, x) in v.iter().enumerate() {
+        store(buf, off + 4 * i, 4, *x as u64);
     }
 }
 
@@ -81,31 +57,16 @@ pub fn put32_run(buf: &mut [u8], off: usize, v: &[u32]) -> u32
 fn table_fits(len: usize, at: &[usize], n: usize) -> bool
     ensures { result ≡ table_fits len at.now n }
 {
-    if at.len() / 2 != n {
-        return false;
-    }
-    if at.len() % 2 != 0 {
-        return false;
-    }
-    let mut i = 0;
-    while i < n {
-        if inside(len, at[2 * i], at[2 * i + 1]) {
-            i += 1;
-        } else {
-            return false;
-        }
-    }
-    true
+    let (pairs, rest) = at.as_chunks::<2>();
+    pairs.len() == n && rest.is_empty() && pairs.iter().all(|pair| inside(len, pair[0], pair[1]))
 }
 
 fn store_all(buf: &mut [u8], end: usize, at: &[usize], v: &[u64])
     requires { (end ≤ length buf.old) × (T (table_inside end at.now)) × (length at.now ≡ 2 * length v.now) }
     ensures { buf.new ≡ write_fields (table at.now v.now) buf.old }
 {
-    let mut i = 0;
-    while i < v.len() {
-        store(buf, at[2 * i], at[2 * i + 1], v[i]);
-        i += 1;
+    for (i, x) in v.iter().enumerate() {
+        store(buf, at[2 * i], at[2 * i + 1], *x);
     }
 }
 

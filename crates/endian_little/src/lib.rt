@@ -15,12 +15,10 @@ fn store_le(buf: &mut [u8], off: usize, n: usize, v: u32)
     requires { off + n ≤ length buf.old }
     ensures { buf.new ≡ patch off (le_bytes n v) buf.old }
 {
-    let mut i = 0;
     let mut x = v;
-    while i < n {
+    for i in 0..n {
         buf[off + i] = (x % 256) as u8;
-        x = x / 256;
-        i += 1;
+        x /= 256;
     }
 }
 
@@ -50,11 +48,9 @@ fn load_le(buf: &[u8], off: usize, n: usize) -> u64
     requires { (off + n ≤ length buf.now) × (n ≤ 8) }
     ensures { (result ≡ le_at n off buf.now) × (result < 256 ^ n) }
 {
-    let mut i = n;
     let mut x: u64 = 0;
-    while 0 < i {
-        i -= 1;
-        x = x * 256 + wide(buf[off + i]);
+    for b in buf[off..off + n].iter().rev() {
+        x = x * 256 + wide(*b);
     }
     x
 }

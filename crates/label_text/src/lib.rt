@@ -87,10 +87,8 @@ fn store_label(label: &[u8], buf: &mut [u8]) -> usize
         × (buf.new ≡ patch result (label_text label.now) buf.old) }
 {
     let mut at = 48;
-    let mut i = 12;
-    while 0 < i {
-        i -= 1;
-        at = store_before(label[i], buf, at);
+    for b in label.iter().rev() {
+        at = store_before(*b, buf, at);
     }
     at
 }

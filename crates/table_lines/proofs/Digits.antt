@@ -5,8 +5,8 @@ use mathlib.Core.Bool.{Bool, true, false, cond}
 use mathlib.Core.List.{List, [], ◌∷◌, ◌++◌}
 use Prim.Native.Nat.{ℕ, zero, suc, ◌+◌, ◌-◌, ◌*◌, ◌/◌, ◌%◌, ◌^◌, ◌≤◌, ◌<◌}
 use native.Mathlib.Omega.{arith}
-use native.Mathlib.Nat.{pow-suc}
-use lib.Dec.{ltb}
+use native.Mathlib.Nat.{pow-suc, one-le-pow}
+use lib.Dec.{ltb, lit<}
 use lib.ListN.{length, length-append}
 use borrow.Author.Tests.{lt-ltb, le-ltb, ltb-true, ltb-false}
 use Rattle.table_lines.specs.Decimal.{digit, digits, decimal, value_after}
@@ -62,27 +62,6 @@ length-small n h = rw (decimal-small n h) refl
 pub length_more : (n : ℕ) → 10 ≤ n → length (decimal n) ≡ length (decimal (n / 10)) + 1
 length_more n h = rw (decimal-more n h) (length-append (decimal (n / 10)) (digit (n % 10) ∷ []))
 
--- two, three and four digits
-pub length_two : (n : ℕ) → 10 ≤ n → n < 100 → length (decimal n) ≡ 2
-length_two n h l = let e = length_more n h in let d = length-small (n / 10) (omega arith) in omega arith
-
-pub length_three : (n : ℕ) → 100 ≤ n → n < 1000 → length (decimal n) ≡ 3
-length_three n h l = let e = length_more n (omega arith) in let d = length_two (n / 10) (omega arith) (omega arith) in omega arith
-
-pub length-four : (n : ℕ) → 1000 ≤ n → n < 10000 → length (decimal n) ≡ 4
-length-four n h l = let e = length_more n (omega arith) in let d = length_three (n / 10) (omega arith) (omega arith) in omega arith
-
--- four more
-pub length-four-more : (n : ℕ) → 10000 ≤ n → length (decimal n) ≡ length (decimal (n / 10000)) + 4
-length-four-more n h =
-    let a = length_more n (omega arith) in
-    let b = length_more (n / 10) (omega arith) in
-    let c = length_more (n / 10 / 10) (omega arith) in
-    let d = length_more (n / 10 / 10 / 10) (omega arith) in
-    let q : n / 10 / 10 / 10 / 10 ≡ n / 10000 = omega arith in
-    let e = ap (λ (k : ℕ). length (decimal k)) q in
-    omega arith
-
 -- a number of `k` + 1 digits
 pub length_most : (k n : ℕ) → n < 10 ^ suc k → length (decimal n) ≤ suc k
 length_most zero n h = let e = length-small n (let g : n < 10 = h in g) in omega arith
@@ -95,6 +74,24 @@ length_most (suc k) n h = go (ltb n 10) refl (length_most k (n / 10))
         let p = pow-suc 10 (suc k) in
         let l = f (omega (arith, p)) in
         omega arith
+
+length_least : (k n : ℕ) → 10 ^ k ≤ n → suc k ≤ length (decimal n)
+length_least zero n h = go (ltb n 10) refl
+  where
+    go : (t : Bool) → ltb n 10 ≡ t → 1 ≤ length (decimal n)
+    go true e = let d = length-small n (ltb-true n 10 e) in omega arith
+    go false e = let d = length_more n (ltb-false n 10 e) in omega arith
+length_least (suc k) n h =
+    let p = pow-suc 10 k in
+    let q = one-le-pow k 10 (lit< tt) in
+    let d = length_more n (omega (arith, p, q)) in
+    let l = length_least k (n / 10) (omega (arith, p)) in
+    omega arith
+
+pub length_is : (k n : ℕ) → 10 ^ k ≤ n → n < 10 * 10 ^ k → k + 1 ≡ length (decimal n)
+length_is k n h l =
+    let p = pow-suc 10 k in
+    omega (arith, length_least k n h, length_most k n (omega (arith, p)))
 
 pub length-64 : (n : ℕ) → n < 2 ^ 64 → length (decimal n) ≤ 20
 length-64 n h = length_most 19 n (omega arith)

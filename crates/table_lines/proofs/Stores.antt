@@ -2,15 +2,17 @@
 -- Assumes nothing.
 use mathlib.Core.Path.{◌≡◌, refl, sym, ap, ◌∙◌}
 use mathlib.Core.List.{List, [], ◌∷◌, ◌++◌}
-use Prim.Native.Nat.{ℕ, zero, suc, ◌+◌, ◌-◌, ◌/◌, ◌%◌, ◌≤◌, ◌<◌}
+use Prim.Native.Nat.{ℕ, zero, suc, ◌+◌, ◌-◌, ◌*◌, ◌/◌, ◌%◌, ◌^◌, ◌≤◌, ◌<◌}
 use native.Mathlib.Omega.{arith}
 use lib.ListN.{length, get_or, set, drop, length-append}
 use lib.Seq.{append_snoc, drop-length}
+use Rattle.std.proofs.lemmas.List.Recursion.{is_sum_by}
+use Rattle.std.specs.List.{sum_by}
 use Rattle.endian.specs.Bytes.{patch}
 use Rattle.endian.proofs.Laws.{patch-append, drop-turn}
 use Rattle.table_lines.specs.Decimal.{digit, decimal}
 use Rattle.table_lines.specs.Lines.{separator_before, line}
-use Rattle.table_lines.proofs.Digits.{decimal-small, decimal-more, length_more}
+use Rattle.table_lines.proofs.Digits.{decimal-small, decimal-more, length_more, length-64}
 
 patch-one : (at b : ℕ) (xs : List ℕ) → patch at (b ∷ []) xs ≡ set xs at b
 unfolding patch
@@ -39,6 +41,15 @@ pub length-line : (n : ℕ) (ns : List ℕ) → length (line (n ∷ ns)) ≡ len
 unfolding line
 length-line n ns =
     length-append (decimal n) (separator_before ns ∷ line ns) ∙ (let e : length (decimal n) + suc (length (line ns)) ≡ length (decimal n) + 1 + length (line ns) = omega arith in e)
+
+pub line-sum : (ns : List ℕ) → sum_by (λ (n : ℕ). length (decimal n) + 1) ns ≡ length (line ns)
+unfolding line
+line-sum ns = sym (is_sum_by (λ (ms : List ℕ). length (line ms)) (λ (n : ℕ). length (decimal n) + 1) refl length-line ns)
+
+pub line-most : (ns : List ℕ) → ((i : ℕ) → get_or ns i 0 < 2 ^ 64) → length (line ns) ≤ 21 * length ns
+unfolding line
+line-most [] h = omega arith
+line-most (n ∷ ns) h = omega (arith, length-line n ns, length-64 n (h 0), line-most ns (λ i. h (suc i)))
 
 pub rest-length : (k : ℕ) (ns : List ℕ) → length (line (drop k ns)) ≤ length (line ns)
 rest-length zero ns = omega arith

@@ -3,34 +3,14 @@ ghost use Rattle.std.specs.Prelude.{◌≡◌, [], ◌∷◌, ◌++◌, ◌+◌,
 ghost use Rattle.endian.specs.Bytes.{patch};
 ghost use Rattle.table_lines.specs.Decimal.{decimal};
 
-// How many digits a number below 10,000 has.
-fn short_length(n: u64) -> usize
-    requires { n < 10000 }
-    ensures { result ≡ length (decimal n) }
-{
-    if n < 10 {
-        return 1;
-    }
-    if n < 100 {
-        return 2;
-    }
-    if n < 1000 {
-        return 3;
-    }
-    4
-}
-
-// How many digits the number has; four are taken at a time.
+// How many digits the number has.
 pub fn decimal_length(n: u64) -> usize
     ensures { (result ≡ length (decimal n)) × (result ≤ 20) }
 {
-    let mut k = 0;
-    let mut x = n;
-    while 10000 <= x {
-        x = x / 10000;
-        k += 4;
+    match n.checked_ilog10() {
+        Some(k) => k as usize + 1,
+        None => 1,
     }
-    k + short_length(x)
 }
 
 // The digits that end at `end`, from the last to the first; says where they begin.

@@ -47,13 +47,7 @@ fn line_length(numbers: &[u64]) -> usize
     requires { length numbers.now ≤ 7 }
     ensures { (result ≡ length (line numbers.now)) × (result ≤ 147) }
 {
-    let mut n = 0;
-    let mut i = numbers.len();
-    while 0 < i {
-        i -= 1;
-        n = n + decimal_length(numbers[i]) + 1;
-    }
-    n
+    numbers.iter().map(|n| decimal_length(*n) + 1).sum()
 }
 
 // The line that ends at `end`, from its last number to its first.
@@ -64,10 +58,8 @@ fn store_line(numbers: &[u64], buf: &mut [u8], end: usize) -> usize
 {
     let mut at = end;
     let mut behind = b'\n';
-    let mut i = numbers.len();
-    while 0 < i {
-        i -= 1;
-        at = store_number(numbers[i], behind, buf, at);
+    for number in numbers.iter().rev() {
+        at = store_number(*number, behind, buf, at);
         behind = b' ';
     }
     at

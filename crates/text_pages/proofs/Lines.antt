@@ -32,11 +32,12 @@ module _ (xs : List ℕ) (at end : ℕ) (e : end ≡ place_of_byte newline at xs
       drop-drop (suc n) at xs ∙ rest-nil xs (at + suc n) (omega (arith, e)) ∙ sym (rest-nil xs (length xs) (omega arith))
 
 -- ---- n lines
-pub line-turn : (n : ℕ) (ys zs : List ℕ) → 0 < n → behind_lines 1 ys ≡ zs → behind_lines n ys ≡ behind_lines (n - 1) zs
+-- a turn of a loop over n of them
+pub one-line : (n i : ℕ) (ys zs : List ℕ) → i < n → behind_lines 1 ys ≡ zs → behind_lines (n - i) ys ≡ behind_lines (n - (i + 1)) zs
 unfolding behind_lines
-line-turn n ys zs h e =
-    let k : n ≡ suc (n - 1) = omega arith in
-    ap (λ (m : ℕ). behind_lines m ys) k ∙ ap (behind_lines (n - 1)) e
+one-line n i ys zs h e =
+    let k : n - i ≡ suc (n - (i + 1)) = omega arith in
+    ap (λ (m : ℕ). behind_lines m ys) k ∙ ap (behind_lines (n - (i + 1))) e
 
 pub lines-done : (n : ℕ) (ys : List ℕ) → n ≡ 0 → behind_lines n ys ≡ ys
 unfolding behind_lines

@@ -2,24 +2,28 @@
 // changed.
 #![tactic(auto)]
 
-ghost use Rattle.std.specs.Prelude.{◌≡◌, ◌+◌, ◌≤◌, max, length, drop};
+ghost use Rattle.std.specs.Prelude.{◌≡◌, ◌+◌, ◌≤◌, max, length, drop, eqb};
+ghost use Rattle.seqs.specs.Lists.{first_index};
 ghost use Rattle.table_lines.specs.Lines.{PutLine};
 ghost use Rattle.text_pages.specs.Pages.{place_of_byte, behind_lines, line_at};
 
 use table_lines::Written;
 
+// Where the first byte b stands; the length where it doesn't.
+fn first_of(bytes: &[u8], b: u8) -> usize
+    ensures { (result ≡ first_index (λ c. eqb c b) bytes.now) × (result ≤ length bytes.now) }
+{
+    bytes.iter().position(|c| *c == b).unwrap_or(bytes.len())
+}
+
 // Where the first byte b stands, from an offset on; the length where it doesn't.
 pub fn place_of(bytes: &[u8], at: usize, b: u8) -> usize
     ensures { (result ≡ place_of_byte b at bytes.now) × (at ≤ result) × (result ≤ max at (length bytes.now)) }
 {
-    let mut i = at;
-    while i < bytes.len() {
-        if bytes[i] == b {
-            return i;
-        }
-        i += 1;
+    match bytes.get(at..) {
+        Some(rest) => at + first_of(rest, b),
+        None => at,
     }
-    i
 }
 
 // Where the line behind the one that holds an offset begins; the length where there is none.
@@ -40,13 +44,11 @@ fn line_start(page: &[u8], n: usize) -> usize
     ensures { (drop result page.now ≡ behind_lines n page.now) × (result ≤ length page.now) }
 {
     let mut at = 0;
-    let mut left = n;
-    while 0 < left {
-        if page.len() <= at {
+    for i in 0..n {
+        if at == page.len() {
             return at;
         }
         at = next_line(page, at);
-        left -= 1;
     }
     at
 }

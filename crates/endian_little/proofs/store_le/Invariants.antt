@@ -9,6 +9,3 @@ use Rattle.endian_little.proofs.store_le.Given as goal
 
 abbrev pub invariant-loop-i : goal.invariant-loop-i
 invariant-loop-i l = (l.i ≤ l.n) × (patch (l.off + l.i) (le_bytes (l.n - l.i) l.x) l.buf ≡ patch l.off (le_bytes l.n l.v) l.initial.buf) × (length l.buf ≡ length l.initial.buf)
-
-abbrev pub decreases-loop-i : goal.decreases-loop-i
-decreases-loop-i l = l.n - l.i

@@ -1,26 +1,23 @@
--- `text_pages::place_of` meets its contract. Invariant: the byte stands at i or later.
+-- `text_pages::place_of` meets its contract.
 -- Assumes nothing.
-use mathlib.Core.Path.{refl, sym, ◌∙◌}
+use mathlib.Core.Path.{◌≡◌, sym, ap}
+use mathlib.Core.Path.{◌∙◌}
+use mathlib.Core.Logic.{inl, inr}
+use Prim.Native.Nat.{ℕ, ◌+◌}
 use native.Mathlib.Omega.{arith}
-use borrow.Author.Tests.{eq-eqb, ne_eqb}
+use lib.ListN.{drop}
+use Rattle.std.proofs.lemmas.List.{take_rest}
 use Rattle.text_pages.specs.Pages.{place_of_byte}
-use Rattle.text_pages.proofs.Places.{index-here, index-later, index-past}
+use Rattle.text_pages.proofs.Places.{index-past}
 use Rattle.text_pages.proofs.place_of.Goals as goal
 
-pub loop-i-init : goal.loop-i-init
+pub returns-in-Some : goal.returns-in-Some
 unfolding place_of_byte
-loop-i-init c = (refl, omega arith, omega arith)
+returns-in-Some c = let l = c.in-Some.ensures.lookup.0 in
+    let r : c.in-Some.rest.now ≡ drop c.args.at c.args.bytes.now = l.2 ∙ take_rest c.args.bytes.now c.args.at in
+    let e = c.first_of.ensures in
+    (rw r at (ap (λ (k : ℕ). c.args.at + k) e.0), omega arith, omega (arith, e.1))
 
-pub returns-then-bytes-i : goal.returns-then-bytes-i
-returns-then-bytes-i c = (sym (c.loop-i.invariant.0 ∙ index-here _ _ _ (omega arith) (eq-eqb _ _ c.if-bytes-i.true)), c.loop-i.invariant.1, c.loop-i.invariant.2)
-
-pub loop-i-preserved : goal.loop-i-preserved
-loop-i-preserved c = (
-  c.loop-i.invariant.0
-      ∙ index-later _ c.args.bytes.now c.loop-i.i (omega arith) (ne_eqb _ _ c.if-bytes-i.false),
-  omega arith,
-  omega arith,
-)
-
-pub returns : goal.returns
-returns c = (sym (c.loop-i.invariant.0 ∙ index-past _ _ _ (omega arith)), c.loop-i.invariant.1, c.loop-i.invariant.2)
+pub returns-in-None : goal.returns-in-None
+unfolding place_of_byte
+returns-in-None c = elim c.in-None.ensures.lookup.0 [ inl h ↦ (sym (index-past _ c.args.bytes.now c.args.at (omega arith)), omega arith, omega arith) | inr h ↦ absurd (omega arith) ]

@@ -8,6 +8,3 @@ use Rattle.endian.proofs.numbers.store.Given as goal
 
 abbrev pub invariant-loop-i : goal.invariant-loop-i
 invariant-loop-i l = (l.i ≤ l.n) × (l.x ≡ l.v / 256 ^ (l.n - l.i)) × (l.buf ≡ patch (l.off + l.i) (be_bytes (l.n - l.i) l.v) l.initial.buf) × (length l.buf ≡ length l.initial.buf)
-
-abbrev pub decreases-loop-i : goal.decreases-loop-i
-decreases-loop-i l = l.i

@@ -1,24 +1,17 @@
--- `endian::runs::store32_run` meets its contract. Invariant: the numbers from i on stand in their places, all else is as it was.
+-- `endian::runs::store32_run` meets its contract. Invariant: the numbers from i on, over what stands there, still make all of them.
 -- Assumes nothing.
-use mathlib.Core.Path.{◌≡◌, refl, ap, ◌∙◌, sym}
-use Prim.Native.Nat.{◌+◌, ◌*◌, ◌-◌}
+use mathlib.Core.Path.{refl, ◌∙◌}
 use native.Mathlib.Nat.{add-zero}
 use native.Mathlib.Omega.{arith}
-use lib.ListN.{length}
-use lib.Seq.{drop-length}
-use Rattle.endian.specs.Bytes.{patch, numbers_bytes}
-use Rattle.endian.proofs.Laws.{run-turn}
+use Rattle.endian.proofs.Order.{run-next, run-done}
 use Rattle.endian.proofs.runs.store32_run.Goals as goal
 
 pub loop-i-init : goal.loop-i-init
-unfolding patch numbers_bytes
-loop-i-init c = let a = c.args in (omega arith, sym (ap (λ l. patch (a.off + 4 * length a.v.now) (numbers_bytes 4 l) a.buf.now) (drop-length a.v.now)), refl)
-
-pub overflow_cast-v : goal.overflow_cast-v
-overflow_cast-v c = omega (arith, c.type_inv.v (c.loop-i.i - 1))
+loop-i-init c = (omega arith, simp add-zero, refl)
 
 pub loop-i-preserved : goal.loop-i-preserved
-loop-i-preserved c = let a = c.args in let l = c.loop-i in let put = c.store in (omega (arith, l.invariant.0), run-turn 4 a.off l.i a.v.now a.buf.now l.buf put.new.buf c.loop-i-test.true l.invariant.0 l.invariant.1 put.ensures, put.auto.buf ∙ l.invariant.2)
+loop-i-preserved c = let l = c.loop-i in
+    (omega arith, run-next 4 c.args.off l.i c.args.v.now l.buf _ _ c.loop-i-test.true l.invariant.1 c.store.ensures, c.store.auto.buf ∙ l.invariant.2)
 
 pub returns : goal.returns
-returns c = let l = c.loop-i in let z : l.i ≡ 0 = omega arith in l.invariant.1 ∙ rw (z, add-zero)
+returns c = run-done 4 c.args.off c.loop-i.i c.args.v.now c.loop-i.buf _ c.loop-i-test.false c.loop-i.invariant.1

@@ -1,17 +1,12 @@
--- `table_lines::decimal::decimal_length` meets its contract. Invariant: the number has k digits more than x.
+-- `table_lines::decimal::decimal_length` meets its contract.
 -- Assumes nothing.
+use mathlib.Core.Path.{sym}
 use native.Mathlib.Omega.{arith}
-use Rattle.table_lines.proofs.Digits.{length-four-more, length-64}
+use Rattle.table_lines.proofs.Digits.{length_is, length-small, length-64}
 use Rattle.table_lines.proofs.decimal.decimal_length.Goals as goal
 
-pub overflow_add-k : goal.overflow_add-k
-overflow_add-k c = omega (arith, length-64 c.args.n c.ranges.n.fits)
+pub returns-in-Some : goal.returns-in-Some
+returns-in-Some c = let e = length_is c.in-Some.k c.args.n c.in-Some.ensures.power_le c.in-Some.ensures.next_power_gt in (e, omega (arith, e, length-64 c.args.n c.ranges.n.fits))
 
-pub loop-x-preserved : goal.loop-x-preserved
-loop-x-preserved c = omega (arith, length-four-more c.loop-x.x c.loop-x-test.true)
-
-pub overflow_add-result : goal.overflow_add-result
-overflow_add-result c = omega (arith, length-64 c.args.n c.ranges.n.fits)
-
-pub returns : goal.returns
-returns c = (omega arith, omega (arith, length-64 c.args.n c.ranges.n.fits))
+pub returns-in-None : goal.returns-in-None
+returns-in-None c = (sym (length-small c.args.n (omega (arith, c.in-None.ensures.none))), omega arith)
