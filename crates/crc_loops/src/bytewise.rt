@@ -19,10 +19,8 @@ fn run(t: &[u32; 256], from: u32, s: &[u8]) -> u32
     ensures { result ≡ crc_bytes from s.now }
 {
     let mut c = from;
-    let mut i = 0;
-    while i < s.len() {
-        c = step(t, c, s[i]);
-        i += 1;
+    for b in s {
+        c = step(t, c, *b);
     }
     c
 }

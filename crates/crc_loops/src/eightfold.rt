@@ -1,5 +1,5 @@
 // Eight bytes at a time, through eight tables.
-ghost use Rattle.std.specs.Prelude.{◌≡◌, ◌+◌, ◌*◌, ◌≤◌, ◌<◌, length, drop};
+ghost use Rattle.std.specs.Prelude.{◌≡◌, ◌+◌, ◌*◌, ◌≤◌, ◌<◌, length};
 ghost use Rattle.endian_little.specs.Bytes.{le_at};
 ghost use Rattle.crc_register.specs.Register.{crc_bits, crc_bytes, zeroed};
 ghost use Rattle.crc_register.specs.Tables.{slice_table};
@@ -47,17 +47,15 @@ fn word(s: &[u8], at: usize) -> u32
     a + 256 * (b + 256 * (c + 256 * d))
 }
 
-// The bytes from `at` on, one by one.
-fn tail(t: &[u32; 2048], from: u32, s: &[u8], at: usize) -> u32
-    requires { (t.now ≡ slice_table) × (at ≤ length s.now) }
-    ensures { result ≡ crc_bytes from (drop at s.now) }
+// The bytes one by one.
+fn tail(t: &[u32; 2048], from: u32, s: &[u8]) -> u32
+    requires { t.now ≡ slice_table }
+    ensures { result ≡ crc_bytes from s.now }
 {
     let mut c = from;
-    let mut i = at;
-    while i < s.len() {
-        let v = look(t, 0, (c ^ wide(s[i])) % 256);
+    for b in s {
+        let v = look(t, 0, (c ^ wide(*b)) % 256);
         c = v ^ (c >> 8);
-        i += 1;
     }
     c
 }
@@ -67,15 +65,14 @@ fn eights(t: &[u32; 2048], from: u32, s: &[u8]) -> u32
     requires { t.now ≡ slice_table }
     ensures { result ≡ crc_bytes from s.now }
 {
+    let (chunks, rest) = s.as_chunks::<8>();
     let mut c = from;
-    let mut i = 0;
-    while 8 <= s.len() - i {
-        let a = fold(t, 4, c ^ word(s, i));
-        let b = fold(t, 0, word(s, i + 4));
+    for eight in chunks {
+        let a = fold(t, 4, c ^ word(eight, 0));
+        let b = fold(t, 0, word(eight, 4));
         c = a ^ b;
-        i += 8;
     }
-    tail(t, c, s, i)
+    tail(t, c, rest)
 }
 
 // All of `s`.

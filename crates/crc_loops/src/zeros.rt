@@ -5,16 +5,13 @@ ghost use Rattle.crc_register.specs.Tables.{leap_table};
 
 use crc_tables::leaps;
 
-// Whether the 64 bytes at `at` are zeros.
-fn is_zero(s: &[u8], at: usize) -> bool
-    requires { at + 64 ≤ length s.now }
-    ensures { result ≡ true → (k : ℕ) → k < 64 → get_or s.now (at + k) 0 ≡ 0 }
+// Whether the bytes are zeros. All are read before that is asked: a turn has no branch.
+fn is_zero(s: &[u8]) -> bool
+    ensures { result ≡ true → (k : ℕ) → k < length s.now → get_or s.now k 0 ≡ 0 }
 {
     let mut x = 0u8;
-    let mut k = 0;
-    while k < 64 {
-        x = x | s[at + k];
-        k += 1;
+    for b in s {
+        x |= *b;
     }
     x == 0
 }
@@ -25,18 +22,16 @@ pub(crate) fn trim(s: &[u8]) -> usize
         × (drop (length s.now - result * 64) s.now ≡ replicate (result * 64) 0)) }
 {
     let mut at = s.len();
-    let mut n = 0;
-    while n < 511 {
+    for n in 0..511 {
         if at < 64 {
             return n;
         }
-        if !is_zero(s, at - 64) {
+        if !is_zero(&s[at - 64..at]) {
             return n;
         }
         at -= 64;
-        n += 1;
     }
-    n
+    511
 }
 
 // `v`, or 0.
@@ -58,11 +53,9 @@ fn jump(t: &[u32; 288], k: usize, c: u32) -> u32
     let at = k * 32;
     let mut r = 0u32;
     let mut x = c;
-    let mut i = 0;
-    while i < 32 {
-        r = r ^ when(x % 2, t[at + i]);
-        x = x / 2;
-        i += 1;
+    for entry in &t[at..at + 32] {
+        r ^= when(x % 2, *entry);
+        x /= 2;
     }
     r
 }
@@ -83,13 +76,11 @@ fn leap(t: &[u32; 288], n: usize, c: u32) -> u32
     requires { (t.now ≡ leap_table) × (n < 512) }
     ensures { result ≡ crc_bits (512 * n) c 0 }
 {
-    let mut k = 0;
     let mut left = n;
     let mut x = c;
-    while 0 < left {
+    for k in 0..9 {
         x = hop(t, k, left, x);
-        left = left / 2;
-        k += 1;
+        left /= 2;
     }
     x
 }

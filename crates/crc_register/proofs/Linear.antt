@@ -1,21 +1,21 @@
 -- Zero bits are a linear map of the register: what its tables say, for any number of bits.
 -- Assumes nothing.
-use mathlib.Core.Path.{◌≡◌, refl, ap, ap₂, sym, ◌∙◌, subst}
+use mathlib.Core.Path.{◌≡◌, refl, ap, ap₂, sym, ◌∙◌}
 use mathlib.Core.List.{List, [], ◌∷◌, ◌++◌, map}
 use Prim.Native.Nat.{ℕ, zero, suc, ◌+◌, ◌-◌, ◌*◌, ◌/◌, ◌%◌, ◌^◌, ◌<◌, ◌≤◌}
-use native.Mathlib.Nat.{mod-lt, add-zero, zero-add, suc-add, suc-mul, pow-suc, mul_assoc, mul_comm, mul-one, mul-zero, one-mul, zero-mul, mul-add, add-mul, div-add-mod', div-lt_iff_lt-mul, div-one, add_comm, eq-zero-or-pos}
+use native.Mathlib.Nat.{mod-lt, add-zero, zero-add, suc-add, suc-mul, pow-suc, mul_assoc, mul_comm, mul-one, mul-zero, one-mul, zero-mul, mul-add, add-mul, div-add-mod', add_comm, eq-zero-or-pos}
 use mathlib.Core.Logic.{⊎_elim}
 use native.Mathlib.Omega.{arith}
 use native.Mathlib.Numerals.{add-one}
 use lib.Dec.{lit<, lit≤}
 use Rattle.endian.specs.Bytes.{patch}
 use Rattle.endian.proofs.Laws.{take-patch, drop-patch}
-use lib.Pow.{pow_pos, pow-lt, shr-shr}
+use lib.Pow.{pow_pos, pow-lt}
 use lib.ListN.{get_or, length, take, drop, replicate, length-map, get_or-append, length-drop, length-replicate, get_or-replicate, take-append-drop}
 use lib.Seq.{get_or-append-add, ext_get_or, get_or-drop}
-use lib.Bits.{bit_xor, xor_shifted, xor_zero_r, xor_zero_l, xor_comm, xor_lt, bit_or, or_add_and, and_le_l, and_le_r}
+use lib.Bits.{bit_xor, xor_shifted, xor_zero_r, xor_comm, xor_lt, bit_or, or_add_and, and_le_l, and_le_r}
 use Rattle.crc_register.proofs.Xor.{by-digit, xor_assoc}
-use Rattle.crc_register.proofs.Register.{bits-sum, bits_in, byte-in, bytes-append, update-turn}
+use Rattle.crc_register.proofs.Register.{bits-sum, byte-in, bytes-append, update-turn}
 use Rattle.crc_register.specs.Register.{polynomial, crc_bit, crc_bits, crc_bytes, zeroed}
 use Rattle.crc_register.specs.Tables.{register_table, itself, power_of_two, through, tables_made, row, byte_table, leap_table, zero_byte, slice_table}
 

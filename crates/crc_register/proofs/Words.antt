@@ -1,21 +1,20 @@
 -- Four bytes, and eight, go into the register as a number.
 -- Assumes nothing.
-use mathlib.Core.Path.{◌≡◌, refl, ap, ap₂, sym, ◌∙◌, subst}
-use mathlib.Core.List.{List, [], ◌∷◌}
-use Prim.Native.Nat.{ℕ, zero, suc, ◌+◌, ◌-◌, ◌*◌, ◌/◌, ◌%◌, ◌^◌, ◌<◌, ◌≤◌}
-use native.Mathlib.Nat.{mod-lt, add-zero, zero-add, mul_comm, div-eq_of_lt, add_comm}
+use mathlib.Core.Path.{◌≡◌, ap, ap₂, sym, ◌∙◌}
+use mathlib.Core.List.{List}
+use Prim.Native.Nat.{ℕ, suc, ◌+◌, ◌*◌, ◌/◌, ◌%◌, ◌<◌, ◌≤◌}
+use native.Mathlib.Nat.{mod-lt, add-zero, div-eq_of_lt}
 use native.Mathlib.Omega.{arith}
-use native.Mathlib.Numerals.{towards_suc, add-one}
-use lib.Dec.{lit<, T}
-use lib.ListN.{get_or, length, drop, take, drop_of_length-le}
+use native.Mathlib.Numerals.{add-one}
+use lib.Dec.{lit<}
+use lib.ListN.{get_or, length, drop, drop_of_length-le}
 use lib.Seq.{drop-cons}
-use lib.Bits.{bit_xor, xor_shifted, xor_zero_r, xor_comm, xor_shr}
+use lib.Bits.{bit_xor, xor_shifted, xor_zero_r, xor_comm}
 use Rattle.crc_register.proofs.Xor.{xor_assoc}
 use Rattle.crc_register.proofs.Register.{bits-sum, bits_in, bits-high, byte-in}
-use Rattle.crc_register.specs.Register.{crc_bit, crc_bits, crc_bytes}
+use Rattle.crc_register.specs.Register.{crc_bits, crc_bytes}
 use Rattle.endian_little.specs.Bytes.{le_at}
-use Rattle.crc_register.specs.Tables.{register_table, itself, tables_made, zero_byte, slice_table}
-use Rattle.crc_register.proofs.Linear.{bits-add, bits_none, slice_at}
+use Rattle.crc_register.proofs.Linear.{bits-add}
 
 -- the low byte, and the rest, moved
 pub peel-byte : (m x : ℕ) → crc_bits (8 + m) x 0 ≡ bit_xor (crc_bits (8 + m) (x % 256) 0) (crc_bits m (x / 256) 0)

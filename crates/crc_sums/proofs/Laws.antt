@@ -6,10 +6,12 @@ use mathlib.Core.List.{List, [], ◌∷◌, ◌++◌, append-nil}
 use Prim.Native.Nat.{ℕ, zero, suc, ◌+◌, ◌-◌, ◌≤◌, ◌<◌, min}
 use native.Mathlib.Numerals.{add-one}
 use native.Mathlib.Omega.{arith}
-use borrow.Author.Tests.{leb-true, leb-false}
+use borrow.Author.Tests.{leb-true, leb-false, eq-eqb, eqb-true}
+use Rattle.arith.proofs.Both.{left-true, right-true}
+use Rattle.std.proofs.Common.{◌↔◌}
 use lib.Dec.{eqb, leb}
-use lib.ListN.{length, get_or, set, drop, replicate, drop_of_length-le}
-use lib.Seq.{set_at, append_snoc, drop-cons}
+use lib.ListN.{length, get_or, set, replicate}
+use lib.Seq.{set_at, append_snoc}
 use Rattle.crc.specs.Right.{stored_at, already_right}
 use Rattle.crc_sums.specs.Sums.{sums_in, same_sums}
 
@@ -71,32 +73,29 @@ sums-start n ps xs = ap (λ (m : ℕ). replicate m 0) (let z : n ≡ n - 0 = ome
 
 -- ---- `same_sums`
 
-none_left : (ps xs : List ℕ) → same_sums ps [] xs ≡ true
-unfolding same_sums
-none_left [] xs = refl
-none_left (o ∷ os) xs = refl
-
-module _ (ps ss xs : List ℕ) (i : ℕ) where
-  split : i < length ps → i < length ss → same_sums (drop i ps) (drop i ss) xs ≡ (eqb (get_or ss i 0) (stored_at (get_or ps i 0) xs) && same_sums (drop (i + 1) ps) (drop (i + 1) ss) xs)
+module _ (xs : List ℕ) where
+  all-same : (ps ss : List ℕ) → ((k : ℕ) → k < length ps → k < length ss → get_or ss k 0 ≡ stored_at (get_or ps k 0) xs) → same_sums ps ss xs ≡ true
   unfolding same_sums
-  split h k = rw (drop-cons ps i 0 h, drop-cons ss i 0 k, add-one i) refl
+  all-same [] ss h = refl
+  all-same (o ∷ os) [] h = refl
+  all-same (o ∷ os) (s ∷ ss) h =
+      rw (eq-eqb s (stored_at o xs) (h 0 (omega arith) (omega arith)), all-same os ss (λ k a b. h (suc k) (omega arith) (omega arith))) refl
 
-  pub agree : i < length ps → i < length ss → eqb (get_or ss i 0) (stored_at (get_or ps i 0) xs) ≡ true → same_sums (drop i ps) (drop i ss) xs ≡ same_sums (drop (i + 1) ps) (drop (i + 1) ss) xs
-  agree h k e = split h k ∙ rw e refl
-
-  pub differ : i < length ps → i < length ss → eqb (get_or ss i 0) (stored_at (get_or ps i 0) xs) ≡ false → same_sums (drop i ps) (drop i ss) xs ≡ false
-  differ h k e = split h k ∙ rw e refl
-
-  ended_by : (t : Bool) → leb (length ps) i ≡ t → min (length ps) (length ss) ≤ i → same_sums (drop i ps) (drop i ss) xs ≡ true
+  same-all : (ps ss : List ℕ) → same_sums ps ss xs ≡ true → (k : ℕ) → k < length ps → k < length ss → get_or ss k 0 ≡ stored_at (get_or ps k 0) xs
   unfolding same_sums
-  ended_by true t h = rw (drop_of_length-le ps (leb-true (length ps) i t)) refl
-  ended_by false t h =
-      let l = leb-false (length ps) i t in
-      let k : length ss ≤ i = omega arith in
-      ap (λ (l : List ℕ). same_sums (drop i ps) l xs) (drop_of_length-le ss k) ∙ none_left (drop i ps) xs
+  same-all [] ss e k a b = absurd (omega arith)
+  same-all (o ∷ os) [] e k a b = absurd (omega arith)
+  same-all (o ∷ os) (s ∷ ss) e zero a b = eqb-true s (stored_at o xs) (left-true (eqb s (stored_at o xs)) (same_sums os ss xs) e)
+  same-all (o ∷ os) (s ∷ ss) e (suc k) a b = same-all os ss (right-true (eqb s (stored_at o xs)) (same_sums os ss xs) e) k (omega arith) (omega arith)
 
-  pub ended : min (length ps) (length ss) ≤ i → same_sums (drop i ps) (drop i ss) xs ≡ true
-  ended h = ended_by (leb (length ps) i) refl h
+-- what the library's `all` says
+pub same-by : (t : Bool) (ps ss xs : List ℕ) → (t ≡ true ↔ ((k : ℕ) → k < length ps → k < length ss → get_or ss k 0 ≡ stored_at (get_or ps k 0) xs)) → t ≡ same_sums ps ss xs
+same-by true ps ss xs h = sym (all-same xs ps ss (h.0 refl))
+same-by false ps ss xs h = by (same_sums ps ss xs) refl
+  where
+    by : (u : Bool) → same_sums ps ss xs ≡ u → false ≡ u
+    by true e = h.1 (same-all xs ps ss e)
+    by false e = refl
 
 -- ---- both
 

@@ -6,14 +6,14 @@ use native.Mathlib.Omega.{arith}
 use mathlib.Core.Path.{refl}
 use Rattle.crc_loops.proofs.bytewise.run.Goals as goal
 
-pub loop-i-init : goal.loop-i-init
-loop-i-init c = (omega arith, refl)
+pub loop-b-init : goal.loop-b-init
+loop-b-init c = refl
 
 pub step-c-requires : goal.step-c-requires
 step-c-requires c = c.requires
 
-pub loop-i-preserved : goal.loop-i-preserved
-loop-i-preserved c = (omega arith, byte_more c.loop-i.c c.step-c.result c.args.from c.loop-i.i c.args.s.now c.loop-i-test.true c.step-c.ensures c.loop-i.invariant.1)
+pub loop-b-preserved : goal.loop-b-preserved
+loop-b-preserved c = let l = c.loop-b in byte_more l.c c.step-c.result c.args.from l.b-index c.args.s.now (omega arith) c.step-c.ensures l.invariant
 
 pub returns : goal.returns
-returns c = update-ends c.loop-i.c c.args.from c.loop-i.i c.args.s.now c.loop-i-test.false c.loop-i.invariant.1
+returns c = update-ends c.loop-b.c c.args.from c.loop-b.b-index c.args.s.now (omega arith) c.loop-b.invariant

@@ -6,8 +6,5 @@ use Prim.Native.Nat.{◌*◌, ◌-◌, ◌^◌, ◌≤◌, ◌<◌}
 use mathlib.Core.Path.{◌≡◌}
 use Rattle.crc_loops.proofs.zeros.jump.Given as goal
 
-abbrev pub invariant-loop-i : goal.invariant-loop-i
-invariant-loop-i l = (l.i ≤ 32) × ((l.x < 2 ^ (32 - l.i)) × (bit_xor l.r (crc_bits (512 * 2 ^ l.k) (l.x * 2 ^ l.i) 0) ≡ crc_bits (512 * 2 ^ l.k) l.c 0))
-
-abbrev pub decreases-loop-i : goal.decreases-loop-i
-decreases-loop-i l = 32 - l.i
+abbrev pub invariant-loop-entry : goal.invariant-loop-entry
+invariant-loop-entry l = (l.entry-index ≤ 32) × ((l.x < 2 ^ (32 - l.entry-index)) × (bit_xor l.r (crc_bits (512 * 2 ^ l.k) (l.x * 2 ^ l.entry-index) 0) ≡ crc_bits (512 * 2 ^ l.k) l.c 0))
