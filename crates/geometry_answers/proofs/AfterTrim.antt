@@ -1,5 +1,6 @@
 -- Groups after the trim: the last group is not short, and the options that they name give them again.
 -- Assumes nothing.
+use Rattle.std.specs.Prelude.{Some, None}
 use mathlib.Core.Path.{◌≡◌, refl}
 use mathlib.Core.Bool.{Bool, true, false}
 use Prim.Native.Nat.{ℕ, ◌*◌, ◌/◌, ◌%◌, ◌≤◌, ◌<◌}
@@ -7,7 +8,6 @@ use native.Mathlib.Nat.{mul-mod_left, mul-div_cancel, div-mul-le_self, le_refl}
 use borrow.Author.Tests.{eq-eqb}
 use Rattle.arith.specs.Choice.{when}
 use Rattle.arith.specs.Numbers.{ceil_div}
-use Rattle.params.specs.declared.OptU64.TheVariants.{Absent, Given}
 use Rattle.geometry.specs.declared.groups.Groups.{Groups}
 use Rattle.geometry.specs.Groups.{asked_blocks, initial_groups, is_short, trim}
 
@@ -30,7 +30,7 @@ by-case a least false e = rw (trim-long a least e) e
 pub not_short : (a : Groups) (least : ℕ) → is_short (trim a least) least ≡ false
 not_short a least = by-case a least (is_short a least) refl
 
-pub named-groups : (g : Groups) (bs : ℕ) → 0 < bs → g.agcount ≡ ceil_div g.dblocks g.agsize → initial_groups (Given (g.agsize * bs)) Absent bs (asked_blocks Absent (g.dblocks * bs) bs) ≡ g
+pub named-groups : (g : Groups) (bs : ℕ) → 0 < bs → g.agcount ≡ ceil_div g.dblocks g.agsize → initial_groups (Some (g.agsize * bs)) None bs (asked_blocks None (g.dblocks * bs) bs) ≡ g
 unfolding initial_groups asked_blocks
 named-groups g bs h e = rw (mul-div_cancel g.dblocks h, mul-div_cancel g.agsize h, ← e)
 

@@ -1,5 +1,6 @@
 -- Naming: computing from what an accepted geometry names gives that geometry again.
 -- Assumes nothing.
+use Rattle.std.specs.Prelude.{Some, None}
 use mathlib.Core.Path.{◌≡◌, refl, ap, sym, ◌∙◌}
 use mathlib.Core.Bool.{Bool, false}
 use mathlib.Core.List.{List, ◌++◌, append-nil}
@@ -13,7 +14,6 @@ use Rattle.arith.specs.Numbers.{ceil_div}
 use Rattle.arith.specs.Powers.{power_log}
 use Rattle.arith.proofs.PowerLaws.{power-least}
 use Rattle.refusals.proofs.Clear.{Clear, joined}
-use Rattle.params.specs.declared.OptU64.TheVariants.{Absent, Given}
 use Rattle.params.specs.declared.Params.{Params}
 use Rattle.geometry.specs.declared.sizes.Sizes.{Sizes}
 use Rattle.geometry.specs.declared.groups.Groups.{Groups}
@@ -53,7 +53,7 @@ sizes-again b s i l c = (
   ),
 )
 
-options-again : (bs d size : ℕ) (short : Bool) → 0 < bs → min_group bs ≤ d → 0 < size → Clear (options_refusals (Given (size * bs)) Absent bs (d * bs / bs) d short)
+options-again : (bs d size : ℕ) (short : Bool) → 0 < bs → min_group bs ≤ d → 0 < size → Clear (options_refusals (Some (size * bs)) None bs (d * bs / bs) d short)
 unfolding options_refusals
 options-again bs d size short h k m = (
   rw (mul-div_cancel d h) (le-ltb d d (omega arith)),

@@ -10,6 +10,7 @@ use borrow.Author.Tests.{eq-eqb, eqb-true}
 use lib.Dec.{eqb}
 use lib.ListN.{length, get_or}
 use lib.Seq.{ext_get_or}
+use Rattle.std.specs.Bool.{Decides}
 use Rattle.arith.specs.Choice.{same_bool}
 use Rattle.arith.proofs.Both.{left-true, right-true}
 use Rattle.params.specs.declared.Features.{Features}
@@ -54,6 +55,10 @@ from-same (suc n) i a b h (suc k) l =
 label_same : (a b : List ℕ) → length a ≡ 12 → length b ≡ 12 → same_from 12 0 a b ≡ true → a ≡ b
 label_same a b x y h =
     ext_get_or 0 a b (x ∙ sym y) (λ i l. subst (λ (k : ℕ). get_or a k 0 ≡ get_or b k 0) (zero-add i) (from-same 12 0 a b h i (omega arith)))
+
+-- so the test decides whether two labels are equal
+pub label-decides : (a b : List ℕ) → length a ≡ 12 → length b ≡ 12 → Decides (same_from 12 0 a b) (a ≡ b)
+label-decides a b x y = (label_same a b x y, λ e. rw e (from-refl 12 0 b))
 
 features-same : (a b : Features) → same_features a b ≡ true → a ≡ b
 unfolding same_features

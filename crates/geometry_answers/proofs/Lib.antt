@@ -1,4 +1,3 @@
-pub mod Loops
 pub mod AfterTrim
 pub mod Tests
 pub mod Again

@@ -1,7 +1,6 @@
 -- The answers of the geometry step.
 -- Assumes nothing.
-use Rattle.std.specs.Prelude.{◌≡◌, ℕ, ◌^◌, ◌<◌, length, get_or}
-use Rattle.params.specs.Options.{or64, or32, or8}
+use Rattle.std.specs.Prelude.{◌≡◌, ℕ, ◌^◌, ◌<◌, length, get_or, unwrap_or}
 use Rattle.params.specs.declared.Params.{Params}
 use Rattle.geometry.specs.declared.Geometry.{Geometry}
 use Rattle.geometry.specs.Compute.{compute_def}
@@ -18,13 +17,13 @@ pub record Answered (g : Geometry) : Type 0 where
 
 -- the options' numbers fit their types, and the label's bytes are 12 bytes
 pub record TypedOptions (p : Params) : Type 0 where
-  pub size : or64 p.size 0 < 2 ^ 64
-  pub block_size : or32 p.block_size 0 < 2 ^ 32
-  pub sector-size : or32 p.sector_size 0 < 2 ^ 32
-  pub inode-size : or32 p.inode_size 0 < 2 ^ 32
-  pub agcount : or64 p.agcount 0 < 2 ^ 64
-  pub agsize : or64 p.agsize 0 < 2 ^ 64
-  pub imaxpct : or8 p.imaxpct 0 < 2 ^ 8
+  pub size : unwrap_or p.size 0 < 2 ^ 64
+  pub block_size : unwrap_or p.block_size 0 < 2 ^ 32
+  pub sector-size : unwrap_or p.sector_size 0 < 2 ^ 32
+  pub inode-size : unwrap_or p.inode_size 0 < 2 ^ 32
+  pub agcount : unwrap_or p.agcount 0 < 2 ^ 64
+  pub agsize : unwrap_or p.agsize 0 < 2 ^ 64
+  pub imaxpct : unwrap_or p.imaxpct 0 < 2 ^ 8
   pub label-length : p.label.length < 2 ^ 64
   pub label-size : length p.label.bytes ≡ 12
   pub label-bytes : (i : ℕ) → get_or p.label.bytes i 0 < 2 ^ 8

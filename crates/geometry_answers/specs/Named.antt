@@ -1,16 +1,12 @@
 -- What a superblock names, and which geometries are answers of the geometry step.
 -- Assumes nothing.
-use Rattle.std.specs.Prelude.{Bool, ◌&&◌, cond, ℕ, ◌*◌, ◌^◌, ltb, eqb}
+use Rattle.std.specs.Prelude.{Bool, ◌&&◌, cond, ℕ, ◌*◌, ◌^◌, ltb, eqb, Some, None}
 use Rattle.refusals.specs.Numbers.{not_left}
 use Rattle.geometry.specs.SizeLimits.{min_sector}
 use Rattle.geometry.specs.Limits.{label_room}
-use Rattle.params.specs.Params.{options, no_uuid}
+use Rattle.params.specs.Params.{options}
 use Rattle.geometry.specs.Compute.{compute_def, step_refused}
 use Rattle.geometry_answers.specs.Same.{same_geometry}
-use Rattle.params.specs.declared.OptU64.TheVariants.{Absent, Given}
-use Rattle.params.specs.declared.OptU32.TheVariants.{Given as Given32}
-use Rattle.params.specs.declared.OptU8.TheVariants.{Given as Given8}
-use Rattle.params.specs.declared.OptTime.TheVariants.{Absent as AbsentTime}
 use Rattle.params.specs.declared.Params.{Params}
 use Rattle.geometry_answers.specs.declared.Named.{Named}
 use Rattle.geometry.specs.declared.Geometry.{Geometry}
@@ -20,9 +16,9 @@ use Rattle.geometry.specs.declared.Computed.{Computed}
 -- sizing
 unfoldable pub named_options : Bool → Named → Params
 named_options roomy n =
-    options Absent (Given32 n.blocksize) (Given32 n.sectsize) (Given32 n.inodesize) Absent (Given (n.agsize * n.blocksize))
-    (Given8 n.imaxpct)
-    (record { length = label_room; bytes = n.label }) no_uuid AbsentTime Absent n.features roomy
+    options None (Some n.blocksize) (Some n.sectsize) (Some n.inodesize) None (Some (n.agsize * n.blocksize))
+    (Some n.imaxpct)
+    (record { length = label_room; bytes = n.label }) None None None n.features roomy
 
 -- what the geometry step answers for them on a device of the block count's bytes, with logical sector 512
 unfoldable pub named_on : Bool → Named → ℕ → Computed

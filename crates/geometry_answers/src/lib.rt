@@ -8,7 +8,7 @@ use crate::same::same_geometry;
 use arith::choice::both;
 use arith::numbers::product_fits;
 use geometry::{Computed, Geometry};
-use params::{Features, Label, OptTime, OptU8, OptU32, OptU64, OptUuid, Params, Presence};
+use params::{Features, Label, Params};
 
 pub mod same; // same.rt: two geometries compared
 
@@ -38,22 +38,18 @@ impl Named {
             length: Geometry::MAX_LABEL,
             bytes,
         };
-        let uuid = OptUuid {
-            presence: Presence::Absent,
-            bytes: [0u8; 16],
-        };
         Params {
-            size: OptU64::Absent,
-            block_size: OptU32::Given(self.blocksize),
-            sector_size: OptU32::Given(self.sectsize),
-            inode_size: OptU32::Given(self.inodesize),
-            agcount: OptU64::Absent,
-            agsize: OptU64::Given(self.agsize * bs),
-            imaxpct: OptU8::Given(self.imaxpct),
+            size: None,
+            block_size: Some(self.blocksize),
+            sector_size: Some(self.sectsize),
+            inode_size: Some(self.inodesize),
+            agcount: None,
+            agsize: Some(self.agsize * bs),
+            imaxpct: Some(self.imaxpct),
             label,
-            uuid,
-            time: OptTime::Absent,
-            gen_seed: OptU64::Absent,
+            uuid: None,
+            time: None,
+            gen_seed: None,
             features,
             roomy,
         }
@@ -101,6 +97,5 @@ pub fn is_answer(g: Geometry) -> bool
     ensures { result ≡ is_answer g }
 {
     let answer = names_of(g).answer(g.roomy);
-    let again = answer.geometry;
-    both(answer.number == 0, same_geometry(again, g))
+    answer.number == 0 && same_geometry(answer.geometry, g)
 }

@@ -1,9 +1,9 @@
 -- What roomy sizing accepts, plain sizing accepts too: its log is no shorter, and every other test is the same.
 -- Assumes nothing.
 use mathlib.Core.Path.{◌≡◌, refl, sym, ap, subst, ◌∙◌}
-use mathlib.Core.Bool.{Bool, true, false, cond}
+use mathlib.Core.Bool.{true, false}
 use mathlib.Core.List.{◌++◌}
-use Prim.Native.Nat.{ℕ, ◌+◌, ◌*◌, ◌-◌, ◌/◌, ◌≤◌, ◌<◌, min, max}
+use Prim.Native.Nat.{ℕ, ◌*◌, ◌-◌, ◌/◌, ◌≤◌, ◌<◌, min, max}
 use native.Mathlib.Omega.{arith}
 use borrow.Author.Tests.{le-ltb, ltb-false}
 use lib.Dec.{eqb}
@@ -20,10 +20,10 @@ use Rattle.geometry.specs.Groups.{group_blocks, trim}
 use Rattle.geometry.specs.Log.{prealloc_of, log_limit, log_blocks, last_refusals}
 use Rattle.geometry.specs.declared.Geometry.{Geometry}
 use Rattle.geometry.specs.declared.Computed.{Computed}
-use Rattle.geometry.specs.Compute.{with_groups, asked_groups, with_sizes, chosen_of, refusals, refusal_of, geometry_of, step_answer, compute_def, step_refused}
+use Rattle.geometry.specs.Compute.{with_groups, asked_groups, with_sizes, chosen_of, refusals, refusal_of, geometry_of, compute_def}
 use Rattle.geometry.proofs.Answer.{number_of}
 use Rattle.geometry_answers.specs.declared.Named.{Named}
-use Rattle.geometry_answers.specs.Named.{named_options, named_on, named_fits, named_answer}
+use Rattle.geometry_answers.specs.Named.{named_options, named_on, named_answer}
 use Rattle.geometry_answers.proofs.Tests.{all-clear, none-again, sizes-part, options-part, groups-part, last-part, sizes-clear, options-clear, groups-clear, last-clear, groups_of, rest_of, group-pos}
 use Rattle.geometry_answers.proofs.Again.{is-accepted, its-geometry}
 use Rattle.geometry_answers.proofs.Exact.{fitting, accepted-fits}

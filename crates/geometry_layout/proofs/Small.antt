@@ -2,7 +2,7 @@
 -- Assumes nothing.
 use mathlib.Core.Path.{◌≡◌, refl}
 use mathlib.Core.Bool.{Bool, true, false}
-use Prim.Native.Nat.{ℕ, ◌+◌, ◌*◌, ◌-◌, ◌/◌, ◌≤◌, ◌<◌}
+use Prim.Native.Nat.{ℕ, ◌+◌, ◌*◌, ◌/◌, ◌≤◌, ◌<◌}
 use native.Mathlib.Omega.{arith}
 use native.Mathlib.Nat.{div-le_of_le-mul, div-mul-le_self, mul_comm}
 use borrow.Author.Tests.{ltb-true}
@@ -13,7 +13,7 @@ use Rattle.arith.proofs.Laws.{bit_le}
 use Rattle.params.specs.declared.Features.{Features}
 use Rattle.geometry.specs.Log.{header_of, prealloc_of}
 use Rattle.geometry_layout.specs.Places.{freelist_of, chunk_of, cluster_of, align_of, round_up, aligned, root_chunk_of}
-use Rattle.geometry_layout.proofs.Ceil.{Counted, counted, ceil-most, one_more}
+use Rattle.geometry_layout.proofs.Ceil.{counted, ceil-most, one_more}
 
 pub header-most : (s b : ℕ) → 0 < s → s ≤ b → header_of s b ≤ 4
 unfolding header_of

@@ -1,6 +1,7 @@
 -- The conversions of an answer: file system block and back is the identity, two places have the same address only if
 -- they are the same, and a byte offset is 512 times the address.
 -- Assumes nothing.
+use Rattle.std.specs.Prelude.{Ok}
 use mathlib.Core.Path.{◌≡◌, refl, sym, ap, ◌∙◌}
 use mathlib.Core.Bool.{Bool, true, false}
 use Prim.Native.Nat.{ℕ, ◌+◌, ◌*◌, ◌/◌, ◌%◌, ◌^◌, ◌≤◌, ◌<◌}
@@ -16,7 +17,6 @@ use Rattle.geometry_layout.specs.Bounds.{Bounds}
 use Rattle.geometry_layout.proofs.Wide.{whole-blocks}
 use Rattle.geometry_layout.proofs.Bounding.{answer-bounds}
 use Rattle.geometry_layout.proofs.Inside.{Fits, fitting}
-use Rattle.geometry_places.specs.declared.ToGroupBlock.TheVariants.{At}
 use Rattle.geometry_places.specs.Answers.{place_refusal, to_group_block}
 use Rattle.geometry_places.proofs.Refused.{a-place}
 use Rattle.geometry_places.specs.There.{There}
@@ -50,7 +50,7 @@ module _ (g : Geometry) (label : length g.label ≡ 12) where
   below_power k b p = let f = (fits-at k b p).below-size in let e = (bounds-at k b p).groups.log-enough in omega arith
 
   -- file system block and back is the identity
-  pub fsb-back : (k b : ℕ) → There g k b → to_group_block g (record { 0 = fsb_of g.agblklog k b }) ≡ At (record { 0 = k; 1 = b })
+  pub fsb-back : (k b : ℕ) → There g k b → to_group_block g (record { 0 = fsb_of g.agblklog k b }) ≡ Ok (record { 0 = k; 1 = b })
   unfolding to_group_block fsb_of
   fsb-back k b p =
       rw (upper (2 ^ g.agblklog) k b (below_power k b p), lower (2 ^ g.agblklog) k b (below_power k b p), eq-eqb (place_refusal g k b) 0 p)

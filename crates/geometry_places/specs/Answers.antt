@@ -1,30 +1,24 @@
 -- What each function answers: the value, or the number of the refusal.
 -- Assumes nothing.
-use Rattle.std.specs.Prelude.{not, cond, [], ◌∷◌, ℕ, ◌/◌, ◌%◌, ◌^◌, leb, eqb}
+use Rattle.std.specs.Prelude.{not, cond, [], ◌∷◌, ℕ, ◌/◌, ◌%◌, ◌^◌, leb, eqb, Result, Ok, Err}
 use Rattle.refusals.specs.Numbers.{no_answer, no_place}
 use Rattle.refusals.specs.Table.{◌if◌, first}
 use Rattle.geometry.specs.declared.Geometry.{Geometry}
 use Rattle.geometry.specs.Log.{prealloc_of}
 use Rattle.geometry_answers.specs.Named.{is_answer}
 use Rattle.geometry_layout.specs.Places.{group_blocks, is_place, fsb_of, ino_of, daddr_of, byte_of, root_chunk_of, initial_free}
-use Rattle.geometry_counts.specs.declared.Value64.{Value64}
-use Rattle.geometry_counts.specs.declared.Value64.TheVariants.{Refused as Refused64, Of as Of64}
 use Rattle.geometry_places.specs.declared.GroupBlock.{GroupBlock}
+use Rattle.geometry_places.specs.declared.DiskAddress.{DiskAddress}
+use Rattle.geometry_places.specs.declared.ByteOffset.{ByteOffset}
 use Rattle.geometry_places.specs.declared.FsBlock.{FsBlock}
-use Rattle.geometry_places.specs.declared.ToGroupBlock.{ToGroupBlock}
-use Rattle.geometry_places.specs.declared.ToGroupBlock.TheVariants.{Refused as RefusedAgb, At as AtAgb}
-use Rattle.geometry_places.specs.declared.ToFsBlock.{ToFsBlock}
-use Rattle.geometry_places.specs.declared.ToFsBlock.TheVariants.{Refused as RefusedFsb, At as AtFsb}
-use Rattle.geometry_places.specs.declared.ToDiskAddress.{ToDiskAddress}
-use Rattle.geometry_places.specs.declared.ToDiskAddress.TheVariants.{Refused as RefusedDaddr, At as AtDaddr}
-use Rattle.geometry_places.specs.declared.ToByteOffset.{ToByteOffset}
-use Rattle.geometry_places.specs.declared.ToByteOffset.TheVariants.{Refused as RefusedByte, At as AtByte}
+use Rattle.geometry_places.specs.declared.DiskAddress.{DiskAddress}
+use Rattle.geometry_places.specs.declared.ByteOffset.{ByteOffset}
 
 -- ---- refusals of places
 
 -- the value where the number is 0, else the refusal
-unfoldable pub unless64 : ℕ → ℕ → Value64
-unless64 n v = cond (eqb n 0) (Of64 v) (Refused64 n)
+unfoldable pub unless64 : ℕ → ℕ → Result ℕ ℕ
+unless64 n v = cond (eqb n 0) (Ok v) (Err n)
 
 -- the group is not there
 unfoldable pub group_refusal : Geometry → ℕ → ℕ
@@ -44,35 +38,35 @@ slot_refusal g k b slot =
 
 -- ---- conversions
 
-unfoldable pub ag_blocks : Geometry → ℕ → Value64
+unfoldable pub ag_blocks : Geometry → ℕ → Result ℕ ℕ
 ag_blocks g k = unless64 (group_refusal g k) (group_blocks g.dblocks g.agsize g.agcount k)
 
-unfoldable pub to_fs_block : Geometry → GroupBlock → ToFsBlock
+unfoldable pub to_fs_block : Geometry → GroupBlock → Result FsBlock ℕ
 to_fs_block g b =
     cond (eqb (place_refusal g b.0 b.1) 0)
-    (AtFsb (record { 0 = fsb_of g.agblklog b.0 b.1 }))
-    (RefusedFsb (place_refusal g b.0 b.1))
+    (Ok (record { 0 = fsb_of g.agblklog b.0 b.1 }))
+    (Err (place_refusal g b.0 b.1))
 
-unfoldable pub to_disk_address : Geometry → GroupBlock → ToDiskAddress
+unfoldable pub to_disk_address : Geometry → GroupBlock → Result DiskAddress ℕ
 to_disk_address g b =
     cond (eqb (place_refusal g b.0 b.1) 0)
-    (AtDaddr (record { 0 = daddr_of g.blocksize g.agsize b.0 b.1 }))
-    (RefusedDaddr (place_refusal g b.0 b.1))
+    (Ok (record { 0 = daddr_of g.blocksize g.agsize b.0 b.1 }))
+    (Err (place_refusal g b.0 b.1))
 
-unfoldable pub to_byte_offset : Geometry → GroupBlock → ToByteOffset
+unfoldable pub to_byte_offset : Geometry → GroupBlock → Result ByteOffset ℕ
 to_byte_offset g b =
     cond (eqb (place_refusal g b.0 b.1) 0)
-    (AtByte (record { 0 = byte_of g.blocksize g.agsize b.0 b.1 }))
-    (RefusedByte (place_refusal g b.0 b.1))
+    (Ok (record { 0 = byte_of g.blocksize g.agsize b.0 b.1 }))
+    (Err (place_refusal g b.0 b.1))
 
 -- the group is above agblklog bits, the block below
-unfoldable pub to_group_block : Geometry → FsBlock → ToGroupBlock
+unfoldable pub to_group_block : Geometry → FsBlock → Result GroupBlock ℕ
 to_group_block g f =
     cond (eqb (place_refusal g (f.0 / 2 ^ g.agblklog) (f.0 % 2 ^ g.agblklog)) 0)
-    (AtAgb (record { 0 = f.0 / 2 ^ g.agblklog; 1 = f.0 % 2 ^ g.agblklog }))
-    (RefusedAgb (place_refusal g (f.0 / 2 ^ g.agblklog) (f.0 % 2 ^ g.agblklog)))
+    (Ok (record { 0 = f.0 / 2 ^ g.agblklog; 1 = f.0 % 2 ^ g.agblklog }))
+    (Err (place_refusal g (f.0 / 2 ^ g.agblklog) (f.0 % 2 ^ g.agblklog)))
 
-unfoldable pub inode_number : Geometry → GroupBlock → ℕ → Value64
+unfoldable pub inode_number : Geometry → GroupBlock → ℕ → Result ℕ ℕ
 inode_number g b slot =
     unless64 (slot_refusal g b.0 b.1 slot) (ino_of g.agblklog g.inopblog b.0 b.1 slot)
 

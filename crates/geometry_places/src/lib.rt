@@ -21,27 +21,3 @@ pub struct DiskAddress(pub u64);
 // A place on the device in bytes.
 #[derive(Clone, Copy)]
 pub struct ByteOffset(pub u64);
-
-#[derive(Clone, Copy)]
-pub enum ToGroupBlock {
-    Refused(u32),
-    At(GroupBlock),
-}
-
-#[derive(Clone, Copy)]
-pub enum ToFsBlock {
-    Refused(u32),
-    At(FsBlock),
-}
-
-#[derive(Clone, Copy)]
-pub enum ToDiskAddress {
-    Refused(u32),
-    At(DiskAddress),
-}
-
-#[derive(Clone, Copy)]
-pub enum ToByteOffset {
-    Refused(u32),
-    At(ByteOffset),
-}

@@ -3,14 +3,10 @@ ghost use Rattle.std.specs.Prelude.{◌≡◌, ◌+◌, ◌*◌, ◌/◌, ◌%�
 ghost use Rattle.geometry_layout.specs.Places.{fsb_of, ino_of, daddr_of, byte_of};
 ghost use Rattle.geometry_places.specs.Answers.{to_fs_block, to_disk_address, to_byte_offset, to_group_block, inode_number};
 
-use crate::refusal::{place_refusal, slot_refusal};
-use crate::{
-    ByteOffset, DiskAddress, FsBlock, GroupBlock, ToByteOffset, ToDiskAddress, ToFsBlock,
-    ToGroupBlock,
-};
+use crate::refusal::{accepted, place_refusal, slot_refusal};
+use crate::{ByteOffset, DiskAddress, FsBlock, GroupBlock};
 use arith::numbers::remainder;
 use geometry::Geometry;
-use geometry_counts::Value64;
 
 // x shifted to the left by l bits.
 fn shifted(x: u64, l: u8) -> u64
@@ -53,41 +49,29 @@ fn byte_of(bs: u64, s: u64, k: u64, b: u64) -> u64
 }
 
 // The file system block of a block of a group.
-pub fn agb_to_fsb(g: Geometry, b: GroupBlock) -> ToFsBlock
+pub fn agb_to_fsb(g: Geometry, b: GroupBlock) -> Result<FsBlock, u32>
     ensures { result ≡ to_fs_block g b }
 {
-    let n = place_refusal(g, b.0, b.1);
-    if n != 0 {
-        return ToFsBlock::Refused(n);
-    }
-    let at = fsb_of(g.agblklog, b.0, b.1);
-    ToFsBlock::At(FsBlock(at))
+    accepted(place_refusal(g, b.0, b.1))?;
+    Ok(FsBlock(fsb_of(g.agblklog, b.0, b.1)))
 }
 
 // The 512-byte address of a block of a group.
-pub fn agb_to_daddr(g: Geometry, b: GroupBlock) -> ToDiskAddress
+pub fn agb_to_daddr(g: Geometry, b: GroupBlock) -> Result<DiskAddress, u32>
     ensures { result ≡ to_disk_address g b }
 {
-    let n = place_refusal(g, b.0, b.1);
-    if n != 0 {
-        return ToDiskAddress::Refused(n);
-    }
-    let bs = g.blocksize as u64;
-    let at = daddr_of(bs, g.agsize, b.0, b.1);
-    ToDiskAddress::At(DiskAddress(at))
+    accepted(place_refusal(g, b.0, b.1))?;
+    let at = daddr_of(g.blocksize as u64, g.agsize, b.0, b.1);
+    Ok(DiskAddress(at))
 }
 
 // The byte offset of a block of a group.
-pub fn agb_to_byte(g: Geometry, b: GroupBlock) -> ToByteOffset
+pub fn agb_to_byte(g: Geometry, b: GroupBlock) -> Result<ByteOffset, u32>
     ensures { result ≡ to_byte_offset g b }
 {
-    let n = place_refusal(g, b.0, b.1);
-    if n != 0 {
-        return ToByteOffset::Refused(n);
-    }
-    let bs = g.blocksize as u64;
-    let at = byte_of(bs, g.agsize, b.0, b.1);
-    ToByteOffset::At(ByteOffset(at))
+    accepted(place_refusal(g, b.0, b.1))?;
+    let at = byte_of(g.blocksize as u64, g.agsize, b.0, b.1);
+    Ok(ByteOffset(at))
 }
 
 // x without its lowest bits.
@@ -110,32 +94,26 @@ fn low(x: u64, log: u8) -> u64
     ensures { result ≡ x % 2 ^ log }
 {
     if log < 64 {
-        return remainder(x, power(log));
+        remainder(x, power(log))
+    } else {
+        x
     }
-    x
 }
 
 // The group and block of a file system block.
-pub fn fsb_to_agb(g: Geometry, f: FsBlock) -> ToGroupBlock
+pub fn fsb_to_agb(g: Geometry, f: FsBlock) -> Result<GroupBlock, u32>
     ensures { result ≡ to_group_block g f }
 {
     let k = high(f.0, g.agblklog);
     let b = low(f.0, g.agblklog);
-    let n = place_refusal(g, k, b);
-    if n != 0 {
-        return ToGroupBlock::Refused(n);
-    }
-    ToGroupBlock::At(GroupBlock(k, b))
+    accepted(place_refusal(g, k, b))?;
+    Ok(GroupBlock(k, b))
 }
 
 // The inode number of a slot of a block of a group.
-pub fn ino(g: Geometry, b: GroupBlock, slot: u64) -> Value64
+pub fn ino(g: Geometry, b: GroupBlock, slot: u64) -> Result<u64, u32>
     ensures { result ≡ inode_number g b slot }
 {
-    let n = slot_refusal(g, b.0, b.1, slot);
-    if n != 0 {
-        return Value64::Refused(n);
-    }
-    let number = ino_of(g.agblklog, g.inopblog, b.0, b.1, slot);
-    Value64::Of(number)
+    accepted(slot_refusal(g, b.0, b.1, slot))?;
+    Ok(ino_of(g.agblklog, g.inopblog, b.0, b.1, slot))
 }

@@ -1,6 +1,7 @@
 -- WITH THE SOURCE'S CUT OF A LOG IN GROUP 0 EVERY NUMBER OF THE GEOMETRY STEP COMES OUT THE SAME: a single group of 300 MiB has room for
 -- 64 MiB of log and four chunks of inodes, so that 22 isn't given for the cut, and then 23 is.
 -- Assumes nothing.
+use Rattle.std.specs.Prelude.{Option, Some, None, is_some}
 use mathlib.Core.Path.{◌≡◌, refl, sym, ap, ◌∙◌}
 use mathlib.Core.Bool.{Bool, true, false, not, ◌&&◌}
 use mathlib.Core.List.{List, [], ◌∷◌, ◌++◌}
@@ -15,9 +16,7 @@ use Rattle.arith.proofs.PowerLaws.{power-least}
 use Rattle.refusals.specs.Numbers.{imaxpct_above100, label_too_long, disk_too_small, log_too_small, too_few_groups, agcount_unlike, inobtcount_alone}
 use Rattle.refusals.specs.Table.{Refusal, ◌if◌, first}
 use Rattle.refusals.proofs.Clear.{Clear, left, right}
-use Rattle.params.specs.Options.{given64, zero64}
-use Rattle.params.specs.declared.OptU64.{OptU64}
-use Rattle.params.specs.declared.OptU64.TheVariants.{Absent, Given}
+use Rattle.params.specs.Options.{zero64}
 use Rattle.params.specs.declared.Params.{Params}
 use Rattle.geometry.specs.declared.sizes.Sizes.{Sizes}
 use Rattle.geometry.specs.Sizes.{sizes_of}
@@ -94,19 +93,19 @@ cut-test bs d n size pre chunk log p q w h k b false e = rw e refl
 
 -- ---- the groups cover the blocks
 
-initial-covers : (agsize agcount : OptU64) (bs d : ℕ) → 0 < (initial_groups agsize agcount bs d).dblocks → 0 < (initial_groups agsize agcount bs d).agsize
-    → (not (given64 agsize) && zero64 agcount) ≡ false
+initial-covers : (agsize agcount : Option ℕ) (bs d : ℕ) → 0 < (initial_groups agsize agcount bs d).dblocks → 0 < (initial_groups agsize agcount bs d).agsize
+    → (not (is_some agsize) && zero64 agcount) ≡ false
     → (initial_groups agsize agcount bs d).dblocks ≤ (initial_groups agsize agcount bs d).agcount * (initial_groups agsize agcount bs d).agsize
 unfolding initial_groups
-initial-covers (Given a) agcount bs d h k z = (counted d (a / bs) h k).enough
-initial-covers Absent (Given n) bs d h k z =
+initial-covers (Some a) agcount bs d h k z = (counted d (a / bs) h k).enough
+initial-covers None (Some n) bs d h k z =
     let o = eqb-false n 0 z in
     let p : 0 < n = pos n o in
     omega (arith, (counted d n h p).enough, mul_comm (ceil_div d n) n)
   where
     pos : (m : ℕ) → (m ≡ 0 → ⊥) → 0 < m
     pos m o = omega arith
-initial-covers Absent Absent bs d h k z = (counted d (default_size bs d) h k).enough
+initial-covers None None bs d h k z = (counted d (default_size bs d) h k).enough
 
 covers_at : (d n s : ℕ) (t : Bool) → d ≤ n * s → when t (d / s * s) d ≤ when t (d / s) n * s
 unfolding when

@@ -3,9 +3,9 @@
 use Rattle.geometry_layout.specs.Places.{agfl_size}
 use mathlib.Core.Path.{ap, ◌∙◌}
 use Prim.Native.Nat.{ℕ, ◌/◌}
-use Rattle.geometry_counts.specs.Known.{known32}
+use Rattle.geometry_counts.specs.Known.{known}
 use Rattle.geometry_counts.proofs.head.agfl_size.Goals as goal
 
 pub returns : goal.returns
 unfolding agfl_size
-returns c = c.known_32.ensures ∙ ap (known32 _) (ap (λ (n : ℕ). n / 4) c.minus_u32-slots.ensures)
+returns c = c.known.ensures ∙ ap (known _) (ap (λ (n : ℕ). n / 4) c.saturating_sub.ensures)

@@ -2,9 +2,9 @@
 -- Assumes nothing.
 use Rattle.geometry_layout.specs.Places.{cnt_block}
 use mathlib.Core.Path.{ap, ◌∙◌}
-use Rattle.geometry_counts.specs.Known.{known64}
+use Rattle.geometry_counts.specs.Known.{known}
 use Rattle.geometry_counts.proofs.head.cnt_block.Goals as goal
 
 pub returns : goal.returns
 unfolding cnt_block
-returns c = c.known_64.ensures ∙ ap (known64 _) c.after_header-block.ensures
+returns c = c.known.ensures ∙ ap (known _) c.after_header.ensures

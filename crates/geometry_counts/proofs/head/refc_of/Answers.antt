@@ -2,20 +2,22 @@
 -- Assumes nothing.
 use native.Mathlib.Omega.{arith}
 use Rattle.arith.proofs.Laws.{bit_le}
+use Rattle.geometry.proofs.Bit.{from-bit}
 use Rattle.geometry.proofs.Header.{header-le}
-use Rattle.geometry_layout.specs.Places.{refc_block}
+use Rattle.geometry_layout.specs.Places.{rmap_block, refc_block}
 use Rattle.geometry_counts.proofs.head.refc_of.Goals as goal
 
 pub overflow_add-result : goal.overflow_add-result
-overflow_add-result c = let a = c.args in omega (arith, header-le a.sector a.bs)
-
-pub overflow_add-result-2 : goal.overflow_add-result-2
-overflow_add-result-2 c = let a = c.args in omega (arith, header-le a.sector a.bs, bit_le a.f.finobt)
-
-pub overflow_add-result-3 : goal.overflow_add-result-3
-overflow_add-result-3 c = let a = c.args in
-    omega (arith, header-le a.sector a.bs, bit_le a.f.finobt, bit_le a.f.rmapbt)
+unfolding rmap_block
+overflow_add-result c = let a = c.args in
+    omega (
+      arith,
+      header-le a.sector a.bs,
+      bit_le a.f.finobt,
+      from-bit a.f.rmapbt,
+      bit_le a.f.rmapbt,
+    )
 
 pub returns : goal.returns
-unfolding refc_block
-returns c = cc
+unfolding rmap_block refc_block
+returns c = rw (c.from.ensures, from-bit c.args.f.rmapbt, c.rmap_of.ensures)

@@ -2,6 +2,7 @@
 -- Assumes nothing.
 use native.Mathlib.Omega.{arith}
 use Rattle.arith.proofs.Laws.{bit_le}
+use Rattle.geometry.proofs.Bit.{from-bit}
 use Rattle.geometry.proofs.Header.{header-le}
 use Rattle.geometry_layout.specs.Places.{rmap_block}
 use Rattle.geometry_counts.proofs.head.rmap_of.Goals as goal
@@ -10,8 +11,8 @@ pub overflow_add-result : goal.overflow_add-result
 overflow_add-result c = let a = c.args in omega (arith, header-le a.sector a.bs)
 
 pub overflow_add-result-2 : goal.overflow_add-result-2
-overflow_add-result-2 c = let a = c.args in omega (arith, header-le a.sector a.bs, bit_le a.f.finobt)
+overflow_add-result-2 c = let a = c.args in omega (arith, header-le a.sector a.bs, from-bit a.f.finobt, bit_le a.f.finobt)
 
 pub returns : goal.returns
 unfolding rmap_block
-returns c = cc
+returns c = cc (from-bit c.args.f.finobt)

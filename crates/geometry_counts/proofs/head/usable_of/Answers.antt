@@ -10,4 +10,4 @@ overflow_add-kept c = let a = c.args in omega (arith, prealloc-le a.f a.sector a
 
 pub returns : goal.returns
 unfolding usable_of
-returns c = rw (c.minus.ensures, c.prealloc_of-kept.ensures)
+returns c = rw (c.saturating_sub.ensures, c.prealloc_of-kept.ensures)

@@ -1,8 +1,14 @@
--- `geometry_counts::inodes::align_of` meets its contract: each call gives what its definition says.
+-- `geometry_counts::inodes::align_of` meets its contract.
 -- Assumes nothing.
+use Rattle.std.proofs.Common.{rules}
+use Rattle.arith.specs.Choice.{when}
 use Rattle.geometry_layout.specs.Places.{align_of}
 use Rattle.geometry_counts.proofs.inodes.align_of.Goals as goal
 
-pub returns : goal.returns
-unfolding align_of
-returns c = rw (c.pick_u64.ensures, c.cluster_of.ensures, c.chunk_of.ensures)
+pub returns-then-sparse : goal.returns-then-sparse
+unfolding align_of when
+returns-then-sparse c = search rules
+
+pub returns-else-sparse : goal.returns-else-sparse
+unfolding align_of when
+returns-else-sparse c = search rules

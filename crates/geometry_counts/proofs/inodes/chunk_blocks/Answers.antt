@@ -1,8 +1,8 @@
 -- `geometry_counts::inodes::chunk_blocks` meets its contract: each call gives what its definition says.
 -- Assumes nothing.
 use mathlib.Core.Path.{ap, ◌∙◌}
-use Rattle.geometry_counts.specs.Known.{known64}
+use Rattle.geometry_counts.specs.Known.{known}
 use Rattle.geometry_counts.proofs.inodes.chunk_blocks.Goals as goal
 
 pub returns : goal.returns
-returns c = c.known_64.ensures ∙ ap (known64 _) c.chunk_of-chunk.ensures
+returns c = c.known.ensures ∙ ap (known _) c.chunk_of.ensures

@@ -9,12 +9,12 @@ use Rattle.geometry_answers.specs.Named.{is_answer}
 use Prim.Native.Nat.{◌≤◌}
 use Rattle.geometry_layout.specs.Places.{cluster_of, sparse_align}
 use Rattle.geometry_layout.proofs.Bounding.{answer-bounds}
-use Rattle.geometry_counts.specs.Known.{known32}
+use Rattle.geometry_counts.specs.Known.{known}
 use Rattle.geometry_counts.proofs.Room.{picked-le}
 use Rattle.geometry_counts.proofs.inodes.spino_align.Goals as goal
 
 pub returns-then-not-is_answer : goal.returns-then-not-is_answer
-unfolding known32
+unfolding known
 returns-then-not-is_answer c = rw (sym c.is_answer.ensures ∙ c.if-not-is_answer.true)
 
 pub overflow_cast-result : goal.overflow_cast-result
@@ -26,5 +26,5 @@ overflow_cast-result c = let g = c.args.g in
     record { fits = omega arith }
 
 pub returns : goal.returns
-unfolding known32
+unfolding known
 returns c = rw (c.spino_of-align.ensures, sym c.is_answer.ensures ∙ c.if-not-is_answer.false)

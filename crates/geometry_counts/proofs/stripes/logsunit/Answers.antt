@@ -2,8 +2,8 @@
 -- Assumes nothing.
 use mathlib.Core.Path.{ap, ◌∙◌}
 use Rattle.geometry_layout.specs.Places.{logsunit_of}
-use Rattle.geometry_counts.specs.Known.{known32}
+use Rattle.geometry_counts.specs.Known.{known}
 use Rattle.geometry_counts.proofs.stripes.logsunit.Goals as goal
 
 pub returns : goal.returns
-returns c = c.known_32.ensures ∙ ap (known32 _) (c.logsunit_of-stored.ensures ∙ ap logsunit_of c.lsunit_of.ensures)
+returns c = c.known.ensures ∙ ap (known _) (c.logsunit_of.ensures ∙ ap logsunit_of c.lsunit_of.ensures)

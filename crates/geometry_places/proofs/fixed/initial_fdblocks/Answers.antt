@@ -3,7 +3,7 @@
 use borrow.Author.Rules.{rules}
 use mathlib.Core.Path.{◌≡◌, sym, ◌∙◌}
 use lib.ListN.{length}
-use Rattle.geometry_counts.specs.Known.{known64}
+use Rattle.geometry_counts.specs.Known.{known}
 use Rattle.geometry_layout.specs.Places.{initial_free}
 use Rattle.geometry_layout.proofs.Bounding.{answer-bounds}
 use Rattle.geometry_places.specs.Answers.{initial_fdblocks}
@@ -11,19 +11,19 @@ use Rattle.geometry_places.proofs.Room.{heads-fit}
 use Rattle.geometry_places.proofs.fixed.initial_fdblocks.Goals as goal
 
 pub returns-then-not-is_answer : goal.returns-then-not-is_answer
-unfolding known64
+unfolding known
 returns-then-not-is_answer c = rw (sym c.is_answer.ensures ∙ c.if-not-is_answer.true)
 
 pub overflow_mul-heads : goal.overflow_mul-heads
 overflow_mul-heads c = let l : length c.args.g.label ≡ 12 = search (rules, c.well_formed.0.1.1.1.1.1.1.1.1.1.1.1.1.1.1.1.1.1.1.1) in
     let z = answer-bounds _ l (sym c.is_answer.ensures ∙ c.if-not-is_answer.false) in
-    rw c.prealloc_of-prealloc.ensures (record { fits = heads-fit _ z })
+    rw c.prealloc_of.ensures (record { fits = heads-fit _ z })
 
 pub returns : goal.returns
-unfolding known64 initial_fdblocks initial_free
+unfolding known initial_fdblocks initial_free
 returns c = rw (
-  c.minus-free.ensures,
-  c.minus.ensures,
-  c.prealloc_of-prealloc.ensures,
+  c.saturating_sub-2.ensures,
+  c.saturating_sub.ensures,
+  c.prealloc_of.ensures,
   sym c.is_answer.ensures ∙ c.if-not-is_answer.false,
 )

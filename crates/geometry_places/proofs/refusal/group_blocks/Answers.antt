@@ -9,15 +9,15 @@ use Rattle.geometry_layout.specs.Places.{group_blocks}
 use Rattle.geometry_places.proofs.refusal.group_blocks.Goals as goal
 
 pub overflow_mul-agno : goal.overflow_mul-agno
-overflow_mul-agno c = rw (c.if-agno-minus.true, c.minus.ensures) (record { fits = let w = c.requires in let f = c.ranges.dblocks in omega arith })
+overflow_mul-agno c = rw (c.if-agno-saturating_sub.true, c.saturating_sub.ensures) (record { fits = let w = c.requires in let f = c.ranges.dblocks in omega arith })
 
-pub returns-then-agno-minus : goal.returns-then-agno-minus
+pub returns-then-agno-saturating_sub : goal.returns-then-agno-saturating_sub
 unfolding group_blocks when
-returns-then-agno-minus c = let a = c.args in
-    let e : a.agno ≡ a.agcount - 1 = c.if-agno-minus.true ∙ c.minus.ensures in
-    rw (eq-eqb a.agno (a.agcount - 1) e) c.minus-then-agno-minus.ensures
+returns-then-agno-saturating_sub c = let a = c.args in
+    let e : a.agno ≡ a.agcount - 1 = c.if-agno-saturating_sub.true ∙ c.saturating_sub.ensures in
+    rw (eq-eqb a.agno (a.agcount - 1) e) c.saturating_sub-then-agno-saturating_sub.ensures
 
-pub returns : goal.returns
+pub returns-else-agno-saturating_sub : goal.returns-else-agno-saturating_sub
 unfolding group_blocks when
-returns c = let a = c.args in
-    rw (ne_eqb a.agno (a.agcount - 1) (λ q. c.if-agno-minus.false (q ∙ sym c.minus.ensures)))
+returns-else-agno-saturating_sub c = let a = c.args in
+    rw (ne_eqb a.agno (a.agcount - 1) (λ q. c.if-agno-saturating_sub.false (q ∙ sym c.saturating_sub.ensures)))

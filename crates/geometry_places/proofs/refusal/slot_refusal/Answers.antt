@@ -8,8 +8,8 @@ pub returns-then-n-ne0 : goal.returns-then-n-ne0
 returns-then-n-ne0 c = let r = c.place_refusal-n in
     r.ensures ∙ sym (slot-place _ _ _ _ (λ q. c.if-n-ne0.true (r.ensures ∙ q)))
 
-pub returns-then-inodes-slot : goal.returns-then-inodes-slot
-returns-then-inodes-slot c = sym (slot-missing _ _ _ _ (sym c.place_refusal-n.ensures ∙ c.if-n-ne0.false) c.if-inodes-slot.true)
+pub returns-then-g-slot : goal.returns-then-g-slot
+returns-then-g-slot c = sym (slot-missing _ _ _ _ (sym c.place_refusal-n.ensures ∙ c.if-n-ne0.false) c.if-g-slot.true)
 
 pub returns : goal.returns
-returns c = sym (slot-there _ _ _ _ (sym c.place_refusal-n.ensures ∙ c.if-n-ne0.false) c.if-inodes-slot.false)
+returns c = sym (slot-there _ _ _ _ (sym c.place_refusal-n.ensures ∙ c.if-n-ne0.false) c.if-g-slot.false)

@@ -1,23 +1,27 @@
 -- `geometry_places::units::agb_to_byte` meets its contract: a place that is not refused has room.
 -- Assumes nothing.
-use borrow.Author.Rules.{rules}
+use Rattle.std.proofs.Common.{rules}
+use Rattle.std.proofs.lemmas.Result.{err_from_is_err_and}
 use mathlib.Core.Path.{◌≡◌, sym, ◌∙◌}
 use lib.ListN.{length}
 use borrow.Author.Tests.{eq-eqb, ne_eqb}
 use Rattle.geometry_places.specs.Answers.{to_byte_offset}
+use Rattle.geometry_places.proofs.Accepted.{ok-zero, err-number}
 use Rattle.geometry_places.proofs.Room.{place-room}
 use Rattle.geometry_places.proofs.units.agb_to_byte.Goals as goal
 
-pub returns-then-n-ne0 : goal.returns-then-n-ne0
+pub returns-in_err-accepted : goal.returns-in_err-accepted
 unfolding to_byte_offset
-returns-then-n-ne0 c = let r = c.place_refusal-n in
-    rw (← r.ensures, ne_eqb r.result 0 c.if-n-ne0.true)
+returns-in_err-accepted c = let r = c.place_refusal in
+    let z = err-number r.result _ _ c.accepted.ensures c.in_err-accepted.was in
+    let p = err_from_is_err_and c.from_residual.result c.from_residual.ensures.1 in
+    rw (← r.ensures, ne_eqb r.result 0 z.0, p.1, p.2, z.1)
 
 pub byte_of-at-requires : goal.byte_of-at-requires
 byte_of-at-requires c = let l : length c.args.g.label ≡ 12 = search (rules, c.well_formed.0.1.1.1.1.1.1.1.1.1.1.1.1.1.1.1.1.1.1.1) in
-    (place-room _ _ _ l (sym c.place_refusal-n.ensures ∙ c.if-n-ne0.false)).byte
+    (place-room _ _ _ l (sym c.place_refusal.ensures ∙ ok-zero _ _ _ c.accepted.ensures c.in_ok-accepted.was)).byte
 
 pub returns : goal.returns
 unfolding to_byte_offset
-returns c = let r = c.place_refusal-n in
-    rw (c.byte_of-at.ensures, ← r.ensures, eq-eqb r.result 0 c.if-n-ne0.false)
+returns c = let r = c.place_refusal in
+    rw (c.byte_of-at.ensures, ← r.ensures, eq-eqb r.result 0 (ok-zero _ _ _ c.accepted.ensures c.in_ok-accepted.was))

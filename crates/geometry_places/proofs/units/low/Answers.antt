@@ -10,6 +10,6 @@ use Rattle.geometry_places.proofs.units.low.Goals as goal
 pub returns-then-log-lt64 : goal.returns-then-log-lt64
 returns-then-log-lt64 c = cc
 
-pub returns : goal.returns
-returns c = let h : 2 ^ 64 ≤ 2 ^ c.args.log = pow_mono {i = 64} (omega arith) in
+pub returns-else-log-lt64 : goal.returns-else-log-lt64
+returns-else-log-lt64 c = let h : 2 ^ 64 ≤ 2 ^ c.args.log = pow_mono {i = 64} (omega arith) in
     sym (mod-eq_of_lt (omega arith))
