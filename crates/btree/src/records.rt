@@ -8,7 +8,7 @@ pub const INOBT_REC: usize = 16;
 pub const RMAP_REC: usize = 24;
 
 // A free extent: first block, length in blocks.
-#[derive(Clone, Copy)]
+#[derive(Clone, Copy, PartialEq, Eq)]
 pub struct AllocRec {
     pub start: u32,
     pub count: u32,
@@ -26,7 +26,7 @@ pub struct InobtRec {
 }
 
 // A reverse mapping of a special owner: first block, length in blocks, owner.
-#[derive(Clone, Copy)]
+#[derive(Clone, Copy, PartialEq, Eq)]
 pub struct RmapRec {
     pub start: u32,
     pub count: u32,

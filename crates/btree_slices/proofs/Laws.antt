@@ -1,84 +1,67 @@
--- The records of a lent slice, written from the last to the first into a buffer: one law over the record's type, for each kind of record.
+-- Records written one after the other, the first first: one law over the record's type, for the loop that writes them.
 -- Assumes nothing.
-use mathlib.Core.Path.{◌≡◌, refl, sym, ◌∙◌, ap}
-use mathlib.Core.List.{List}
-use mathlib.Core.Bool.{Bool, true, false, cond}
-use Prim.Native.Nat.{ℕ, suc, ◌+◌, ◌*◌, ◌-◌, ◌≤◌, ◌<◌}
-use native.Mathlib.Nat.{mul-zero, mul-suc, mul-le-mul_left, le_refl}
-use native.Mathlib.Omega.{arith}
-use lib.Dec.{eqb}
-use lib.ListN.{length, get_or, take, drop}
-use lib.Seq.{take-length}
-use borrow.Author.Tests.{eqb-true}
+use Rattle.std.proofs.Common.{◌≡◌, refl, sym, ◌∙◌, ap, List, [], ◌∷◌, ◌++◌, append_assoc, ℕ, suc, ◌+◌, ◌*◌, ◌≤◌, ◌<◌, length, get_or, take, drop, arith, add-one, length-append}
+use Rattle.std.proofs.lemmas.Slice.{drop-append-drop}
+use native.Mathlib.Nat.{mul-zero, mul-suc, mul-le-mul_left}
+use mathlib.Core.List.{append-nil}
+use lib.ListN.{length-drop}
+use lib.Seq.{take-suc, take-length, take-append_seam, length-take-le}
 use Rattle.endian.specs.Bytes.{patch}
-use Rattle.endian.proofs.Laws.{length-patch}
-use Rattle.structs.specs.Written.{Written}
-use Rattle.btree.specs.Records.{records_bytes, recs_number}
-use Rattle.btree.proofs.Laws.{accepted, record-turn, record-none, record-all}
-use Rattle.btree_slices.specs.Slices.{count_where, turns_for}
+use Rattle.endian.proofs.Laws.{patch-split}
+use Rattle.structs.proofs.Reading.{patch-whole}
+use Rattle.btree.specs.Records.{records_bytes}
+use Rattle.btree.proofs.Laws.{length-listed}
 
-where-few : (b : Bool) (count : ℕ) → count_where b count ≤ count
-where-few true count = le_refl count
-where-few false count = omega arith
+-- there is room for each record
+pub room : (n i count len : ℕ) → i < count → n * count ≤ len → n * i + n ≤ len
+room n i count len h e =
+    let m = mul-le-mul_left n (let q : suc i ≤ count = omega arith in q) in
+    omega (arith, m, mul-suc n i, e)
 
-fits_under : (n a b c m : ℕ) → a ≡ m + n → a ≤ b → b ≤ c → m + n ≤ c
-fits_under n a b c m e h k = omega arith
+-- the first `i` records stand, and behind them all is as it was
+abbrev pub written : {A : Type 0} → (A → List ℕ) → ℕ → List A → ℕ → List ℕ → List ℕ
+written f n rs i xs = records_bytes f (take i rs) ++ drop (n * i) xs
 
--- `xs` is the buffer on entry, `d` any record
-module _ {A : Type 0} (f : A → List ℕ) (n : ℕ) (size : (a : A) → length (f a) ≡ n) (d : A) (recs : List A) (xs : List ℕ) where
-  abbrev pub answer : ℕ
-  answer = recs_number n (length recs) (length xs)
+module _ {A : Type 0} (f : A → List ℕ) where
+  append-listed : (ps qs : List A) → records_bytes f (ps ++ qs) ≡ records_bytes f ps ++ records_bytes f qs
+  append-listed [] qs = refl
+  append-listed (p ∷ ps) qs = ap (λ (l : List ℕ). f p ++ l) (append-listed ps qs) ∙ sym (append_assoc (f p) (records_bytes f ps) (records_bytes f qs))
 
-  -- how many records are written
-  abbrev pub many : ℕ
-  many = turns_for answer (length recs)
+  one-listed : (rs : List A) (i : ℕ) (d : A) → i < length rs → records_bytes f (take (suc i) rs) ≡ records_bytes f (take i rs) ++ f (get_or rs i d)
+  one-listed rs i d h =
+      ap (records_bytes f) (take-suc rs i d h) ∙ append-listed (take i rs) (get_or rs i d ∷ [])
+      ∙ ap (λ (l : List ℕ). records_bytes f (take i rs) ++ l) (append-nil (f (get_or rs i d)))
 
-  -- the buffer where those from the `i`-th on are written
-  abbrev pub left : ℕ → List ℕ
-  left i = patch (n * i) (records_bytes f (drop i (take many recs))) xs
+  pub written-none : (n : ℕ) (rs : List A) (xs : List ℕ) → xs ≡ written f n rs 0 xs
+  written-none n rs xs = ap (λ (k : ℕ). drop k xs) (sym (mul-zero n))
 
-  few : many ≤ length recs
-  unfolding turns_for
-  few = where-few (eqb answer 0) (length recs)
+  module _ (n : ℕ) (size : (a : A) → length (f a) ≡ n) where
+    pub written-more : (rs : List A) (d : A) (i : ℕ) (xs ys zs : List ℕ) → i < length rs → n * i + n ≤ length xs
+        → ys ≡ written f n rs i xs → zs ≡ patch (n * i) (f (get_or rs i d)) ys → zs ≡ written f n rs (i + 1) xs
+    written-more rs d i xs ys zs h room e c =
+        let p = records_bytes f (take i rs) in
+        let b = f (get_or rs i d) in
+        let l : length p ≡ n * i = length-listed f n size (take i rs) ∙ ap (λ (k : ℕ). n * k) (length-take-le i rs (let w : i ≤ length rs = omega arith in w)) in
+        let fits : n * i + length b ≤ length (p ++ drop (n * i) xs) = rw (size (get_or rs i d), length-append p (drop (n * i) xs), length-drop (n * i) xs, l) (omega (arith, room)) in
+        let t : take (n * i) (p ++ drop (n * i) xs) ≡ p = ap (λ (k : ℕ). take k (p ++ drop (n * i) xs)) (sym l) ∙ take-append_seam p (drop (n * i) xs) in
+        let m : n * i + length b ≡ n * suc i = ap (λ (k : ℕ). n * i + k) (size (get_or rs i d)) ∙ sym (mul-suc n i) in
+        let s : drop (n * i + length b) (p ++ drop (n * i) xs) ≡ drop (n * suc i) xs =
+        drop-append-drop (n * i) xs p (n * i + length b) (omega arith) l ∙ ap (λ (k : ℕ). drop k xs) m in
+        rw add-one
+        (c ∙ ap (patch (n * i) b) e ∙ patch-split (n * i) b (p ++ drop (n * i) xs) fits
+        ∙ ap (λ (k : List ℕ). k ++ (b ++ drop (n * i + length b) (p ++ drop (n * i) xs))) t
+        ∙ ap (λ (k : List ℕ). p ++ (b ++ k)) s
+        ∙ sym (append_assoc p b (drop (n * suc i) xs))
+        ∙ ap (λ (k : List ℕ). k ++ drop (n * suc i) xs) (sym (one-listed rs i d h)))
 
-  room-where : (b : Bool) → eqb answer 0 ≡ b → n * count_where b (length recs) ≤ length xs
-  room-where true e = rw (accepted n (length recs) (length xs) (eqb-true answer 0 e)).0 (le_refl (n * length recs))
-  room-where false e = rw (mul-zero n) (let z : 0 ≤ length xs = omega arith in z)
+    pub written-all : (rs : List A) (i : ℕ) (xs ys : List ℕ) → i ≡ length rs → n * length rs ≤ length xs → ys ≡ written f n rs i xs → ys ≡ patch 0 (records_bytes f rs) xs
+    written-all rs i xs ys j h e =
+        let l = length-listed f n size rs in
+        e ∙ ap (λ (k : ℕ). written f n rs k xs) j
+        ∙ ap (λ (k : List A). records_bytes f k ++ drop (n * length rs) xs) (take-length rs)
+        ∙ ap (λ (k : ℕ). records_bytes f rs ++ drop k xs) (let z : n * length rs ≡ 0 + length (records_bytes f rs) = omega (arith, l) in z)
+        ∙ sym (patch-split 0 (records_bytes f rs) xs (let w : 0 + length (records_bytes f rs) ≤ length xs = omega (arith, l, h) in w))
 
-  room : n * many ≤ length xs
-  unfolding turns_for
-  room = room-where (eqb answer 0) refl
-
-  pub left-length : (i : ℕ) → length (left i) ≡ length xs
-  left-length i = length-patch (n * i) (records_bytes f (drop i (take many recs))) xs
-
-  pub left-start : xs ≡ left many
-  left-start = record-none f n size d recs many few xs
-
-  -- a turn's record is one of the list's; there is room for it, and the turn writes it
-  pub left-within : (i : ℕ) → i < many → i < length recs
-  left-within i l = omega (arith, few, l)
-
-  pub left-fits : (i : ℕ) → i < many → n * i + n ≤ length (left (suc i))
-  left-fits i l =
-      let k : suc i ≤ many = omega arith in
-      rw (left-length (suc i)) (fits_under n (n * suc i) (n * many) (length xs) (n * i) (mul-suc n i) (mul-le-mul_left n k) room)
-
-  pub left-turn : (i : ℕ) → i < many → (zs : List ℕ) → zs ≡ patch (n * i) (f (get_or recs i d)) (left (suc i)) → zs ≡ left i
-  left-turn i l zs e =
-      let j : suc i - 1 ≡ i = omega arith in
-      record-turn f n size d recs many few (suc i) xs (left (suc i)) zs (omega arith) (omega arith) refl
-      (e ∙ ap (λ (k : ℕ). patch (n * k) (f (get_or recs k d)) (left (suc i))) (sym j))
-      ∙ ap left j
-
-  -- where no record is left the contract holds
-  end-where : (b : Bool) → eqb answer 0 ≡ b → patch (n * 0) (records_bytes f (drop 0 (take (count_where b (length recs)) recs))) xs ≡ cond b (records_bytes f recs) xs
-  unfolding patch
-  end-where true e =
-      record-all f n size d recs (length recs) (le_refl (length recs)) 0 xs _ (le_refl 0) (accepted n (length recs) (length xs) (eqb-true answer 0 e)).0 refl
-      ∙ ap (records_bytes f) (take-length recs)
-  end-where false e = refl
-
-  pub left_end : Written answer (records_bytes f recs) xs answer (left 0)
-  unfolding turns_for
-  left_end = record { number = refl; bytes = end-where (eqb answer 0) refl }
+    -- over a whole buffer
+    pub written-whole : (rs : List A) (xs : List ℕ) → length xs ≡ n * length rs → patch 0 (records_bytes f rs) xs ≡ records_bytes f rs
+    written-whole rs xs e = patch-whole (records_bytes f rs) xs (length-listed f n size rs ∙ sym e)
