@@ -36,11 +36,9 @@ fn put_slots(sector: &mut [u8], first: u32, list: [u32; 64], count: usize)
 {
     let slots = (sector.len() - off::BNO) / 4;
     endian::put_same(sector, off::BNO, 4 * slots, 255);
-    let mut i = 0;
-    while i < count {
+    for (i, block) in list[..count].iter().enumerate() {
         let slot = (first as usize + i) % slots;
-        endian::put32(sector, off::BNO + 4 * slot, list[i]);
-        i += 1;
+        endian::put32(sector, off::BNO + 4 * slot, *block);
     }
 }
 

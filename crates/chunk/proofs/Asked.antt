@@ -1,12 +1,13 @@
--- The places of a chunk's checksums, as the loop makes them.
+-- The places of a chunk's checksums, the same step from one to the next.
 -- Assumes nothing.
-use mathlib.Core.Path.{◌≡◌, refl, ap, sym, ◌∙◌}
-use mathlib.Core.List.{List, ◌++◌, append-nil}
-use Prim.Native.Nat.{ℕ, zero, suc, ◌+◌, ◌-◌, ◌≤◌, ◌<◌}
-use native.Mathlib.Numerals.{add-one}
+use mathlib.Core.Path.{◌≡◌, refl, ap, ap₂, ◌∙◌, subst}
+use mathlib.Core.List.{List, [], ◌∷◌}
+use Prim.Native.Nat.{ℕ, zero, suc, ◌+◌, ◌*◌, ◌≤◌, ◌<◌}
 use native.Mathlib.Omega.{arith}
-use lib.ListN.{length, take, set}
-use lib.Seq.{take-suc-set, take-length, append_snoc}
+use lib.ListN.{length, get_or}
+use denote.Param.Members.{Mut}
+use Rattle.std.specs.Fn.{Called}
+use Rattle.std.specs.Array.{IsFromFnResult, IsFromFnResultFrom}
 use Rattle.crc.specs.Right.{spaced}
 use Rattle.chunk.specs.Chunk.{chunk_places}
 
@@ -15,25 +16,32 @@ unfolding spaced
 length-spaced at step zero = refl
 length-spaced at step (suc n) = ap suc (length-spaced (at + step) step n)
 
--- a turn of the loop: the first i of n places are there, and those that are left begin at `next`
-pub places-turn : (n i next step : ℕ) (places all : List ℕ) → i < n → length places ≡ n → take i places ++ spaced next step (n - i) ≡ all
-    → take (i + 1) (set places i next) ++ spaced (next + step) step (n - (i + 1)) ≡ all
+-- places with the same step from one to the next
+pub each-spaced : (n at step : ℕ) (places : List ℕ) → length places ≡ n → ((k : ℕ) → k < n → get_or places k 0 ≡ at + k * step) → places ≡ spaced at step n
 unfolding spaced
-places-turn n i next step places all h l e =
-    let r : n - i ≡ suc (n - (i + 1)) = omega arith in
-    let rest = spaced (next + step) step (n - (i + 1)) in
-    ap (λ (k : ℕ). take k (set places i next) ++ rest) (add-one i)
-    ∙ ap (λ (xs : List ℕ). xs ++ rest) (take-suc-set places i next (rw l h))
-    ∙ append_snoc (take i places) next rest
-    ∙ ap (λ (k : ℕ). take i places ++ spaced next step k) (sym r)
-    ∙ e
+each-spaced zero at step [] l h = refl
+each-spaced zero at step (p ∷ places) l h = absurd (omega arith)
+each-spaced (suc n) at step [] l h = absurd (omega arith)
+each-spaced (suc n) at step (p ∷ places) l h =
+    let e : p ≡ at = omega (arith, h 0 (omega arith)) in
+    ap₂ (λ (x : ℕ) (xs : List ℕ). x ∷ xs) e
+    (each-spaced n (at + step) step places (omega arith) (λ k b. h (suc k) (omega arith) ∙ (let m : at + suc k * step ≡ at + step + k * step = omega arith in m)))
 
-pub places-end : (n i next step : ℕ) (places all : List ℕ) → n ≤ i → i ≤ n → length places ≡ n → take i places ++ spaced next step (n - i) ≡ all → places ≡ all
-unfolding spaced
-places-end n i next step places all h k l e =
-    let r : n - i ≡ 0 = omega arith in
-    let z : i ≡ length places = omega arith in
-    sym (ap (λ (m : ℕ). take i places ++ spaced next step m) r ∙ append-nil (take i places) ∙ ap (λ (m : ℕ). take m places) z ∙ take-length places) ∙ e
+-- what a closure that changes nothing gives at each index
+module _ {F : Type 0} (g : Mut F (ℕ × Unit {0}) ℕ) (f : F) (h : ℕ → ℕ) (step : (i y : ℕ) (q : F) → Called g f (i, tt) y q → (q ≡ f) × (y ≡ h i)) where
+  at-each : (ys : List ℕ) (i n : ℕ) → IsFromFnResultFrom g f ys i n → (k : ℕ) → k < n → get_or ys (i + k) 0 ≡ h (i + k)
+  at-each ys i zero e k l = absurd (omega arith)
+  at-each ys i (suc n) (q, y, here, c, rest) zero l =
+      let z : i + 0 ≡ i = omega arith in
+      rw z (here.1 0 ∙ (step i y q c).1)
+  at-each ys i (suc n) (q, y, here, c, rest) (suc k) l =
+      let m : i + suc k ≡ i + 1 + k = omega arith in
+      rw m (at-each ys (i + 1) n (subst (λ (p : F). IsFromFnResultFrom g p ys (i + 1) n) (step i y q c).0 rest) k (omega arith))
+
+  pub made-each : (ys : List ℕ) (n : ℕ) → IsFromFnResult g f ys n → (k : ℕ) → k < n → get_or ys k 0 ≡ h k
+  made-each ys n r k l =
+      let z : 0 + k ≡ k = omega arith in
+      rw z at (at-each ys 0 n r.each k l)
 
 pub length-places : (size : ℕ) → length (chunk_places size) ≡ 64
 unfolding chunk_places

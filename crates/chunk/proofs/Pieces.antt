@@ -145,16 +145,7 @@ module _ (f : ℕ → List ℕ) where
         ∙ ap (λ (n : ℕ). slots f 0 n ++ drop size u) (sym (add-one i))
         ∙ ap (λ (w : List ℕ). slots f 0 (i + 1) ++ w) (drop-drop size (i * size) xs ∙ ap (λ (n : ℕ). drop n xs) k)
 
-  -- what the loop starts from, and what it leaves of n slots
+  -- what the loop starts from
   pub slots-first : (size : ℕ) (xs : List ℕ) → xs ≡ slots f 0 0 ++ drop (0 * size) xs
   unfolding slots
   slots-first size xs = ap (λ (k : ℕ). drop k xs) (let g : 0 ≡ 0 * size = omega arith in g)
-
-  pub slots-all : (n i size : ℕ) (xs ys : List ℕ) → i ≤ n → n ≤ i → length xs ≡ n * size → ys ≡ slots f 0 i ++ drop (i * size) xs → ys ≡ slots f 0 n
-  slots-all n i size xs ys h k l e =
-      let g : i ≡ n = omega arith in
-      e
-      ∙ ap (λ (m : ℕ). slots f 0 m ++ drop (m * size) xs) g
-      ∙ ap (λ (m : ℕ). slots f 0 n ++ drop m xs) (sym l)
-      ∙ ap (λ (w : List ℕ). slots f 0 n ++ w) (drop-length xs)
-      ∙ append-nil (slots f 0 n)

@@ -6,7 +6,7 @@ ghost use Rattle.inode.specs.Dinode.{time_storable};
 ghost use Rattle.chunk.specs.Chunk.{summary_draw, contents, chunk_places, DrawnAs};
 
 use crate::inodes::{put_bitmap, put_root, put_summary};
-use crate::slots::{INODES, free_slots};
+use crate::slots::free_slots;
 use chunk_generation::draw;
 use crc_sums::{same_sums, sums_at};
 use inode::dinode::off;
@@ -40,15 +40,7 @@ fn places_of(size: usize) -> [usize; 64]
     requires { size ≤ 2048 }
     ensures { result ≡ chunk_places size }
 {
-    let mut places = [0usize; 64];
-    let mut next = off::CRC;
-    let mut i: usize = 0;
-    while i < INODES {
-        places[i] = next;
-        next += size;
-        i += 1;
-    }
-    places
+    std::array::from_fn(|k| off::CRC + k * size)
 }
 
 // The state after the draws, and whether every checksum of the chunk stood there already.

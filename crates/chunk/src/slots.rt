@@ -35,10 +35,8 @@ pub(crate) fn free_slots(first: u64, generation: u32, uuid: &[u8; 16], size: usi
     requires { (is_inode size ≡ true) × (length buf.old ≡ 64 * size) × (first + 64 < 2 ^ 64) }
     ensures { buf.new ≡ slots·of (free_slot first generation uuid.now size) 0 64 }
 {
-    let mut i: usize = 0;
-    while i < INODES {
+    for i in 0..INODES {
         free_slot(first + (i as u64), generation, uuid, size, i, buf);
-        i += 1;
     }
 }
 

@@ -120,10 +120,7 @@ fn is_big(flags2: u64) -> bool
 fn or_else(a: u32, b: u32) -> u32
     ensures { result ≡ or_else (eqb a 0) a b }
 {
-    if a == 0 {
-        return b;
-    }
-    a
+    if a == 0 { b } else { a }
 }
 
 fn encode_times(
@@ -153,10 +150,7 @@ fn encode_times(
 fn has_room(len: usize, used: usize) -> bool
     ensures { result ≡ (is_inode len && leb (176 + used) len) }
 {
-    if is_inode(len) {
-        return endian::inside(len, CORE_SIZE, used);
-    }
-    false
+    is_inode(len) && endian::inside(len, CORE_SIZE, used)
 }
 
 // The numbers of the core. A fork offset of 0 and the format of extents say that there is no attribute fork.

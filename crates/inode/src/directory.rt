@@ -31,8 +31,8 @@ fn long(parent: u64) -> SfDir
 pub fn empty_sf_dir(parent: u64) -> SfDir
     ensures { EmptyDir parent result.bytes result.len }
 {
-    if parent <= 0xffff_ffff {
-        return short(parent as u32);
+    match u32::try_from(parent) {
+        Ok(narrow) => short(narrow),
+        Err(_) => long(parent),
     }
-    long(parent)
 }

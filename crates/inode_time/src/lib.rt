@@ -1,7 +1,7 @@
 // A time, and the 64 bits that an inode stores of it. The Rust's encode_time and decode_time of structs/inode.rs.
 #![tactic(auto)]
 
-ghost use Rattle.std.specs.Prelude.{◌≡◌, ◌+◌, ◌*◌, ◌%◌, ◌^◌, ◌≤◌, ◌<◌, ltb};
+ghost use Rattle.std.specs.Prelude.{◌≡◌, true, false, MatchOption, ◌+◌, ◌*◌, ◌%◌, ◌^◌, ◌≤◌, ◌<◌, ltb};
 ghost use Rattle.refusals.specs.Numbers.{time_out_of_range};
 ghost use Rattle.structs.specs.Written.{require};
 ghost use Rattle.inode_time.specs.Time.{ShiftedTime, StoredAs, value_if, decoded};
@@ -17,32 +17,17 @@ pub struct Stored {
     pub value: u64,
 }
 
-// Seconds counted from −2,147,483,648 on; not inside where they lie before it, or above 16,299,260,425.
-#[derive(Clone, Copy)]
-struct Shifted {
-    inside: bool,
-    value: u64,
-}
-
-fn shift(secs: i64) -> Shifted
-    ensures { ShiftedTime secs result.inside result.value }
+// Seconds counted from −2,147,483,648 on; none where they lie before it, or above 16,299,260,425.
+fn shift(secs: i64) -> Option<u64>
+    ensures { MatchOption result (ShiftedTime secs false 0) (λ v. ShiftedTime secs true v) }
 {
     if secs < -2147483648 {
-        return Shifted {
-            inside: false,
-            value: 0,
-        };
+        return None;
     }
     if 16299260425 < secs {
-        return Shifted {
-            inside: false,
-            value: 0,
-        };
+        return None;
     }
-    Shifted {
-        inside: true,
-        value: (secs + 2147483648) as u64,
-    }
+    Some((secs + 2147483648) as u64)
 }
 
 fn refused() -> Stored
@@ -94,11 +79,9 @@ pub fn encode_time(t: Timestamp, bigtime: bool) -> Stored
     if NANOSECONDS <= nsecs {
         return refused();
     }
-    let s = shift(t.secs);
-    if !s.inside {
+    let Some(v) = shift(t.secs) else {
         return refused();
-    }
-    let v = s.value;
+    };
     if bigtime {
         return encode_big(v, nsecs);
     }

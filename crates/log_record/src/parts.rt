@@ -1,5 +1,5 @@
 // The pieces of a log record: its length, its header, the unmount record and the stamps of the basic blocks behind it.
-ghost use Rattle.std.specs.Prelude.{◌≡◌, ◌*◌, ◌-◌, ◌≤◌, max, length};
+ghost use Rattle.std.specs.Prelude.{◌≡◌, ◌*◌, ◌-◌, ◌≤◌, length};
 ghost use Rattle.endian.specs.Fields.{write_fields};
 ghost use Rattle.log_record.specs.Record.{basic_blocks_of, header_fields, stamps, unmount_fields};
 
@@ -50,20 +50,11 @@ pub mod off {
     pub const SIZE: usize = 320;
 }
 
-fn larger(a: u64, b: u64) -> u64
-    ensures { result ≡ max a b }
-{
-    if a < b {
-        return b;
-    }
-    a
-}
-
 // The basic blocks of a record.
 pub(crate) fn record_blocks(sunit: u32) -> usize
     ensures { result ≡ basic_blocks_of sunit }
 {
-    larger(2, ((sunit as u64) + 511) / 512) as usize
+    u64::from(sunit).div_ceil(512).max(2) as usize
 }
 
 // The header, as `struct xlog_rec_header` has it.
@@ -71,7 +62,7 @@ pub(crate) fn header(rec: &mut [u8], uuid: &[u8; 16], sunit: u32, lsn: u64, tail
     requires { 512 ≤ length rec.old }
     ensures { rec.new ≡ write_fields (header_fields uuid.now sunit lsn tail_lsn) rec.old }
 {
-    let len = larger(1024, sunit as u64) - 512;
+    let len = u64::from(sunit).max(1024) - 512;
     let at: [usize; 24] = [
         off::MAGICNO,
         4,
@@ -134,9 +125,7 @@ pub(crate) fn stamp_blocks(rec: &mut [u8], blocks: usize, cycle: u32)
     requires { 512 * blocks ≤ length rec.old }
     ensures { rec.new ≡ write_fields (stamps cycle 2 (blocks - 2)) rec.old }
 {
-    let mut i = 2;
-    while i < blocks {
-        endian::put32(rec, 512 * i, cycle);
-        i += 1;
+    for i in 2..blocks {
+        endian::put32(rec, BBSIZE * i, cycle);
     }
 }

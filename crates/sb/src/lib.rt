@@ -6,19 +6,18 @@ ghost use Rattle.arith.specs.Choice.{bit};
 ghost use Rattle.geometry_layout.specs.Places.{fsb_of};
 ghost use Rattle.structs.specs.Encoded.{Encoded};
 ghost use Rattle.geometry_answers.specs.Named.{is_answer};
-ghost use Rattle.geometry_counts.specs.Known.{known64};
+ghost use Rattle.geometry_counts.specs.Known.{known};
 ghost use Rattle.sb.specs.Superblock.{features2_bits, fixed_version, large_sector, version_of, ro_compat, in_compat, logstart_of, log_sector, crc_at, sb_number, sb_bytes};
 ghost use Rattle.sb.specs.Numbers.{numbers};
 
 use crate::put::{put_log_sector, put_names, put_numbers};
 use arith::choice::bit_of;
-use arith::numbers::minus_u8;
 use crc::Stamped;
 use geometry::Geometry;
 use geometry_answers::is_answer;
 use geometry_counts::inodes::{align_of, spino_of};
+use geometry_counts::known;
 use geometry_counts::stripes::{logsunit_of, lsunit_of, rext_of};
-use geometry_counts::{Value64, known_64};
 use params::Features;
 
 pub mod put; // the parts at their places
@@ -52,20 +51,15 @@ pub struct SbState {
 fn large_sector(sector: u32, lsector: u32) -> bool
     ensures { result ≡ (ltb 512 sector || ltb 512 lsector) }
 {
-    if 512 < sector {
-        return true;
-    }
-    512 < lsector
+    512 < sector || 512 < lsector
 }
 
 // A flag's weight where it is set.
+#[tactic(auto, unfolding(arith::specs::Choice::bit))]
 fn flag(b: bool, weight: u64) -> u64
     ensures { (result ≡ weight * bit b) × (result ≤ weight) }
 {
-    if b {
-        return weight;
-    }
-    0
+    if b { weight } else { 0 }
 }
 
 // sb_versionnum.
@@ -97,37 +91,25 @@ fn log_start(log: u8, k: u64, b: u64) -> u64
     (k << log) + b
 }
 
-fn wide8(x: u8) -> u64
-    ensures { result ≡ x }
-{
-    x as u64
-}
-
-fn wide32(x: u32) -> u64
-    ensures { result ≡ x }
-{
-    x as u64
-}
-
 // Every number of the superblock, with the log's start handed in.
 fn all_numbers(g: Geometry, s: SbState, start: u64) -> [u64; 46]
     requires { start ≡ logstart_of g }
     ensures { result ≡ numbers g s }
 {
     let f = g.features;
-    let bs = wide32(g.blocksize);
+    let bs = u64::from(g.blocksize);
     let version = version_of(large_sector(g.sectsize, g.lsectsize));
-    let rext = wide32(rext_of(g.blocksize));
+    let rext = u64::from(rext_of(g.blocksize));
     let align = align_of(f.sparse, g.inodesize, bs);
-    let dirlog = wide8(minus_u8(g.dirblocklog, g.blocklog));
-    let sunit = wide32(logsunit_of(lsunit_of(g.lsectsize, g.blocksize)));
+    let dirlog = u64::from(g.dirblocklog.saturating_sub(g.blocklog));
+    let sunit = u64::from(logsunit_of(lsunit_of(g.lsectsize, g.blocksize)));
     let ro = ro_of(f);
     let incompat = in_of(f);
     let spino = spino_of(f.sparse, g.inodesize, bs);
     let progress = bit_of(s.inprogress);
     [
         MAGIC, // sb_magicnum
-        wide32(g.blocksize), // sb_blocksize
+        u64::from(g.blocksize), // sb_blocksize
         g.dblocks, // sb_dblocks
         0, // sb_rblocks
         0, // sb_rextents
@@ -141,17 +123,17 @@ fn all_numbers(g: Geometry, s: SbState, start: u64) -> [u64; 46]
         0, // sb_rbmblocks
         g.logblocks, // sb_logblocks
         version, // sb_versionnum
-        wide32(g.sectsize), // sb_sectsize
-        wide32(g.inodesize), // sb_inodesize
-        wide32(g.inopblock), // sb_inopblock
-        wide8(g.blocklog), // sb_blocklog
-        wide8(g.sectlog), // sb_sectlog
-        wide8(g.inodelog), // sb_inodelog
-        wide8(g.inopblog), // sb_inopblog
-        wide8(g.agblklog), // sb_agblklog
+        u64::from(g.sectsize), // sb_sectsize
+        u64::from(g.inodesize), // sb_inodesize
+        u64::from(g.inopblock), // sb_inopblock
+        u64::from(g.blocklog), // sb_blocklog
+        u64::from(g.sectlog), // sb_sectlog
+        u64::from(g.inodelog), // sb_inodelog
+        u64::from(g.inopblog), // sb_inopblog
+        u64::from(g.agblklog), // sb_agblklog
         0, // sb_rextslog
         progress, // sb_inprogress
-        wide8(g.imaxpct), // sb_imax_pct
+        u64::from(g.imaxpct), // sb_imax_pct
         s.icount, // sb_icount
         s.ifree, // sb_ifree
         s.fdblocks, // sb_fdblocks
@@ -215,32 +197,32 @@ pub fn encode(g: Geometry, s: SbState, sector: &mut [u8]) -> Stamped
 }
 
 // sb_versionnum of a geometry; 31 for one that is no answer of the geometry step, here and in the next three.
-pub fn versionnum(g: Geometry) -> Value64
-    ensures { result ≡ known64 (is_answer g) (version_of g) }
+pub fn versionnum(g: Geometry) -> Result<u64, u32>
+    ensures { result ≡ known (is_answer g) (version_of g) }
 {
     let version = version_of(large_sector(g.sectsize, g.lsectsize));
-    known_64(g, version)
+    known(g, version)
 }
 
 // sb_features2, and sb_bad_features2.
-pub fn features2(g: Geometry) -> Value64
-    ensures { result ≡ known64 (is_answer g) features2_bits }
+pub fn features2(g: Geometry) -> Result<u64, u32>
+    ensures { result ≡ known (is_answer g) features2_bits }
 {
-    known_64(g, FEATURES2)
+    known(g, FEATURES2)
 }
 
 // sb_features_ro_compat.
-pub fn ro_compat(g: Geometry) -> Value64
-    ensures { result ≡ known64 (is_answer g) (ro_compat g.features) }
+pub fn ro_compat(g: Geometry) -> Result<u64, u32>
+    ensures { result ≡ known (is_answer g) (ro_compat g.features) }
 {
     let f = g.features;
-    known_64(g, ro_of(f))
+    known(g, ro_of(f))
 }
 
 // sb_features_incompat.
-pub fn incompat(g: Geometry) -> Value64
-    ensures { result ≡ known64 (is_answer g) (in_compat g.features) }
+pub fn incompat(g: Geometry) -> Result<u64, u32>
+    ensures { result ≡ known (is_answer g) (in_compat g.features) }
 {
     let f = g.features;
-    known_64(g, in_of(f))
+    known(g, in_of(f))
 }

@@ -1,47 +1,16 @@
 // The parts of a superblock at their places: numbers of equal width that stand one after the other are a run.
-ghost use Rattle.std.specs.Prelude.{◌≡◌, [], ◌∷◌, ◌+◌, ◌*◌, ◌%◌, ◌^◌, ◌≤◌, length, drop, T};
+ghost use Rattle.std.specs.Prelude.{◌≡◌, [], ◌∷◌, ◌+◌, ◌*◌, ◌≤◌, length, drop, T};
 ghost use Rattle.endian.specs.Bytes.{patch, be_bytes};
 ghost use Rattle.endian.specs.Fields.{write_fields, table, byte_run};
 ghost use Rattle.sb.specs.Superblock.{log_sector};
 ghost use Rattle.sb.specs.Numbers.{places, evenly, is_width, in_runs, sizes_runs, counts_runs, flags_runs};
-
-// The low 4, 2 or 1 bytes of a number.
-fn low32(x: u64) -> u32
-    ensures { result ≡ x % 256 ^ 4 }
-{
-    (x % 4294967296) as u32
-}
-
-fn low16(x: u64) -> u16
-    ensures { result ≡ x % 256 ^ 2 }
-{
-    (x % 65536) as u16
-}
-
-fn low8(x: u64) -> u8
-    ensures { result ≡ x % 256 ^ 1 }
-{
-    (x % 256) as u8
-}
 
 // The number `x` in `width` bytes at `off`.
 fn put_number(sector: &mut [u8], off: usize, width: usize, x: u64)
     requires { (off + width ≤ length sector.old) × T (is_width width) }
     ensures { sector.new ≡ patch off (be_bytes width x) sector.old }
 {
-    if width == 8 {
-        endian::put64(sector, off, x);
-        return;
-    }
-    if width == 4 {
-        endian::put32(sector, off, low32(x));
-        return;
-    }
-    if width == 2 {
-        endian::put16(sector, off, low16(x));
-        return;
-    }
-    endian::put8(sector, off, low8(x));
+    endian::put_bytes(sector, off, &x.to_be_bytes()[8 - width..]);
 }
 
 // `n` numbers from the one with the index `from` on, each in `width` bytes, the first at `off`.
@@ -49,12 +18,8 @@ fn put_run(sector: &mut [u8], off: usize, width: usize, v: &[u64], from: usize, 
     requires { (off + width * n ≤ length sector.old) × T (is_width width) × (from + n ≤ length v.now) }
     ensures { sector.new ≡ write_fields (table (evenly off width n) (drop from v.now)) sector.old }
 {
-    let mut o = off;
-    let mut i: usize = 0;
-    while i < n {
-        put_number(sector, o, width, v[from + i]);
-        o += width;
-        i += 1;
+    for (i, x) in v[from..from + n].iter().enumerate() {
+        put_number(sector, off + width * i, width, *x);
     }
 }
 

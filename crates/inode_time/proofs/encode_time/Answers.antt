@@ -5,7 +5,6 @@ use mir.Val.{SFits}
 use mir.ValLaws.{to_z-of_z}
 use Rattle.inode_time.proofs.Seconds.{no-nanoseconds, not-storable, shifted-most, inside-small, late-small, not-late-small, time-no, time-big, time-small}
 use Rattle.inode_time.specs.Time.{shifted, value_if}
-use borrow.Author.Tests.{not-true, not-false}
 use native.Mathlib.Omega.{arith}
 use mathlib.Core.Bool.{Bool, false}
 use mathlib.Core.Path.{ap, sym, ◌∙◌}
@@ -16,21 +15,20 @@ pub returns-then-nsecs-ge-NANOSECONDS : goal.returns-then-nsecs-ge-NANOSECONDS
 returns-then-nsecs-ge-NANOSECONDS c = let args = c.args in
     time-no _ _ _ _ _ (no-nanoseconds args.bigtime args.t.secs args.t.nsecs c.if-nsecs-ge-NANOSECONDS.true) c.refused.ensures.0 c.refused.ensures.1
 
-pub returns-then-not-s : goal.returns-then-not-s
-returns-then-not-s c = let args = c.args in
+pub returns-in_default : goal.returns-in_default
+returns-in_default c = let args = c.args in
     let f : SFits w64 args.t.secs = search rules in
     let z = to_z-of_z w64 args.t.secs f in
-    let t = rw z at c.shift-s.ensures.test in
-    let v = rw z at c.shift-s.ensures.value-is in
-    time-no _ _ _ _ _ (not-storable args.bigtime args.t.secs args.t.nsecs c.if-nsecs-ge-NANOSECONDS.false (sym (t) ∙ not-true _ c.if-not-s.true)) c.refused-then-not-s.ensures.0 c.refused-then-not-s.ensures.1
+    let t = rw z at c.in_default.ensures.test in
+    time-no _ _ _ _ _ (not-storable args.bigtime args.t.secs args.t.nsecs c.if-nsecs-ge-NANOSECONDS.false (sym t)) c.refused-in_default.ensures.0 c.refused-in_default.ensures.1
 
 pub encode_big-requires : goal.encode_big-requires
 encode_big-requires c = let args = c.args in
     let f : SFits w64 args.t.secs = search rules in
     let z = to_z-of_z w64 args.t.secs f in
-    let t = rw z at c.shift-s.ensures.test in
-    let v = rw z at c.shift-s.ensures.value-is in
-    let b = sym (t) ∙ not-false _ c.if-not-s.false in
+    let t = rw z at c.in-Some.ensures.test in
+    let v = rw z at c.in-Some.ensures.value-is in
+    let b = sym t in
     let w = v ∙ ap (λ (x : Bool). value_if x (shifted args.t.secs)) b in
     let h = shifted-most args.t.secs b in
     (omega (arith, w, h), c.if-nsecs-ge-NANOSECONDS.false)
@@ -39,9 +37,9 @@ pub returns-then-bigtime : goal.returns-then-bigtime
 returns-then-bigtime c = let args = c.args in
     let f : SFits w64 args.t.secs = search rules in
     let z = to_z-of_z w64 args.t.secs f in
-    let t = rw z at c.shift-s.ensures.test in
-    let v = rw z at c.shift-s.ensures.value-is in
-    let b = sym (t) ∙ not-false _ c.if-not-s.false in
+    let t = rw z at c.in-Some.ensures.test in
+    let v = rw z at c.in-Some.ensures.value-is in
+    let b = sym t in
     let w = v ∙ ap (λ (x : Bool). value_if x (shifted args.t.secs)) b in
     rw c.if-bigtime.true (time-big args.t.secs args.t.nsecs _ _ _ c.if-nsecs-ge-NANOSECONDS.false b w c.encode_big.ensures)
 
@@ -49,8 +47,8 @@ pub returns-then-t-gt2147483647 : goal.returns-then-t-gt2147483647
 returns-then-t-gt2147483647 c = let args = c.args in
     let f : SFits w64 args.t.secs = search rules in
     let z = to_z-of_z w64 args.t.secs f in
-    let t = rw z at c.shift-s.ensures.test in
-    let b = sym (t) ∙ not-false _ c.if-not-s.false in
+    let t = rw z at c.in-Some.ensures.test in
+    let b = sym t in
     let i = inside-small args.t.secs args.t.nsecs c.if-nsecs-ge-NANOSECONDS.false b in
     rw c.if-bigtime.false (time-no false args.t.secs _ _ _ (i ∙ late-small _ _ z c.if-t-gt2147483647.true) c.refused-then-t-gt2147483647.ensures.0 c.refused-then-t-gt2147483647.ensures.1)
 
@@ -58,9 +56,9 @@ pub encode_small-requires : goal.encode_small-requires
 encode_small-requires c = let args = c.args in
     let f : SFits w64 args.t.secs = search rules in
     let z = to_z-of_z w64 args.t.secs f in
-    let t = rw z at c.shift-s.ensures.test in
-    let v = rw z at c.shift-s.ensures.value-is in
-    let b = sym (t) ∙ not-false _ c.if-not-s.false in
+    let t = rw z at c.in-Some.ensures.test in
+    let v = rw z at c.in-Some.ensures.value-is in
+    let b = sym t in
     let w = v ∙ ap (λ (x : Bool). value_if x (shifted args.t.secs)) b in
     let h = not-late-small _ _ z c.if-t-gt2147483647.false in
     (omega (arith, w, h), c.if-nsecs-ge-NANOSECONDS.false)
@@ -69,8 +67,8 @@ pub returns : goal.returns
 returns c = let args = c.args in
     let f : SFits w64 args.t.secs = search rules in
     let z = to_z-of_z w64 args.t.secs f in
-    let t = rw z at c.shift-s.ensures.test in
-    let v = rw z at c.shift-s.ensures.value-is in
-    let b = sym (t) ∙ not-false _ c.if-not-s.false in
+    let t = rw z at c.in-Some.ensures.test in
+    let v = rw z at c.in-Some.ensures.value-is in
+    let b = sym t in
     let w = v ∙ ap (λ (x : Bool). value_if x (shifted args.t.secs)) b in
     rw c.if-bigtime.false (time-small args.t.secs args.t.nsecs _ _ _ c.if-nsecs-ge-NANOSECONDS.false b w (not-late-small _ _ z c.if-t-gt2147483647.false) c.encode_small.ensures)

@@ -10,21 +10,21 @@ returns c = let a = c.args.g in
     numbers-are a c.args.s _ _ _ _ _ _ _ _ _ _ _ _ _ _ _ _ _ _ _ _
     c.requires
     (version-is a _ _ c.version_of-version.ensures c.large_sector.ensures)
-    (c.wide32-rext.ensures ∙ c.rext_of.ensures)
-    (c.align_of-align.ensures ∙ ap (align_of a.features.sparse a.inodesize) c.wide32-bs.ensures)
-    (c.wide8-dirlog.ensures ∙ c.minus_u8.ensures)
-    (c.wide32-sunit.ensures ∙ c.logsunit_of.ensures ∙ ap logsunit_of c.lsunit_of.ensures)
+    (c.from-rext.ensures ∙ c.rext_of.ensures)
+    (c.align_of-align.ensures ∙ ap (align_of a.features.sparse a.inodesize) c.from-bs.ensures)
+    (c.from-dirlog.ensures ∙ c.saturating_sub.ensures)
+    (c.from-sunit.ensures ∙ c.logsunit_of.ensures ∙ ap logsunit_of c.lsunit_of.ensures)
     c.ro_of-ro.ensures
     c.in_of-incompat.ensures
-    (c.spino_of-spino.ensures ∙ ap (sparse_align a.features.sparse a.inodesize) c.wide32-bs.ensures)
+    (c.spino_of-spino.ensures ∙ ap (sparse_align a.features.sparse a.inodesize) c.from-bs.ensures)
     c.bit_of-progress.ensures
-    c.wide32.ensures
-    c.wide32-2.ensures
-    c.wide32-3.ensures
-    c.wide32-4.ensures
-    c.wide8.ensures
-    c.wide8-2.ensures
-    c.wide8-3.ensures
-    c.wide8-4.ensures
-    c.wide8-5.ensures
-    c.wide8-6.ensures
+    c.from.ensures
+    c.from-2.ensures
+    c.from-3.ensures
+    c.from-4.ensures
+    c.from-5.ensures
+    c.from-6.ensures
+    c.from-7.ensures
+    c.from-8.ensures
+    c.from-9.ensures
+    c.from-10.ensures

@@ -4,4 +4,4 @@ use mathlib.Core.Path.{◌∙◌}
 use Rattle.sb.proofs.incompat.Goals as goal
 
 pub returns : goal.returns
-returns c = c.known_64.ensures ∙ rw c.in_of.ensures
+returns c = c.known.ensures ∙ rw c.in_of.ensures

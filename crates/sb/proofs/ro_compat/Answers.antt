@@ -4,4 +4,4 @@ use mathlib.Core.Path.{◌∙◌}
 use Rattle.sb.proofs.ro_compat.Goals as goal
 
 pub returns : goal.returns
-returns c = c.known_64.ensures ∙ rw c.ro_of.ensures
+returns c = c.known.ensures ∙ rw c.ro_of.ensures

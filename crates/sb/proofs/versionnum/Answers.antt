@@ -5,4 +5,4 @@ use Rattle.sb.proofs.versionnum.Goals as goal
 
 pub returns : goal.returns
 unfolding version_of large_sector
-returns c = rw (c.known_64.ensures, c.version_of-version.ensures, c.large_sector.ensures)
+returns c = rw (c.known.ensures, c.version_of-version.ensures, c.large_sector.ensures)

@@ -7,16 +7,13 @@ use Rattle.endian.specs.Bytes.{patch}
 use lib.ListN.{length}
 use native.Mathlib.Omega.{arith}
 use Prim.Native.Nat.{◌≤◌}
-use mathlib.Core.Path.{◌≡◌, refl, ap, ◌∙◌}
+use mathlib.Core.Path.{◌≡◌, ap, ◌∙◌}
 use borrow.Author.Rules.{rules}
 use Rattle.log_record.proofs.parts.header.Goals as goal
-
-pub overflow_sub-len : goal.overflow_sub-len
-overflow_sub-len c = omega (arith, c.larger-len.ensures)
 
 pub returns : goal.returns
 returns c = let args = c.args in
     let u : length args.uuid.now ≡ 16 = search rules in
     put_in c.put_bytes.ensures (search rules)
     ∙ ap (patch 304 args.uuid.now) (put-table 324 c.put_all.ensures (let h : 324 ≤ length args.rec.now = search rules in h) tt)
-    ∙ header-written _ _ _ _ _ _ u (rw c.larger-len.ensures refl)
+    ∙ header-written _ _ _ _ _ _ u (omega arith)

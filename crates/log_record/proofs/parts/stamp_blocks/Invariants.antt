@@ -9,6 +9,3 @@ use Rattle.log_record.proofs.parts.stamp_blocks.Given as goal
 
 abbrev pub invariant-loop-i : goal.invariant-loop-i
 invariant-loop-i l = (length l.rec ≡ length l.initial.rec) × (write_fields (stamps l.cycle l.i (l.blocks - l.i)) l.rec ≡ write_fields (stamps l.cycle 2 (l.blocks - 2)) l.initial.rec)
-
-abbrev pub decreases-loop-i : goal.decreases-loop-i
-decreases-loop-i l = l.blocks - l.i

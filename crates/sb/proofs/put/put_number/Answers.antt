@@ -1,21 +1,16 @@
 -- `sb::put::put_number` meets its contract.
 -- Assumes nothing.
-use Rattle.sb.proofs.Runs.{low, number_put, width_one}
-use mathlib.Core.Path.{refl}
+use Rattle.std.proofs.Common.{◌≡◌, ◌∙◌, ap, ◌-◌, ◌≤◌, ℕ, take, drop, length, arith, rules}
+use lib.Seq.{take-length}
+use Rattle.endian.specs.Bytes.{be_bytes}
+use Rattle.endian.proofs.Laws.{put_in, length-be}
+use Rattle.sb.proofs.Runs.{last-bytes}
 use Rattle.sb.proofs.put.put_number.Goals as goal
-
-pub returns-then-width-eq8 : goal.returns-then-width-eq8
-returns-then-width-eq8 c = let a = c.args in
-    number_put 8 a.width a.off a.x a.x c.if-width-eq8.true refl c.requires.0 c.put64.ensures
-
-pub returns-then-width-eq4 : goal.returns-then-width-eq4
-returns-then-width-eq4 c = let a = c.args in
-    number_put 4 a.width a.off a.x _ c.if-width-eq4.true (low 4 a.x _ c.low32.ensures) c.requires.0 c.put32.ensures
-
-pub returns-then-width-eq2 : goal.returns-then-width-eq2
-returns-then-width-eq2 c = let a = c.args in
-    number_put 2 a.width a.off a.x _ c.if-width-eq2.true (low 2 a.x _ c.low16.ensures) c.requires.0 c.put16.ensures
 
 pub returns : goal.returns
 returns c = let a = c.args in
-    number_put 1 a.width a.off a.x _ (width_one a.width c.requires.1 c.if-width-eq8.false c.if-width-eq4.false c.if-width-eq2.false) (low 1 a.x _ c.low8.ensures) c.requires.0 c.put8.ensures
+    let few : a.width ≤ 8 = search rules in
+    let e : drop (8 - a.width) c.to_be_bytes.result ≡ be_bytes a.width a.x = ap (drop (8 - a.width)) c.to_be_bytes.ensures ∙ last-bytes 8 (8 - a.width) a.width a.x (omega arith) in
+    let f : take (8 - (8 - a.width)) (be_bytes a.width a.x) ≡ be_bytes a.width a.x =
+    ap (λ (k : ℕ). take k (be_bytes a.width a.x)) (let w : 8 - (8 - a.width) ≡ length (be_bytes a.width a.x) = omega (arith, length-be a.width a.x) in w) ∙ take-length (be_bytes a.width a.x) in
+    put_in (rw (e, f) at c.put_bytes.ensures) (rw (length-be a.width a.x) c.requires.0)
