@@ -3,9 +3,9 @@
 use mathlib.Core.Path.{◌≡◌, refl, ◌∙◌}
 use mathlib.Core.Bool.{Bool, true, false, cond}
 use mathlib.Core.List.{List, [], ◌∷◌, ◌++◌}
-use Prim.Native.Nat.{ℕ, ◌+◌, ◌-◌, ◌≤◌, ◌<◌}
+use Prim.Native.Nat.{ℕ, ◌+◌, ◌-◌, ◌≤◌, ◌<◌, min}
 use native.Mathlib.Omega.{arith}
-use borrow.Author.Tests.{leb-false}
+use borrow.Author.Tests.{leb-true, leb-false}
 use lib.Dec.{leb, ltb}
 use lib.ListN.{length, length-append}
 use Rattle.seqs.specs.Lists.{Store, packed, pushed, appended, up_from}
@@ -38,6 +38,13 @@ appended-none o a n e = rw e
 least-le-at : (b : Bool) (x y : ℕ) → leb x y ≡ b → cond b x y ≤ x
 least-le-at true x y e = omega arith
 least-le-at false x y e = omega (arith, leb-false x y e)
+
+min-is-at : (b : Bool) (x y : ℕ) → leb x y ≡ b → min x y ≡ cond b x y
+min-is-at true x y e = omega (arith, leb-true x y e)
+min-is-at false x y e = omega (arith, leb-false x y e)
+
+pub min-is : (x y : ℕ) → min x y ≡ smaller_of x y
+min-is x y = min-is-at (leb x y) x y refl
 
 pub least-le : (x y : ℕ) → smaller_of x y ≤ x
 least-le x y = least-le-at (leb x y) x y refl

@@ -1,10 +1,8 @@
 -- The plan of a group: what mkfs.xfs leaves of its blocks, step by step as the source goes.
 -- Assumes nothing.
-use Rattle.std.specs.Prelude.{Bool, cond, List, [], ◌∷◌, ◌++◌, ℕ, ◌+◌, ◌-◌, leb, ltb, eqb}
+use Rattle.std.specs.Prelude.{Bool, cond, List, [], ◌∷◌, ◌++◌, ℕ, ◌+◌, ◌-◌, leb, ltb, eqb, Option, Some, None}
 use Rattle.refusals.specs.Numbers.{free_list_short}
 use Rattle.seqs.specs.Lists.{Store, packed, appended, turns, up_from}
-use Rattle.params.specs.declared.OptU64.{OptU64}
-use Rattle.params.specs.declared.OptU64.TheVariants.{Absent, Given}
 use Rattle.geometry.specs.declared.Geometry.{Geometry}
 use Rattle.btree.specs.declared.records.AllocRec.{AllocRec}
 use Rattle.btree.specs.declared.records.RmapRec.{RmapRec}
@@ -153,12 +151,12 @@ chunked s w =
 -- ---- the answer
 
 abbrev pub no_plan : AgPlan
-no_plan = record { agno = 0; length = 0; free = pack_free []; agfl = pack_agfl []; rmap = pack_rmap []; chunk = Absent }
+no_plan = record { agno = 0; length = 0; free = pack_free []; agfl = pack_agfl []; rmap = pack_rmap []; chunk = None }
 
 abbrev pub refused_plan : ℕ → Planned
 refused_plan n = record { number = n; plan = no_plan }
 
-unfoldable pub plan_answer : Site → OptU64 → Work → Planned
+unfoldable pub plan_answer : Site → Option ℕ → Work → Planned
 plan_answer s chunk w =
     cond (eqb w.number 0)
     (record {
@@ -178,8 +176,8 @@ plan_answer s chunk w =
 unfoldable pub plan_of : Site → Planned
 plan_of s =
     cond (eqb s.agno 0)
-    (plan_answer s (Given s.chunk_at) (chunked s (list_filled s)))
-    (plan_answer s Absent (list_filled s))
+    (plan_answer s (Some s.chunk_at) (chunked s (list_filled s)))
+    (plan_answer s None (list_filled s))
 
 -- `plan_ag`: 31 and 29 before the plan
 unfoldable pub planned : Geometry → ℕ → Planned

@@ -1,7 +1,7 @@
 // The free list: the smallest free record that holds all still wanted, else the largest, from its start, until the list is full.
 ghost use Rattle.std.specs.Prelude.{◌≡◌, [], ◌+◌, ◌-◌, ◌≤◌, ◌^◌};
 ghost use Rattle.seqs.specs.Lists.{pushed, appended, turns, up_from};
-ghost use Rattle.plan.specs.Plan.{of_agfl, to_agfl, pack_agfl, failed, mapped, noted, moved, smaller_of, list_turn};
+ghost use Rattle.plan.specs.Plan.{of_agfl, to_agfl, pack_agfl, failed, mapped, noted, moved, list_turn};
 
 use crate::{Agfl, Work};
 use btree::owner;
@@ -20,14 +20,12 @@ pub(crate) fn no_blocks() -> Agfl
 fn push_block(l: Agfl, b: u32) -> Agfl
     ensures { result ≡ to_agfl (pushed (of_agfl l) b) }
 {
-    let at = l.len;
-    if at < 64 {
-        let mut out = l;
-        out.blocks[at] = b;
-        out.len = at + 1;
-        return out;
+    let mut out = l;
+    if l.len < 64 {
+        out.blocks[l.len] = b;
+        out.len += 1;
     }
-    l
+    out
 }
 
 // n blocks more, from start on.
@@ -35,13 +33,10 @@ fn extend(l: Agfl, start: u32, n: u64) -> Agfl
     requires { start + n ≤ 2 ^ 32 }
     ensures { result ≡ to_agfl (appended (of_agfl l) (up_from start n)) }
 {
+    let first = start as u64;
     let mut out = l;
-    let mut at = start as u64;
-    let mut left = n;
-    while 0 < left {
-        out = push_block(out, at as u32);
-        at += 1;
-        left -= 1;
+    for b in first..first + n {
+        out = push_block(out, b as u32);
     }
     out
 }
@@ -108,43 +103,23 @@ fn move_blocks(w: Work, start: u32, n: u32) -> Work
     fail(w, number)
 }
 
-fn least_of(a: u32, b: u32) -> u32
-    ensures { result ≡ smaller_of a b }
-{
-    if a <= b { a } else { b }
-}
-
 // One turn: 25 where no record is left.
 fn one_turn(w: Work) -> Work
     ensures { result ≡ list_turn w }
 {
-    if w.number == 0 {
-        let want = w.want;
-        if want == 0 {
-            return w;
-        }
-        let free = w.free;
-        let c = plan_free::pick(free, want as u64);
-        let found = c.found;
-        if found {
-            let r = c.rec;
-            let n = least_of(want, r.count);
-            return move_blocks(w, r.start, n);
-        }
+    if w.number != 0 || w.want == 0 {
+        return w;
+    }
+    let c = plan_free::pick(w.free, w.want as u64);
+    if !c.found {
         return fail(w, refusals::FREE_LIST_SHORT);
     }
-    w
+    move_blocks(w, c.rec.start, w.want.min(c.rec.count))
 }
 
 // At most `need` turns.
 pub(crate) fn fill_list(w: Work, need: u32) -> Work
     ensures { result ≡ turns list_turn need w }
 {
-    let mut out = w;
-    let mut k = need;
-    while 0 < k {
-        out = one_turn(out);
-        k -= 1;
-    }
-    out
+    (0..need).fold(w, |w, _| one_turn(w))
 }

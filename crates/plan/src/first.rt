@@ -1,6 +1,6 @@
 // The records of a group before anything is taken: free extents, and the reverse mappings of head and log.
 ghost use Rattle.std.specs.Prelude.{◌≡◌, ◌+◌};
-ghost use Rattle.seqs.specs.Lists.{pushed, appended};
+ghost use Rattle.seqs.specs.Lists.{appended};
 ghost use Rattle.plan_free.specs.Free.{pack_free, of_free, to_free};
 ghost use Rattle.plan_rmap.specs.Rmap.{pack_rmap, of_rmap, to_rmap};
 ghost use Rattle.plan_site.specs.Sites.{SoundSite};
@@ -14,33 +14,6 @@ use plan_free::FreeList;
 use plan_rmap::RmapList;
 use plan_site::Site;
 
-// One record more; a full list stays as it is. These lists have six records at most.
-fn push_free(l: FreeList, r: AllocRec) -> FreeList
-    ensures { result ≡ to_free (pushed (of_free l) r) }
-{
-    let at = l.len;
-    if at < 64 {
-        let mut out = l;
-        out.recs[at] = r;
-        out.len = at + 1;
-        return out;
-    }
-    l
-}
-
-fn push_rmap(l: RmapList, r: RmapRec) -> RmapList
-    ensures { result ≡ to_rmap (pushed (of_rmap l) r) }
-{
-    let at = l.len;
-    if at < 64 {
-        let mut out = l;
-        out.recs[at] = r;
-        out.len = at + 1;
-        return out;
-    }
-    l
-}
-
 // The free record from a up to b, if there is one.
 fn put_gap(l: FreeList, a: u32, b: u32) -> FreeList
     ensures { result ≡ to_free (appended (of_free l) (gap a b)) }
@@ -50,7 +23,7 @@ fn put_gap(l: FreeList, a: u32, b: u32) -> FreeList
             start: a,
             count: b - a,
         };
-        return push_free(l, r);
+        return plan_free::push(l, r);
     }
     l
 }
@@ -69,7 +42,7 @@ fn first_free(s: Site) -> FreeList
         start: s.head,
         count: s.length - s.head,
     };
-    push_free(none, r)
+    plan_free::push(none, r)
 }
 
 // The head by its parts.
@@ -77,7 +50,7 @@ fn put_head(l: RmapList, s: Site) -> RmapList
     requires { SoundSite s }
     ensures { result ≡ to_rmap (appended (of_rmap l) (head_map s)) }
 {
-    let a = push_rmap(
+    let a = plan_rmap::push(
         l,
         RmapRec {
             start: 0,
@@ -85,7 +58,7 @@ fn put_head(l: RmapList, s: Site) -> RmapList
             owner: owner::FS,
         },
     );
-    let b = push_rmap(
+    let b = plan_rmap::push(
         a,
         RmapRec {
             start: s.bno,
@@ -93,7 +66,7 @@ fn put_head(l: RmapList, s: Site) -> RmapList
             owner: owner::AG,
         },
     );
-    let c = push_rmap(
+    let c = plan_rmap::push(
         b,
         RmapRec {
             start: s.ibt,
@@ -101,7 +74,7 @@ fn put_head(l: RmapList, s: Site) -> RmapList
             owner: owner::INOBT,
         },
     );
-    push_rmap(
+    plan_rmap::push(
         c,
         RmapRec {
             start: s.rmap_at,
@@ -120,7 +93,7 @@ fn put_refc(l: RmapList, s: Site) -> RmapList
             count: 1,
             owner: owner::REFC,
         };
-        return push_rmap(l, r);
+        return plan_rmap::push(l, r);
     }
     l
 }
@@ -134,7 +107,7 @@ fn put_log(l: RmapList, s: Site) -> RmapList
             count: s.log_blocks,
             owner: owner::LOG,
         };
-        return push_rmap(l, r);
+        return plan_rmap::push(l, r);
     }
     l
 }

@@ -14,13 +14,12 @@ use crate::chunk::take_chunk;
 use crate::fill::{fill_list, no_blocks};
 use crate::first::start_work;
 use geometry::Geometry;
-use params::OptU64;
 use plan_free::FreeList;
 use plan_rmap::RmapList;
 use plan_site::{Site, site_of};
 
 // Blocks on the free list, in its order: the first `len` of `blocks`.
-#[derive(Clone, Copy)]
+#[derive(Clone, Copy, PartialEq, Eq)]
 pub struct Agfl {
     pub blocks: [u32; 64],
     pub len: usize,
@@ -39,14 +38,14 @@ pub struct Work {
 
 // The end state of one allocation group's metadata: free extents by block, free list, reverse mappings by block, and the root inode
 // chunk's first block in group 0.
-#[derive(Clone, Copy)]
+#[derive(Clone, Copy, PartialEq, Eq)]
 pub struct AgPlan {
     pub agno: u64,
     pub length: u64,
     pub free: FreeList,
     pub agfl: Agfl,
     pub rmap: RmapList,
-    pub chunk: OptU64,
+    pub chunk: Option<u64>,
 }
 
 // The number is 0 for an accepted plan; a refusal has the plan of zeros.
@@ -62,7 +61,7 @@ fn refuse(n: u32) -> Planned
     let free = plan_free::empty();
     let agfl = no_blocks();
     let rmap = plan_rmap::empty();
-    let chunk = OptU64::Absent;
+    let chunk = None;
     let plan = AgPlan {
         agno: 0,
         length: 0,
@@ -74,7 +73,7 @@ fn refuse(n: u32) -> Planned
     Planned { number: n, plan }
 }
 
-fn answer_with(s: Site, chunk: OptU64, w: Work) -> Planned
+fn answer_with(s: Site, chunk: Option<u64>, w: Work) -> Planned
     ensures { result ≡ plan_answer s chunk w }
 {
     let number = w.number;
@@ -104,10 +103,10 @@ fn plan_site(s: Site) -> Planned
     let full = fill_list(first, s.need);
     if s.agno == 0 {
         let done = take_chunk(s, full);
-        let chunk = OptU64::Given(s.chunk_at as u64);
+        let chunk = Some(s.chunk_at as u64);
         return answer_with(s, chunk, done);
     }
-    let chunk = OptU64::Absent;
+    let chunk = None;
     answer_with(s, chunk, full)
 }
 

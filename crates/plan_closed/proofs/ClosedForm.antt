@@ -1,5 +1,6 @@
 -- The planner's plan is the closed one, in group 0, in the log group and in every other.
 -- Assumes nothing.
+use Rattle.std.specs.Prelude.{Option, None}
 use mathlib.Core.Path.{◌≡◌, refl, ap, ◌∙◌}
 use mathlib.Core.Bool.{Bool, true, false, cond, ◌&&◌}
 use mathlib.Core.Logic.{⊎_elim}
@@ -11,8 +12,6 @@ use lib.Dec.{ltb}
 use Rattle.refusals.specs.Numbers.{free_list_short}
 use Rattle.seqs.specs.Lists.{up_from}
 use Rattle.seqs.proofs.Laws.{lt-or-le}
-use Rattle.params.specs.declared.OptU64.{OptU64}
-use Rattle.params.specs.declared.OptU64.TheVariants.{Absent}
 use Rattle.btree.specs.declared.records.AllocRec.{AllocRec}
 use Rattle.btree.specs.declared.records.RmapRec.{RmapRec}
 use Rattle.plan_site.specs.declared.Site.{Site}
@@ -100,14 +99,14 @@ module _ (s : Site) (ok : SoundSite s) where
   never : {X : Type 0} (t : Bool) → t ≡ true → t ≡ false → X
   never t e f = let z : ◌≡◌ {A = ℕ} 0 1 = cc in absurd (omega arith)
 
-  refused : (c : OptU64) (w : Work) → w.number ≡ free_list_short → plan_answer s c w ≡ refused_plan free_list_short
+  refused : (c : Option ℕ) (w : Work) → w.number ≡ free_list_short → plan_answer s c w ≡ refused_plan free_list_short
   unfolding plan_answer
   refused c w e = rw e
 
   log-refused : (t : Bool) → has_root_chunk s ≡ t → s.has_log ≡ true → s.length - list_at s < s.need → plan_of s ≡ refused_plan free_list_short
   unfolding plan_of
   log-refused true z e h = never s.has_log e (first-log z)
-  log-refused false z e h = rw z (refused Absent (list_filled s) (listed-short e h))
+  log-refused false z e h = rw z (refused None (list_filled s) (listed-short e h))
 
   -- the root chunk, where a run can be taken and a record put
   chunked-by : (free free' : List AllocRec) (list : List ℕ) (map map' : List RmapRec)

@@ -1,9 +1,8 @@
 -- The plan of a group in closed form: what lies where, without the planner's steps.
 -- Assumes nothing.
-use Rattle.std.specs.Prelude.{Bool, not, cond, ◌&&◌, List, [], ◌∷◌, ◌++◌, ℕ, ◌+◌, ◌-◌, ltb, eqb}
+use Rattle.std.specs.Prelude.{Bool, not, cond, ◌&&◌, List, [], ◌∷◌, ◌++◌, ℕ, ◌+◌, ◌-◌, ltb, eqb, Some, None}
 use Rattle.refusals.specs.Numbers.{free_list_short}
 use Rattle.seqs.specs.Lists.{up_from}
-use Rattle.params.specs.declared.OptU64.TheVariants.{Absent, Given}
 use Rattle.btree.specs.declared.records.AllocRec.{AllocRec}
 use Rattle.btree.specs.declared.records.RmapRec.{RmapRec}
 use Rattle.plan_site.specs.declared.Site.{Site}
@@ -73,7 +72,7 @@ closed_ag_plan s =
       free = pack_free (closed_free s);
       agfl = pack_agfl (closed_list s);
       rmap = pack_rmap (closed_rmap s);
-      chunk = cond (has_root_chunk s) (Given s.chunk_at) Absent;
+      chunk = cond (has_root_chunk s) (Some s.chunk_at) None;
     }
 
 -- 25 where the log group is short of blocks, else the plan

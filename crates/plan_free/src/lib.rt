@@ -7,12 +7,12 @@ pub mod picking; // picking.rt: the smallest record that holds what is wanted, e
 pub mod taking; // taking.rt: a run taken out of the record that holds it
 
 use btree::AllocRec;
-pub use list::empty;
+pub use list::{empty, push};
 pub use picking::pick;
 pub use taking::take;
 
 // The first `len` of `recs` are the list.
-#[derive(Clone, Copy)]
+#[derive(Clone, Copy, PartialEq, Eq)]
 pub struct FreeList {
     pub recs: [AllocRec; 64],
     pub len: usize,

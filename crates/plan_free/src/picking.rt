@@ -6,20 +6,8 @@ ghost use Rattle.plan_free.specs.Free.{free_of, unpicked, no_choice, ahead, next
 use crate::{Choice, FreeList};
 use btree::AllocRec;
 
-// No record is chosen.
-fn nothing() -> Choice
-    ensures { result ≡ no_choice }
-{
-    let rec = AllocRec { start: 0, count: 0 };
-    Choice {
-        number: 0,
-        found: false,
-        rec,
-    }
-}
-
-// The answer of a refusal.
-fn refused(number: u32) -> Choice
+// No record, beside a number.
+fn unpicked(number: u32) -> Choice
     ensures { result ≡ unpicked number }
 {
     let rec = AllocRec { start: 0, count: 0 };
@@ -34,34 +22,22 @@ fn refused(number: u32) -> Choice
 fn is_ahead(p: u32, q: u32, s: u32, t: u32) -> bool
     ensures { result ≡ ahead p q s t }
 {
-    if p == q {
-        return s < t;
-    }
-    p < q
+    (p, s) < (q, t)
 }
 
 // r in the place of c where it passes a test, and wins over c or nothing is there.
 fn keep(passes: bool, wins: bool, c: Choice, r: AllocRec) -> Choice
     ensures { result ≡ next passes wins c r }
 {
-    if passes {
-        if c.found {
-            if wins {
-                return Choice {
-                    number: 0,
-                    found: true,
-                    rec: r,
-                };
-            }
-            return c;
-        }
-        return Choice {
+    if passes && (!c.found || wins) {
+        Choice {
             number: 0,
             found: true,
             rec: r,
-        };
+        }
+    } else {
+        c
     }
-    c
 }
 
 // Of c and r, the better fit; r alone is tested.
@@ -87,15 +63,9 @@ fn best_fit(l: FreeList, want: u64) -> Choice
     requires { l.len ≤ 64 }
     ensures { result ≡ fold (fitter want) no_choice (free_of l) }
 {
-    let n = l.len;
-    let mut c = nothing();
-    let mut i: usize = 0;
-    while i < n {
-        let r = l.recs[i];
-        c = better_fit(want, c, r);
-        i += 1;
-    }
-    c
+    l.recs[..l.len]
+        .iter()
+        .fold(unpicked(0), |c, r| better_fit(want, c, *r))
 }
 
 // The largest record, the lowest start on a tie.
@@ -103,15 +73,9 @@ fn largest(l: FreeList) -> Choice
     requires { l.len ≤ 64 }
     ensures { result ≡ fold bigger no_choice (free_of l) }
 {
-    let n = l.len;
-    let mut c = nothing();
-    let mut i: usize = 0;
-    while i < n {
-        let r = l.recs[i];
-        c = better_size(c, r);
-        i += 1;
-    }
-    c
+    l.recs[..l.len]
+        .iter()
+        .fold(unpicked(0), |c, r| better_size(c, *r))
 }
 
 // The smallest record that has `want` blocks, else the largest; none of a list of none. 34 above 64 records.
@@ -119,7 +83,7 @@ pub fn pick(l: FreeList, want: u64) -> Choice
     ensures { result ≡ pick_answer l want }
 {
     if l.len > 64 {
-        return refused(refusals::TOO_MANY_RECORDS);
+        return unpicked(refusals::TOO_MANY_RECORDS);
     }
     let c = best_fit(l, want);
     if c.found {

@@ -1,14 +1,11 @@
 // A run of blocks taken out of the free extents.
-ghost use Rattle.std.specs.Prelude.{◌≡◌, ◌+◌, ◌-◌, ◌≤◌, ◌<◌, ◌^◌, length, get_or};
-ghost use Rattle.seqs.specs.Lists.{first_index, appended};
+ghost use Rattle.std.specs.Prelude.{◌≡◌, ◌+◌, ◌-◌, ◌≤◌, ◌<◌, ◌^◌, length, get_or, position};
+ghost use Rattle.seqs.specs.Lists.{appended};
 ghost use Rattle.plan_free.specs.Free.{zero_free_rec, of_free, to_free, free_of, alloc_end, holds_run, rest_before, rest_after, without_run, take_refused, taken_at, taken};
 
 use crate::list::{append, empty, is_valid, push};
 use crate::{FreeList, Taken};
 use btree::AllocRec;
-
-// 2^64 − 1.
-const MAX: u64 = 0xffff_ffff_ffff_ffff;
 
 // The answer of a refusal.
 fn refused(number: u32) -> Taken
@@ -22,29 +19,15 @@ fn refused(number: u32) -> Taken
 fn holds(r: AllocRec, s: u64, e: u64) -> bool
     ensures { result ≡ holds_run s e r }
 {
-    if (r.start as u64) <= s {
-        return e <= seqs::end_of(r.start, r.count);
-    }
-    false
+    (r.start as u64) <= s && e <= seqs::end_of(r.start, r.count)
 }
 
-// The index of the first record that holds the run, or the count where none does.
-fn find(l: FreeList, s: u64, e: u64) -> usize
+// The index of the first record that holds the run.
+fn find(l: FreeList, s: u64, e: u64) -> Option<usize>
     requires { l.len ≤ 64 }
-    ensures { result ≡ first_index (holds_run s e) (free_of l) }
+    ensures { result ≡ position (holds_run s e) (free_of l) }
 {
-    let n = l.len;
-    let mut i: usize = 0;
-    loop {
-        if i >= n {
-            break n;
-        }
-        let r = l.recs[i];
-        if holds(r, s, e) {
-            break i;
-        }
-        i += 1;
-    }
+    l.recs[..l.len].iter().position(|r| holds(*r, s, e))
 }
 
 // How many records the run leaves of a record that holds it.
@@ -116,20 +99,17 @@ fn take_at(l: FreeList, i: usize, s: u64, e: u64) -> Taken
 pub fn take(free: FreeList, start: u64, len: u64) -> Taken
     ensures { result ≡ taken free start len }
 {
-    let n = free.len;
-    if n > 64 {
+    if free.len > 64 {
         return refused(refusals::TOO_MANY_RECORDS);
     }
     if !is_valid(free) {
         return refused(refusals::NOT_VALID);
     }
-    if len > MAX - start {
+    let Some(end) = start.checked_add(len) else {
         return refused(refusals::NOT_FREE);
-    }
-    let end = start + len;
-    let i = find(free, start, end);
-    if i >= n {
+    };
+    let Some(i) = find(free, start, end) else {
         return refused(refusals::NOT_FREE);
-    }
+    };
     take_at(free, i, start, end)
 }

@@ -1,17 +1,17 @@
 -- Laws of the held runs, for the loops over them.
 -- Assumes nothing.
 use mathlib.Core.Path.{◌≡◌, refl, sym, ap, ◌∙◌}
-use mathlib.Core.Bool.{Bool, true, false, cond}
+use mathlib.Core.Bool.{Bool, true, false, cond, ◌||◌}
 use mathlib.Core.List.{List, [], ◌∷◌, ◌++◌, append-nil}
 use Prim.Native.Nat.{ℕ, suc, ◌+◌, ◌-◌, ◌≤◌, ◌<◌}
 use native.Mathlib.Omega.{arith}
 use borrow.Author.Tests.{lt-ltb, le-ltb, ltb-true, leb-true}
 use lib.Dec.{ltb, eqb}
-use lib.ListN.{length, get_or, set, replicate, length-append, length-take}
-use lib.Seq.{slice, set-append_seam, append_snoc, take-append_seam}
+use lib.ListN.{length, set, replicate, length-append, length-take}
+use lib.Seq.{set-append_seam, append_snoc, take-append_seam}
+use Rattle.std.specs.List.{list_any}
 use Rattle.arith.proofs.Both.{left-true}
 use Rattle.seqs.specs.Lists.{fold}
-use Rattle.seqs.proofs.Laws.{rest-cons, rest-nil}
 use Rattle.btree.specs.declared.records.AllocRec.{AllocRec}
 use Rattle.geometry.specs.declared.Geometry.{Geometry}
 use Rattle.plan_free.specs.Free.{zero_free_rec, taken}
@@ -99,18 +99,14 @@ dropped-few h a l =
     omega arith
 
 -- ---- the search for a run
-module _ (a n : ℕ) (xs : List AllocRec) (k i : ℕ) where
-  pub any_step : i < k → k ≤ length xs → is_run a n (get_or xs i zero_free_rec) ≡ false → any_run a n (slice i k xs) ≡ any_run a n (slice (i + 1) k xs)
-  unfolding any_run
-  any_step h l e = rw (rest-cons xs zero_free_rec k i h l, e)
+or-is : (b x : Bool) → (b || x) ≡ cond b true x
+or-is true x = refl
+or-is false x = refl
 
-  pub any_found : i < k → k ≤ length xs → is_run a n (get_or xs i zero_free_rec) ≡ true → any_run a n (slice i k xs) ≡ true
-  unfolding any_run
-  any_found h l e = rw (rest-cons xs zero_free_rec k i h l, e)
-
-  pub any-end : i ≡ k → any_run a n (slice i k xs) ≡ false
-  unfolding any_run
-  any-end e = rw (rest-nil xs zero_free_rec k i e)
+pub any-is : (a n : ℕ) (rs : List AllocRec) → list_any (is_run a n) rs ≡ any_run a n rs
+unfolding any_run
+any-is a n [] = refl
+any-is a n (r ∷ rs) = or-is (is_run a n r) (list_any (is_run a n) rs) ∙ ap (λ (t : Bool). cond (is_run a n r) true t) (any-is a n rs)
 
 -- ---- a run that isn't held: 42 where it is empty or not free, before 34 where eight are held
 module _ (s : Holds) (a n : ℕ) where

@@ -14,14 +14,14 @@ use geometry::Geometry;
 use plan_free::FreeList;
 
 // The runs held, sorted by start: the first `len` of `recs`.
-#[derive(Clone, Copy)]
+#[derive(Clone, Copy, PartialEq, Eq)]
 pub struct HeldList {
     pub recs: [AllocRec; 8],
     pub len: usize,
 }
 
 // A group, its free records, and the runs held.
-#[derive(Clone, Copy)]
+#[derive(Clone, Copy, PartialEq, Eq)]
 pub struct Holds {
     pub agno: u64,
     pub free: FreeList,

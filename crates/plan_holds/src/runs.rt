@@ -1,14 +1,11 @@
 // The held runs, sorted by start, in an array of eight with a count.
 ghost use Rattle.std.specs.Prelude.{◌≡◌, [], ◌≤◌, ◌<◌};
 ghost use Rattle.seqs.specs.Lists.{fold};
-ghost use Rattle.plan_same.specs.Same.{eq_list, same_alloc};
-ghost use Rattle.plan_holds.specs.Holding.{held_of, pack_held, starts_on, is_run, any_run, put_run, drop_run, same_held};
+ghost use Rattle.plan_holds.specs.Holding.{held_of, pack_held, starts_on, is_run, any_run, put_run, drop_run};
 ghost use Rattle.plan_holds.specs.Adding.{added_if, added_side};
 
 use crate::HeldList;
-use arith::choice::both;
 use btree::AllocRec;
-use plan_same::same_alloc;
 
 // No run.
 pub(crate) fn no_runs() -> HeldList
@@ -23,17 +20,12 @@ pub(crate) fn no_runs() -> HeldList
 fn add_if(test: bool, l: HeldList, r: AllocRec) -> HeldList
     ensures { result ≡ added_if test l r }
 {
-    let at = l.len;
-    if test {
-        if at < 8 {
-            let mut out = l;
-            out.recs[at] = r;
-            out.len = at + 1;
-            return out;
-        }
-        return l;
+    let mut out = l;
+    if test && l.len < 8 {
+        out.recs[l.len] = r;
+        out.len += 1;
     }
-    l
+    out
 }
 
 // The run starts on that side of block a: below it, or above it.
@@ -41,9 +33,10 @@ fn starts_on(low: bool, a: u64, r: AllocRec) -> bool
     ensures { result ≡ starts_on low a r }
 {
     if low {
-        return (r.start as u64) < a;
+        (r.start as u64) < a
+    } else {
+        a < (r.start as u64)
     }
-    a < (r.start as u64)
 }
 
 // The runs of `src` that start on one side of block a, put behind those of `l`.
@@ -51,16 +44,9 @@ fn add_side(l: HeldList, src: HeldList, low: bool, a: u64) -> HeldList
     requires { src.len ≤ 8 }
     ensures { result ≡ fold (added_side low a) l (held_of src) }
 {
-    let n = src.len;
-    let mut out = l;
-    let mut i: usize = 0;
-    while i < n {
-        let r = src.recs[i];
-        let test = starts_on(low, a, r);
-        out = add_if(test, out, r);
-        i += 1;
-    }
-    out
+    src.recs[..src.len]
+        .iter()
+        .fold(l, |out, r| add_if(starts_on(low, a, *r), out, *r))
 }
 
 // The run put between those that start below it and those that start above.
@@ -88,7 +74,7 @@ pub(crate) fn drop_run(h: HeldList, a: u64) -> HeldList
 fn is_run(a: u64, n: u64, r: AllocRec) -> bool
     ensures { result ≡ is_run a n r }
 {
-    both((r.start as u64) == a, (r.count as u64) == n)
+    (r.start as u64) == a && (r.count as u64) == n
 }
 
 // One of the runs is that of n blocks from a.
@@ -96,36 +82,5 @@ pub(crate) fn is_held(h: HeldList, a: u64, n: u64) -> bool
     requires { h.len ≤ 8 }
     ensures { result ≡ any_run a n (held_of h) }
 {
-    let k = h.len;
-    let mut i: usize = 0;
-    while i < k {
-        let r = h.recs[i];
-        if is_run(a, n, r) {
-            return true;
-        }
-        i += 1;
-    }
-    false
-}
-
-fn same_runs(a: [AllocRec; 8], b: [AllocRec; 8]) -> bool
-    ensures { result ≡ eq_list same_alloc a b }
-{
-    let mut i: usize = 0;
-    while i < 8 {
-        if !same_alloc(a[i], b[i]) {
-            return false;
-        }
-        i += 1;
-    }
-    true
-}
-
-// The counts, and all eight slots.
-pub(crate) fn same_held(a: HeldList, b: HeldList) -> bool
-    ensures { result ≡ same_held a b }
-{
-    let x = a.recs;
-    let y = b.recs;
-    both(a.len == b.len, same_runs(x, y))
+    h.recs[..h.len].iter().any(|r| is_run(a, n, *r))
 }

@@ -2,13 +2,11 @@
 ghost use Rattle.std.specs.Prelude.{◌≡◌, ◌≤◌};
 ghost use Rattle.plan_holds.specs.Holding.{held_of, hold_refused, started, held_with, held_next, replayed, same_state, is_state};
 
-use crate::runs::{no_runs, put_run, same_held};
+use crate::runs::{no_runs, put_run};
 use crate::{Held, HeldList, Holds};
-use arith::choice::both;
 use btree::AllocRec;
 use geometry::Geometry;
 use plan::plan_ag;
-use plan_same::same_free;
 
 // A number beside a state of zeros.
 pub(crate) fn refused(number: u32) -> Held
@@ -86,23 +84,16 @@ pub(crate) fn replay(g: Geometry, agno: u64, h: HeldList) -> Held
     requires { h.len ≤ 8 }
     ensures { result ≡ replayed g agno (held_of h) }
 {
-    let n = h.len;
-    let mut t = begin(g, agno);
-    let mut i: usize = 0;
-    while i < n {
-        let r = h.recs[i];
-        t = hold_next(t, r);
-        i += 1;
-    }
-    t
+    h.recs[..h.len]
+        .iter()
+        .fold(begin(g, agno), |t, r| hold_next(t, *r))
 }
 
+// All fields of two states are the same.
 fn same_state(a: Holds, b: Holds) -> bool
     ensures { result ≡ same_state a b }
 {
-    let free = same_free(a.free, b.free);
-    let held = same_held(a.held, b.held);
-    both(a.agno == b.agno, both(free, held))
+    a == b
 }
 
 // Some calls leave the state: holding its runs again gives it.
@@ -114,6 +105,5 @@ pub(crate) fn is_state(g: Geometry, s: Holds) -> bool
         return false;
     }
     let t = replay(g, s.agno, held);
-    let again = t.state;
-    both(t.number == 0, same_state(again, s))
+    t.number == 0 && same_state(t.state, s)
 }

@@ -21,29 +21,17 @@ fn place(l: RmapList, s: u32) -> usize
     requires { l.len ≤ 64 }
     ensures { result ≡ insert_place s (rmap_of l) }
 {
-    let n = l.len;
-    let mut i: usize = 0;
-    loop {
-        if i >= n {
-            break n;
-        }
-        let r = l.recs[i];
-        if s <= r.start {
-            break i;
-        }
-        i += 1;
-    }
+    l.recs[..l.len]
+        .iter()
+        .position(|r| s <= r.start)
+        .unwrap_or(l.len)
 }
 
 // b starts where a ends, and has the same owner.
 fn joined(a: RmapRec, b: RmapRec) -> bool
     ensures { result ≡ joins a b }
 {
-    if a.owner == b.owner {
-        seqs::end_of(a.start, a.count) == (b.start as u64)
-    } else {
-        false
-    }
+    a.owner == b.owner && seqs::end_of(a.start, a.count) == (b.start as u64)
 }
 
 // The record joins the one before index p.
@@ -51,12 +39,7 @@ fn joined_left(l: RmapList, p: usize, r: RmapRec) -> bool
     requires { (p ≤ l.len) × (l.len ≤ 64) }
     ensures { result ≡ joins_left (rmap_of l) p r }
 {
-    if 0 < p {
-        let q = p - 1;
-        let a = l.recs[q];
-        return joined(a, r);
-    }
-    false
+    0 < p && joined(l.recs[p - 1], r)
 }
 
 // The record joins the one at index p.
@@ -64,12 +47,7 @@ fn joined_right(l: RmapList, p: usize, r: RmapRec) -> bool
     requires { (p ≤ l.len) × (l.len ≤ 64) }
     ensures { result ≡ joins_right (rmap_of l) p r }
 {
-    let n = l.len;
-    if p < n {
-        let b = l.recs[p];
-        return joined(r, b);
-    }
-    false
+    p < l.len && joined(r, l.recs[p])
 }
 
 // Two records that join as one.
@@ -89,12 +67,11 @@ fn end_before(l: RmapList, p: usize) -> u64
     requires { (p ≤ l.len) × (l.len ≤ 64) }
     ensures { result ≡ end_at rmap_start rmap_count zero_rmap_rec 0 (rmap_of l) p }
 {
-    if 0 < p {
-        let q = p - 1;
-        let a = l.recs[q];
-        return seqs::end_of(a.start, a.count);
+    if p == 0 {
+        return 0;
     }
-    0
+    let a = l.recs[p - 1];
+    seqs::end_of(a.start, a.count)
 }
 
 // The record at index p, if there is one, starts at e or later.
@@ -102,12 +79,7 @@ fn next_ok(l: RmapList, p: usize, e: u64) -> bool
     requires { (p ≤ l.len) × (l.len ≤ 64) }
     ensures { result ≡ next_ok rmap_start rmap_count e (drop p (rmap_of l)) }
 {
-    let n = l.len;
-    if p < n {
-        let b = l.recs[p];
-        return e <= (b.start as u64);
-    }
-    true
+    p >= l.len || e <= (l.recs[p].start as u64)
 }
 
 // The list is valid, and stays so with the record at index p.
@@ -170,8 +142,7 @@ fn insert_at(l: RmapList, p: usize, r: RmapRec) -> Inserted
 pub fn rmap_insert(rmap: RmapList, rec: RmapRec) -> Inserted
     ensures { result ≡ inserted rmap rec }
 {
-    let n = rmap.len;
-    if n > 64 {
+    if rmap.len > 64 {
         return refused(refusals::TOO_MANY_RECORDS);
     }
     let p = place(rmap, rec.start);

@@ -7,10 +7,10 @@ pub mod list; // list.rt: an array of 64 records with a count
 
 use btree::RmapRec;
 pub use inserting::rmap_insert;
-pub use list::empty;
+pub use list::{empty, push};
 
 // The first `len` of `recs` are the list.
-#[derive(Clone, Copy)]
+#[derive(Clone, Copy, PartialEq, Eq)]
 pub struct RmapList {
     pub recs: [RmapRec; 64],
     pub len: usize,

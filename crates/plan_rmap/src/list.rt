@@ -22,17 +22,15 @@ pub fn empty() -> RmapList
 }
 
 // One record more; a full list stays as it is.
-pub(crate) fn push(l: RmapList, r: RmapRec) -> RmapList
+pub fn push(l: RmapList, r: RmapRec) -> RmapList
     ensures { result ≡ to_rmap (pushed (of_rmap l) r) }
 {
-    let at = l.len;
-    if at < 64 {
-        let mut out = l;
-        out.recs[at] = r;
-        out.len = at + 1;
-        return out;
+    let mut out = l;
+    if l.len < 64 {
+        out.recs[l.len] = r;
+        out.len += 1;
     }
-    l
+    out
 }
 
 // The records of `src` from index `from` up to, not including, index `to`, put behind those of `l`.
@@ -40,14 +38,7 @@ pub(crate) fn append(l: RmapList, src: RmapList, from: usize, to: usize) -> Rmap
     requires { (from ≤ to) × (to ≤ 64) }
     ensures { result ≡ to_rmap (appended (of_rmap l) (slice from to src.recs)) }
 {
-    let mut out = l;
-    let mut i = from;
-    while i < to {
-        let r = src.recs[i];
-        out = push(out, r);
-        i += 1;
-    }
-    out
+    src.recs[from..to].iter().fold(l, |out, r| push(out, *r))
 }
 
 // Sorted by start, apart, no record empty, no end above 2^32 − 1.
@@ -55,16 +46,12 @@ pub(crate) fn is_valid(l: RmapList) -> bool
     requires { l.len ≤ 64 }
     ensures { result ≡ valid rmap_start rmap_count 0 (rmap_of l) }
 {
-    let n = l.len;
     let mut lo: u64 = 0;
-    let mut i: usize = 0;
-    while i < n {
-        let r = l.recs[i];
+    for r in &l.recs[..l.len] {
         if !seqs::may_follow(lo, r.start, r.count) {
             return false;
         }
         lo = seqs::end_of(r.start, r.count);
-        i += 1;
     }
     true
 }

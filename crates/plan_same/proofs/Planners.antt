@@ -1,5 +1,6 @@
 -- A plan passes the test exactly where it is the planner's answer for its group.
 -- Assumes nothing.
+use Rattle.std.specs.Prelude.{Option, Some, None}
 use mathlib.Core.Path.{◌≡◌, refl, sym, subst, ap, ◌∙◌}
 use mathlib.Core.Bool.{Bool, true, false, ◌&&◌}
 use mathlib.Core.List.{List, [], ◌∷◌}
@@ -7,8 +8,6 @@ use Prim.Native.Nat.{ℕ}
 use lib.Dec.{T, eqb}
 use borrow.Author.Tests.{eqb-true, eq-eqb}
 use Rattle.arith.proofs.Both.{left-true, right-true}
-use Rattle.params.specs.declared.OptU64.{OptU64}
-use Rattle.params.specs.declared.OptU64.TheVariants.{Absent, Given}
 use Rattle.geometry.specs.declared.Geometry.{Geometry}
 use Rattle.plan.specs.declared.AgPlan.{AgPlan}
 use Rattle.plan.specs.declared.Planned.{Planned}
@@ -65,17 +64,17 @@ maps =
       itself = λ a. rw (eq-eqb a.start a.start refl, eq-eqb a.count a.count refl, eq-eqb a.owner a.owner refl) refl;
     }
 
-chunk-equal : (a b : OptU64) → same_chunk a b ≡ true → a ≡ b
+chunk-equal : (a b : Option ℕ) → same_chunk a b ≡ true → a ≡ b
 unfolding same_chunk
-chunk-equal Absent Absent e = refl
-chunk-equal Absent (Given y) e = absurd (subst T (sym e) tt)
-chunk-equal (Given x) Absent e = absurd (subst T (sym e) tt)
-chunk-equal (Given x) (Given y) e = ap (λ (n : ℕ). Given n) (eqb-true x y e)
+chunk-equal None None e = refl
+chunk-equal None (Some y) e = absurd (subst T (sym e) tt)
+chunk-equal (Some x) None e = absurd (subst T (sym e) tt)
+chunk-equal (Some x) (Some y) e = ap (λ (n : ℕ). Some n) (eqb-true x y e)
 
-chunk-itself : (a : OptU64) → same_chunk a a ≡ true
+chunk-itself : (a : Option ℕ) → same_chunk a a ≡ true
 unfolding same_chunk
-chunk-itself Absent = refl
-chunk-itself (Given x) = eq-eqb x x refl
+chunk-itself None = refl
+chunk-itself (Some x) = eq-eqb x x refl
 
 pub frees : Tells same_free
 unfolding same_free
@@ -134,7 +133,7 @@ is-plan-same g p e =
 refused-group : (n k : ℕ) → eqb n 0 ≡ false → n ≡ 0 → no_plan.agno ≡ k
 refused-group n k t e = absurd (subst T (sym (sym t ∙ eq-eqb n 0 e)) tt)
 
-answer-group : (s : Site) (chunk : OptU64) (w : Work) → (plan_answer s chunk w).number ≡ 0 → (plan_answer s chunk w).plan.agno ≡ s.agno
+answer-group : (s : Site) (chunk : Option ℕ) (w : Work) → (plan_answer s chunk w).number ≡ 0 → (plan_answer s chunk w).plan.agno ≡ s.agno
 unfolding plan_answer
 answer-group s chunk w =
     choose-elim (λ (x : Planned). x.number ≡ 0 → x.plan.agno ≡ s.agno) (eqb w.number 0) _ _
@@ -145,8 +144,8 @@ site-group : (s : Site) → (plan_of s).number ≡ 0 → (plan_of s).plan.agno �
 unfolding plan_of
 site-group s =
     choose-elim (λ (x : Planned). x.number ≡ 0 → x.plan.agno ≡ s.agno) (eqb s.agno 0) _ _
-    (λ t e. answer-group s (Given s.chunk_at) (chunked s (list_filled s)) e)
-    (λ t e. answer-group s Absent (list_filled s) e)
+    (λ t e. answer-group s (Some s.chunk_at) (chunked s (list_filled s)) e)
+    (λ t e. answer-group s None (list_filled s) e)
 
 pub planned-group : (g : Geometry) (k : ℕ) → (planned g k).number ≡ 0 → (planned g k).plan.agno ≡ k
 unfolding planned site_of

@@ -1,8 +1,6 @@
 -- Two plans are the same, as a test; and whether a plan is the planner's for its group.
 -- Assumes nothing.
-use Rattle.std.specs.Prelude.{Bool, true, false, ◌&&◌, List, [], ◌∷◌, eqb}
-use Rattle.params.specs.declared.OptU64.{OptU64}
-use Rattle.params.specs.declared.OptU64.TheVariants.{Absent, Given}
+use Rattle.std.specs.Prelude.{Bool, true, false, ◌&&◌, List, [], ◌∷◌, eqb, Option, Some, None, ℕ}
 use Rattle.geometry.specs.declared.Geometry.{Geometry}
 use Rattle.btree.specs.declared.records.AllocRec.{AllocRec}
 use Rattle.btree.specs.declared.records.RmapRec.{RmapRec}
@@ -27,11 +25,11 @@ unfoldable pub same_map : RmapRec → RmapRec → Bool
 same_map a b = (eqb a.start b.start && eqb a.count b.count) && eqb a.owner b.owner
 
 -- the root chunk's block, or none
-unfoldable pub same_chunk : OptU64 → OptU64 → Bool
-same_chunk Absent Absent = true
-same_chunk Absent (Given y) = false
-same_chunk (Given x) Absent = false
-same_chunk (Given x) (Given y) = eqb x y
+unfoldable pub same_chunk : Option ℕ → Option ℕ → Bool
+same_chunk None None = true
+same_chunk None (Some y) = false
+same_chunk (Some x) None = false
+same_chunk (Some x) (Some y) = eqb x y
 
 -- lists: the counts, and all 64 slots
 unfoldable pub same_free : FreeList → FreeList → Bool

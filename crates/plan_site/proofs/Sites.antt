@@ -1,5 +1,6 @@
 -- The site of every group of an answer is sound.
 -- Assumes nothing.
+use Rattle.std.specs.Prelude.{Ok, Err}
 use mathlib.Core.Path.{◌≡◌, refl, sym, ap, ◌∙◌}
 use mathlib.Core.Bool.{Bool, true, false, cond}
 use Prim.Native.Nat.{ℕ, zero, suc, ◌+◌, ◌*◌, ◌-◌, ◌^◌, ◌≤◌, ◌<◌}
@@ -20,8 +21,7 @@ use Rattle.geometry_layout.specs.Bounds.{Bounds}
 use Rattle.geometry_layout.proofs.Bounding.{answer-bounds}
 use Rattle.geometry_layout.proofs.Ceil.{counted, one_more}
 use Rattle.geometry_layout.proofs.Small.{freelist-most}
-use Rattle.geometry_counts.specs.Known.{number64, value64}
-use Rattle.geometry_counts.specs.declared.Value64.TheVariants.{Refused, Of}
+use Rattle.geometry_counts.specs.Known.{number_in, value_in}
 use Rattle.geometry_places.specs.Answers.{unless64, group_refusal, ag_blocks}
 use Rattle.geometry_places.proofs.Refused.{a-group}
 use Rattle.plan_site.specs.declared.Sited.{Sited}
@@ -136,15 +136,15 @@ narrow g k l h =
 
 -- ---- what an answer of `ag_blocks` says
 
-number-at : (n v : ℕ) (t : Bool) → eqb n 0 ≡ t → number64 (cond t (Of v) (Refused n)) ≡ n
+number-at : (n v : ℕ) (t : Bool) → eqb n 0 ≡ t → number_in (cond t (Ok v) (Err n)) ≡ n
 number-at n v true e = sym (eqb-true n 0 e)
 number-at n v false e = refl
 
-pub its-number : (g : Geometry) (k : ℕ) → number64 (ag_blocks g k) ≡ group_refusal g k
+pub its-number : (g : Geometry) (k : ℕ) → number_in (ag_blocks g k) ≡ group_refusal g k
 unfolding ag_blocks unless64
 its-number g k = number-at (group_refusal g k) (group_blocks g.dblocks g.agsize g.agcount k) (eqb (group_refusal g k) 0) refl
 
-pub its-value : (g : Geometry) (k : ℕ) → group_refusal g k ≡ 0 → value64 (ag_blocks g k) ≡ group_blocks g.dblocks g.agsize g.agcount k
+pub its-value : (g : Geometry) (k : ℕ) → group_refusal g k ≡ 0 → value_in (ag_blocks g k) ≡ group_blocks g.dblocks g.agsize g.agcount k
 unfolding ag_blocks unless64
 its-value g k e = rw (eq-eqb (group_refusal g k) 0 e)
 

@@ -6,13 +6,11 @@ ghost use Rattle.arith.specs.Choice.{bit};
 ghost use Rattle.geometry.specs.Log.{header_of, prealloc_of};
 ghost use Rattle.geometry_layout.specs.Places.{group_blocks, rmap_block, refc_block, freelist_of, chunk_of, root_chunk_of};
 ghost use Rattle.geometry_answers.specs.Named.{is_answer};
-ghost use Rattle.geometry_counts.specs.Known.{number64, value64};
+ghost use Rattle.geometry_counts.specs.Known.{number_in, value_in};
 ghost use Rattle.plan_site.specs.Sites.{site_of, no_site, sited, Narrow};
 
-use arith::choice::bit_of;
 use geometry::Geometry;
 use geometry::log_size::{header_of, prealloc_of};
-use geometry_counts::Value64;
 use geometry_counts::head::freelist_of;
 use geometry_counts::inodes::{chunk_of, root_chunk_of};
 use geometry_places::refusal::ag_blocks;
@@ -84,7 +82,7 @@ fn site_with(g: Geometry, agno: u64, length: u64) -> Site
     let f = g.features;
     let bs = g.blocksize as u64;
     let header = narrow(header_of(g.sectsize, bs));
-    let rmap_at = header + 3 + (bit_of(f.finobt) as u32);
+    let rmap_at = header + 3 + u32::from(f.finobt);
     Site {
         agno,
         length: narrow(length),
@@ -100,28 +98,25 @@ fn site_with(g: Geometry, agno: u64, length: u64) -> Site
         bno: header,
         ibt: header + 2,
         rmap_at,
-        refc_at: rmap_at + (bit_of(f.rmapbt) as u32),
+        refc_at: rmap_at + u32::from(f.rmapbt),
     }
 }
 
 // The number of a refusal, or 0.
-pub fn number_of(v: Value64) -> u32
-    ensures { result ≡ number64 v }
+pub fn number_of(v: Result<u64, u32>) -> u32
+    ensures { result ≡ number_in v }
 {
     match v {
-        Value64::Refused(n) => n,
-        Value64::Of(_) => 0,
+        Err(n) => n,
+        Ok(_) => 0,
     }
 }
 
 // The value, or 0.
-pub fn value_of(v: Value64) -> u64
-    ensures { result ≡ value64 v }
+pub fn value_of(v: Result<u64, u32>) -> u64
+    ensures { result ≡ value_in v }
 {
-    match v {
-        Value64::Refused(_) => 0,
-        Value64::Of(n) => n,
-    }
+    v.unwrap_or(0)
 }
 
 // 31, 29, or the site of group agno.

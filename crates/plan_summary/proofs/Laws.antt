@@ -1,5 +1,6 @@
 -- Laws of the summary's definitions.
 -- Assumes nothing.
+use Rattle.std.specs.Prelude.{Ok}
 use mathlib.Core.Path.{◌≡◌, refl, sym, ◌∙◌}
 use mathlib.Core.Bool.{Bool, true, false, cond}
 use Prim.Native.Nat.{ℕ, ◌+◌, ◌*◌, ◌-◌, ◌^◌, ◌≤◌, ◌<◌}
@@ -15,7 +16,6 @@ use Rattle.geometry_answers.specs.Named.{is_answer}
 use Rattle.arith.specs.Choice.{when}
 use Rattle.geometry_layout.specs.Places.{group_blocks}
 use Rattle.geometry_layout.proofs.Bounding.{answer-bounds}
-use Rattle.geometry_counts.specs.declared.Value64.TheVariants.{Of}
 use Rattle.geometry_places.specs.Answers.{group_refusal, unless64}
 use Rattle.geometry_places.proofs.Refused.{group-no-answer, group-there}
 use Rattle.plan_site.specs.declared.Site.{Site}
@@ -105,6 +105,6 @@ unfolding summarised
 its-summary g e = rw (eq-eqb (plans_number g) 0 e)
 
 -- the free count of accepted plans
-pub count-is : (g : Geometry) → length g.label ≡ 12 → plans_number g ≡ 0 → free_count_answer g ≡ Of (summary_of g).count
+pub count-is : (g : Geometry) → length g.label ≡ 12 → plans_number g ≡ 0 → free_count_answer g ≡ Ok (summary_of g).count
 unfolding unless64 summary_of
 count-is g l e = free-count g l ∙ rw (← plans-number g l, eq-eqb (plans_number g) 0 e)

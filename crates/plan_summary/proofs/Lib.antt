@@ -3,3 +3,4 @@ pub mod Rows
 pub mod Told
 pub mod Narrow
 pub mod Example
+pub mod Folds

@@ -1,5 +1,6 @@
 -- What an answer of `free_totals` says, and what `freeblks` and `longest` make of it.
 -- Assumes nothing.
+use Rattle.std.specs.Prelude.{Result, Ok, Err}
 use mathlib.Core.Path.{◌≡◌, refl, sym, ◌∙◌}
 use mathlib.Core.Bool.{Bool, true, false, cond}
 use Prim.Native.Nat.{ℕ}
@@ -7,9 +8,7 @@ use native.Mathlib.Omega.{arith}
 use lib.Dec.{eqb}
 use Rattle.refusals.specs.Numbers.{no_answer}
 use Rattle.geometry.specs.declared.Geometry.{Geometry}
-use Rattle.geometry_counts.specs.declared.Value32.{Value32}
-use Rattle.geometry_counts.specs.declared.Value32.TheVariants.{Refused, Of}
-use Rattle.geometry_counts.specs.Known.{known32}
+use Rattle.geometry_counts.specs.Known.{known}
 use Rattle.plan.specs.declared.AgPlan.{AgPlan}
 use Rattle.plan.specs.Plan.{planned}
 use Rattle.plan_same.specs.Same.{is_plan}
@@ -67,13 +66,13 @@ group-are g k e = rw e (refl, refl)
 -- ---- one of the two by itself
 
 value-at : (f : FreeTotals → ℕ) (t : Bool) (a b : ℕ)
-    → cond {A = Value32} (eqb (totals_at t a b).number 0) (Of (f (totals_at t a b))) (Refused (totals_at t a b).number) ≡ known32 t (f (totals_at true a b))
-unfolding known32
+    → cond {A = Result ℕ ℕ} (eqb (totals_at t a b).number 0) (Ok (f (totals_at t a b))) (Err (totals_at t a b).number) ≡ known t (f (totals_at true a b))
+unfolding known
 value-at f true a b = refl
 value-at f false a b = refl
 
 pub value-told : (f : FreeTotals → ℕ) (g : Geometry) (p : AgPlan)
-    → cond {A = Value32} (eqb (free_totals g p).number 0) (Of (f (free_totals g p))) (Refused (free_totals g p).number)
-    ≡ known32 (is_plan g p) (f (totals_at true (freeblks_of p.free) (longest_of p.free)))
+    → cond {A = Result ℕ ℕ} (eqb (free_totals g p).number 0) (Ok (f (free_totals g p))) (Err (free_totals g p).number)
+    ≡ known (is_plan g p) (f (totals_at true (freeblks_of p.free) (longest_of p.free)))
 unfolding free_totals
 value-told f g p = value-at f (is_plan g p) (freeblks_of p.free) (longest_of p.free)

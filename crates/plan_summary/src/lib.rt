@@ -10,9 +10,7 @@ ghost use Rattle.plan_summary.specs.Summaries.{summary_of, no_summary, summarise
 
 pub mod records; // records.rt: the free records of one plan
 
-use arith::numbers::{minus, minus_u32};
 use geometry::Geometry;
-use geometry_counts::Value64;
 use plan_site::{Site, site_of};
 use table_lines::Total;
 
@@ -78,7 +76,7 @@ fn is_short(s: Site) -> bool
     ensures { result ≡ list_short s }
 {
     let after = s.log_at + s.log_blocks;
-    minus_u32(s.length, after) < s.need
+    s.length.saturating_sub(after) < s.need
 }
 
 // A few blocks of each group.
@@ -95,8 +93,8 @@ fn count_with(g: Geometry, s: Site) -> u64
     ensures { result ≡ const_count g }
 {
     let heads = of_each(g.agcount, s.head);
-    let after = minus(minus(g.dblocks, heads), g.logblocks);
-    minus(after, s.chunk_blocks as u64)
+    let after = g.dblocks.saturating_sub(heads).saturating_sub(g.logblocks);
+    after.saturating_sub(s.chunk_blocks as u64)
 }
 
 // Sums over all groups, of an answer whose log group has this site.
@@ -110,7 +108,7 @@ fn total_with(g: Geometry, s: Site, count: u64) -> Total
         log: g.logblocks,
         list,
         chunk: s.chunk_blocks as u64,
-        free: minus(count, list),
+        free: count.saturating_sub(list),
     }
 }
 
@@ -119,13 +117,13 @@ fn summary_with(g: Geometry, s: Site) -> Summary
     requires { (is_answer g ≡ true) × (s ≡ site_of g g.logagno) }
     ensures { result ≡ summary_of g }
 {
-    let before = minus(g.agcount, 1) * g.agsize;
+    let before = g.agcount.saturating_sub(1) * g.agsize;
     let count = count_with(g, s);
     let total = total_with(g, s, count);
     Summary {
         agcount: g.agcount,
         agsize: g.agsize as u32,
-        last: minus(g.dblocks, before) as u32,
+        last: g.dblocks.saturating_sub(before) as u32,
         logagno: g.logagno,
         logblocks: s.log_blocks,
         head: s.head,
@@ -163,14 +161,14 @@ pub fn plans_number(g: Geometry) -> u32
 }
 
 // The free count of the whole disk: 31, 25, or free and free-list blocks of all groups.
-pub fn free_count(g: Geometry) -> Value64
+pub fn free_count(g: Geometry) -> Result<u64, u32>
     ensures { result ≡ free_count_answer g }
 {
     let s = summary_of(g);
     let number = s.number;
     if number != 0 {
-        return Value64::Refused(number);
+        return Err(number);
     }
     let t = s.summary;
-    Value64::Of(t.count)
+    Ok(t.count)
 }

@@ -1,14 +1,13 @@
 // The free records of a plan of the planner: their blocks, and the longest. Every number is below 2^30, and held in 32 bits. The plan is
 // handed in, or made here.
-ghost use Rattle.std.specs.Prelude.{cond, ◌≡◌, ◌≤◌, eqb};
-ghost use Rattle.geometry_counts.specs.declared.Value32.TheVariants.{Refused, Of};
-ghost use Rattle.geometry_counts.specs.Known.{known32};
+ghost use Rattle.std.specs.Prelude.{cond, ◌≡◌, ◌≤◌, ◌<◌, ◌^◌, eqb, sum_by, Ok, Err};
+ghost use Rattle.plan_free.specs.Free.{free_of};
+ghost use Rattle.geometry_counts.specs.Known.{known};
 ghost use Rattle.plan_same.specs.Same.{is_plan};
-ghost use Rattle.plan_totals.specs.Totals.{larger_count, freeblks_of, longest_of, NarrowRecords};
+ghost use Rattle.plan_totals.specs.Totals.{freeblks_of, longest_of};
 ghost use Rattle.plan_summary.specs.Summaries.{free_totals, group_totals};
 
 use geometry::Geometry;
-use geometry_counts::Value32;
 use plan::{AgPlan, plan_ag};
 use plan_free::FreeList;
 use plan_same::is_plan;
@@ -30,40 +29,19 @@ pub struct GroupTotals {
     pub longest: u32,
 }
 
-fn larger_of(a: u32, b: u32) -> u32
-    ensures { result ≡ larger_count a b }
-{
-    if a < b { b } else { a }
-}
-
 fn sum_of(l: FreeList) -> u32
-    requires { (l.len ≤ 64) × (NarrowRecords l) }
-    ensures { result ≡ freeblks_of l }
+    requires few { l.len ≤ 64 }
+    requires fits { sum_by (λ r. r.count) (free_of l) < 2 ^ 32 }
+    ensures { result ≡ sum_by (λ r. r.count) (free_of l) }
 {
-    let n = l.len;
-    let mut sum: u32 = 0;
-    let mut i: usize = 0;
-    while i < n {
-        let r = l.recs[i];
-        sum += r.count;
-        i += 1;
-    }
-    sum
+    l.recs[..l.len].iter().map(|r| r.count).sum()
 }
 
 fn longest_of(l: FreeList) -> u32
     requires { l.len ≤ 64 }
     ensures { result ≡ longest_of l }
 {
-    let n = l.len;
-    let mut most: u32 = 0;
-    let mut j: usize = 0;
-    while j < n {
-        let r = l.recs[j];
-        most = larger_of(most, r.count);
-        j += 1;
-    }
-    most
+    l.recs[..l.len].iter().fold(0, |most, r| most.max(r.count))
 }
 
 // Both totals; 31 unless the plan is the planner's for its group.
@@ -110,26 +88,23 @@ pub fn group_totals(g: Geometry, agno: u64) -> GroupTotals
 }
 
 // The value beside a number of 0, or the refusal.
-fn value_of(number: u32, n: u32) -> Value32
-    ensures { result ≡ cond (eqb number 0) (Of n) (Refused number) }
+fn value_of(number: u32, n: u32) -> Result<u32, u32>
+    ensures { result ≡ cond (eqb number 0) (Ok n) (Err number) }
 {
-    if number != 0 {
-        return Value32::Refused(number);
-    }
-    Value32::Of(n)
+    if number == 0 { Ok(n) } else { Err(number) }
 }
 
 // Free blocks in the free space btrees; 31 unless the plan is the planner's for its group.
-pub fn freeblks(g: Geometry, p: AgPlan) -> Value32
-    ensures { result ≡ known32 (is_plan g p) (freeblks_of p.free) }
+pub fn freeblks(g: Geometry, p: AgPlan) -> Result<u32, u32>
+    ensures { result ≡ known (is_plan g p) (freeblks_of p.free) }
 {
     let t = free_totals(g, p);
     value_of(t.number, t.blocks)
 }
 
 // The longest free extent, 0 where there is none; 31 unless the plan is the planner's for its group.
-pub fn longest(g: Geometry, p: AgPlan) -> Value32
-    ensures { result ≡ known32 (is_plan g p) (longest_of p.free) }
+pub fn longest(g: Geometry, p: AgPlan) -> Result<u32, u32>
+    ensures { result ≡ known (is_plan g p) (longest_of p.free) }
 {
     let t = free_totals(g, p);
     value_of(t.number, t.longest)

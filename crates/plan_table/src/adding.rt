@@ -4,7 +4,6 @@ ghost use Rattle.plan_table.specs.Filling.{no_sums, with_row, sums_after};
 
 use crate::Table;
 use crate::rows::row_in;
-use arith::numbers::minus;
 use table_lines::{Row, Total};
 
 pub(crate) fn no_sums() -> Total
@@ -50,6 +49,6 @@ pub(crate) fn sums_after(t: Table) -> Total
         return sums;
     }
     let put = groups - (left - 1);
-    let row = row_in(s, minus(minus(groups, 1), put));
+    let row = row_in(s, groups.saturating_sub(1).saturating_sub(put));
     with_row(sums, row)
 }

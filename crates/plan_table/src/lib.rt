@@ -13,7 +13,6 @@ pub mod adding; // adding.rt: the sums of the rows, added from the last group to
 pub mod lines; // lines.rt: each line of a table
 
 use adding::{no_sums, sums_after};
-use arith::numbers::minus;
 use geometry::Geometry;
 use lines::put_line;
 use plan_summary::{Summary, no_summary, summary_of};
@@ -108,7 +107,7 @@ fn after_line(t: Table) -> Table
     let summary = t.summary;
     Table {
         number: t.number,
-        left: minus(t.left, 1),
+        left: t.left.saturating_sub(1),
         summary,
         sums,
     }

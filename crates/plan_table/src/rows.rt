@@ -3,43 +3,47 @@ ghost use Rattle.std.specs.Prelude.{◌≡◌};
 ghost use Rattle.plan_totals.specs.Totals.{no_row};
 ghost use Rattle.plan_summary.specs.Summaries.{length_in, log_blocks_in, chunk_blocks_in, free_blocks_in, longest_in, row_by_summary};
 
-use arith::choice::pick_u32;
-use arith::numbers::{max_u32, minus, minus_u32};
+use arith::choice::pick;
+use arith::numbers::max_u32;
 use plan_summary::Summary;
 use table_lines::Row;
 
 fn length_in(s: Summary, k: u64) -> u32
     ensures { result ≡ length_in s k }
 {
-    pick_u32(k == minus(s.agcount, 1), s.last, s.agsize)
+    pick(k == s.agcount.saturating_sub(1), s.last, s.agsize)
 }
 
 fn log_in(s: Summary, k: u64) -> u32
     ensures { result ≡ log_blocks_in s k }
 {
-    pick_u32(k == s.logagno, s.logblocks, 0)
+    pick(k == s.logagno, s.logblocks, 0)
 }
 
 fn chunk_in(s: Summary, k: u64) -> u32
     ensures { result ≡ chunk_blocks_in s k }
 {
-    pick_u32(k == 0, s.chunk, 0)
+    pick(k == 0, s.chunk, 0)
 }
 
 fn free_in(s: Summary, k: u64) -> u32
     ensures { result ≡ free_blocks_in s k }
 {
-    let after = minus_u32(minus_u32(length_in(s, k), s.head), log_in(s, k));
-    minus_u32(minus_u32(after, s.list), chunk_in(s, k))
+    let after = length_in(s, k)
+        .saturating_sub(s.head)
+        .saturating_sub(log_in(s, k));
+    after.saturating_sub(s.list).saturating_sub(chunk_in(s, k))
 }
 
 // Before or after the chunk in group 0.
 fn longest_in(s: Summary, k: u64) -> u32
     ensures { result ≡ longest_in s k }
 {
-    let before = minus_u32(minus_u32(s.chunk_at, s.head), s.list);
-    let after = minus_u32(minus_u32(length_in(s, k), s.chunk_at), s.chunk);
-    pick_u32(k == 0, max_u32(before, after), free_in(s, k))
+    let before = s.chunk_at.saturating_sub(s.head).saturating_sub(s.list);
+    let after = length_in(s, k)
+        .saturating_sub(s.chunk_at)
+        .saturating_sub(s.chunk);
+    pick(k == 0, max_u32(before, after), free_in(s, k))
 }
 
 pub(crate) fn no_row(n: u32) -> Row

@@ -1,5 +1,6 @@
 -- The row of every group of an answer by plain arithmetic.
 -- Assumes nothing.
+use Rattle.std.specs.Prelude.{Some, None}
 use mathlib.Core.Path.{◌≡◌, refl, sym, ap, ◌∙◌}
 use mathlib.Core.Bool.{Bool, true, false, cond}
 use mathlib.Core.Logic.{⊎_elim}
@@ -12,7 +13,6 @@ use lib.ListN.{length}
 use Rattle.refusals.specs.Numbers.{free_list_short}
 use Rattle.seqs.specs.Lists.{fold}
 use Rattle.seqs.proofs.Laws.{lt-or-le}
-use Rattle.params.specs.declared.OptU64.TheVariants.{Absent, Given}
 use Rattle.geometry.specs.declared.Geometry.{Geometry}
 use Rattle.geometry_answers.specs.Named.{is_answer}
 use Rattle.btree.specs.declared.records.AllocRec.{AllocRec}
@@ -86,7 +86,7 @@ module _ (s : Site) where
   unfolding closed_list
   list-is = length_up (list_at s) s.need
 
-chunk-at : (t : Bool) (a n : ℕ) → chunk_blocks_of (cond t (Given a) Absent) n ≡ cond t n 0
+chunk-at : (t : Bool) (a n : ℕ) → chunk_blocks_of (cond t (Some a) None) n ≡ cond t n 0
 chunk-at true a n = refl
 chunk-at false a n = refl
 

@@ -1,5 +1,6 @@
 -- The whole disk: every group of an answer adds up, and so do all.
 -- Assumes nothing.
+use Rattle.std.specs.Prelude.{Ok, Err}
 use mathlib.Core.Path.{◌≡◌, refl, sym, ap, ◌∙◌}
 use mathlib.Core.Bool.{Bool, true, false, cond, ◌&&◌}
 use Prim.Native.Nat.{ℕ, ◌+◌, ◌*◌, ◌-◌, ◌<◌}
@@ -13,7 +14,6 @@ use Rattle.geometry.specs.Log.{prealloc_of}
 use Rattle.geometry_answers.specs.Named.{is_answer}
 use Rattle.geometry_layout.specs.Places.{freelist_of, chunk_of, group_blocks, initial_free}
 use Rattle.geometry_layout.proofs.Bounding.{answer-bounds}
-use Rattle.geometry_counts.specs.declared.Value64.TheVariants.{Refused, Of}
 use Rattle.geometry_places.specs.Answers.{unless64, initial_fdblocks}
 use Rattle.plan_site.specs.declared.Site.{Site}
 use Rattle.plan_site.specs.Sites.{site_of, SoundSite}
@@ -198,8 +198,8 @@ module _ (g : Geometry) (l : length g.label ≡ 12) where
   unfolding const_number
   all-planned e = planned-at (is_answer g) (list_short (site_of g g.logagno)) (sym plans-number ∙ e)
 
-  count_at : (t : Bool) → eqb (plans_number g) 0 ≡ t → cond t (Of (free_count g)) (Refused (plans_number g)) ≡ cond t (Of (const_count g)) (Refused (plans_number g))
-  count_at true e = let p = all-planned (eqb-true (plans_number g) 0 e) in ap Of (count-const g l p.0 p.1)
+  count_at : (t : Bool) → eqb (plans_number g) 0 ≡ t → cond t (Ok (free_count g)) (Err (plans_number g)) ≡ cond t (Ok (const_count g)) (Err (plans_number g))
+  count_at true e = let p = all-planned (eqb-true (plans_number g) 0 e) in ap Ok (count-const g l p.0 p.1)
   count_at false e = refl
 
   -- THE ANSWER OF `free_count` IN CONSTANT TIME

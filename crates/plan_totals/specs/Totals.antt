@@ -1,16 +1,13 @@
 -- What the plans of all groups come to: free blocks, rows of planlist's table, sums over the groups.
 -- Assumes nothing.
-use Rattle.std.specs.Prelude.{cond, ℕ, zero, suc, ◌+◌, ◌*◌, ◌-◌, ◌^◌, ◌<◌, ltb, eqb, take}
+use Rattle.std.specs.Prelude.{cond, ℕ, zero, suc, ◌+◌, ◌*◌, ◌-◌, ◌^◌, ◌<◌, ltb, eqb, take, Option, Some, None, Result}
 use Rattle.refusals.specs.Numbers.{no_answer, free_list_short}
 use Rattle.seqs.specs.Lists.{fold}
-use Rattle.params.specs.declared.OptU64.{OptU64}
-use Rattle.params.specs.declared.OptU64.TheVariants.{Absent, Given}
 use Rattle.geometry.specs.declared.Geometry.{Geometry}
 use Rattle.geometry.specs.Log.{prealloc_of}
 use Rattle.geometry_answers.specs.Named.{is_answer}
 use Rattle.geometry_layout.specs.Places.{freelist_of, chunk_of}
 use Rattle.btree.specs.declared.records.AllocRec.{AllocRec}
-use Rattle.geometry_counts.specs.declared.Value64.{Value64}
 use Rattle.geometry_places.specs.Answers.{unless64}
 use Rattle.plan_site.specs.declared.Site.{Site}
 use Rattle.plan_site.specs.Sites.{site_of}
@@ -77,7 +74,7 @@ unfoldable pub free_count : Geometry → ℕ
 free_count g = sum_to g.agcount (λ k. free_of_plan (planned g k).plan)
 
 -- `free_count`: 31, 25, or the free count
-unfoldable pub free_count_answer : Geometry → Value64
+unfoldable pub free_count_answer : Geometry → Result ℕ ℕ
 free_count_answer g = unless64 (plans_number g) (free_count g)
 
 -- ---- the same in constant time
@@ -97,9 +94,9 @@ abbrev pub no_row : ℕ → Row
 no_row n = record { number = n; group = 0; length = 0; log = 0; list = 0; chunk = 0; free = 0; longest = 0 }
 
 -- blocks of the root chunk, where the plan has one
-abbrev pub chunk_blocks_of : OptU64 → ℕ → ℕ
-chunk_blocks_of Absent n = 0
-chunk_blocks_of (Given at) n = n
+abbrev pub chunk_blocks_of : Option ℕ → ℕ → ℕ
+chunk_blocks_of None n = 0
+chunk_blocks_of (Some at) n = n
 
 -- the row of a plan
 abbrev pub row_from : Geometry → ℕ → AgPlan → Row

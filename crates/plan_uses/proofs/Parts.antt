@@ -1,5 +1,6 @@
 -- A planned group's uses in closed form weigh what the whole group weighs.
 -- Assumes nothing.
+use Rattle.std.specs.Prelude.{Some, None}
 use mathlib.Core.Path.{◌≡◌, refl, sym}
 use mathlib.Core.Bool.{Bool, true, false, cond, ◌&&◌}
 use mathlib.Core.List.{List, ◌++◌}
@@ -12,7 +13,6 @@ use lib.Seq.{take-append_seam}
 use Rattle.seqs.specs.Lists.{up_from}
 use Rattle.seqs.specs.Runs.{weigh}
 use Rattle.seqs.proofs.Weights.{Additive, weigh-append}
-use Rattle.params.specs.declared.OptU64.TheVariants.{Absent, Given}
 use Rattle.plan_site.specs.declared.Site.{Site}
 use Rattle.plan_site.specs.Sites.{SoundSite}
 use Rattle.plan_free.specs.Free.{alloc_start, alloc_count}
@@ -39,11 +39,11 @@ module _ (f : ℕ → ℕ → ℕ) (add : Additive f) where
     unfolding closed_list
     list-weighs = rw (list-packed (up_from (list_at s) s.need)) (run-weighs (list_at s) s.need)
 
-    chunk-at : (t : Bool) → chunk_from f (cond t (Given s.chunk_at) Absent) s.chunk_blocks ≡ cond t (f s.chunk_at (s.chunk_at + s.chunk_blocks)) 0
+    chunk-at : (t : Bool) → chunk_from f (cond t (Some s.chunk_at) None) s.chunk_blocks ≡ cond t (f s.chunk_at (s.chunk_at + s.chunk_blocks)) 0
     chunk-at true = refl
     chunk-at false = refl
 
-    pub chunk-weighs : chunk_from f (cond (has_root_chunk s) (Given s.chunk_at) Absent) s.chunk_blocks ≡ cond (has_root_chunk s) (f s.chunk_at (s.chunk_at + s.chunk_blocks)) 0
+    pub chunk-weighs : chunk_from f (cond (has_root_chunk s) (Some s.chunk_at) None) s.chunk_blocks ≡ cond (has_root_chunk s) (f s.chunk_at (s.chunk_at + s.chunk_blocks)) 0
     chunk-weighs = chunk-at (has_root_chunk s)
 
     free-at : (t : Bool)

@@ -1,10 +1,8 @@
 -- The five uses of a group's blocks: head, log, free list, root chunk, free; and what the reverse mappings say of them.
 -- Assumes nothing.
-use Rattle.std.specs.Prelude.{◌≡◌, Bool, true, not, cond, ◌&&◌, List, [], ◌∷◌, ℕ, ◌+◌, eqb}
+use Rattle.std.specs.Prelude.{◌≡◌, Bool, true, not, cond, ◌&&◌, List, [], ◌∷◌, ℕ, ◌+◌, eqb, Option, Some, None}
 use Rattle.seqs.specs.Lists.{live}
 use Rattle.seqs.specs.Runs.{weigh, run_length, has}
-use Rattle.params.specs.declared.OptU64.{OptU64}
-use Rattle.params.specs.declared.OptU64.TheVariants.{Absent, Given}
 use Rattle.geometry.specs.declared.Geometry.{Geometry}
 use Rattle.btree.specs.declared.records.RmapRec.{RmapRec}
 use Rattle.plan_site.specs.declared.Site.{Site}
@@ -37,9 +35,9 @@ abbrev pub list_use : (ℕ → ℕ → ℕ) → AgPlan → ℕ
 list_use f p = weigh self one f (free_list_entries p.agfl)
 
 -- n blocks from the chunk's first on, where the plan has one
-abbrev pub chunk_from : (ℕ → ℕ → ℕ) → OptU64 → ℕ → ℕ
-chunk_from f Absent n = 0
-chunk_from f (Given at) n = f at (at + n)
+abbrev pub chunk_from : (ℕ → ℕ → ℕ) → Option ℕ → ℕ → ℕ
+chunk_from f None n = 0
+chunk_from f (Some at) n = f at (at + n)
 
 abbrev pub chunk_use : (ℕ → ℕ → ℕ) → Site → AgPlan → ℕ
 chunk_use f s p = chunk_from f p.chunk s.chunk_blocks

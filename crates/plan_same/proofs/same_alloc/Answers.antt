@@ -5,4 +5,4 @@ use Rattle.plan_same.proofs.same_alloc.Goals as goal
 
 pub returns : goal.returns
 unfolding same_alloc
-returns c = c.both.ensures
+returns c = c.eq.ensures

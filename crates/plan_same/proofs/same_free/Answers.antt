@@ -1,8 +1,8 @@
 -- `plan_same::same_free` meets its contract.
 -- Assumes nothing.
-use Rattle.plan_same.specs.Same.{same_free}
+use mathlib.Core.Path.{◌∙◌}
+use Rattle.plan_same.proofs.Derived.{free-is}
 use Rattle.plan_same.proofs.same_free.Goals as goal
 
 pub returns : goal.returns
-unfolding same_free
-returns c = rw (c.both.ensures, c.same_extents.ensures)
+returns c = c.eq.ensures ∙ free-is c.args.a c.args.b

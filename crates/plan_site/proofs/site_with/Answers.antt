@@ -3,6 +3,7 @@
 use Rattle.plan_site.specs.Sites.{site_of}
 use Rattle.geometry_layout.specs.Places.{ibt_block, rmap_block, refc_block}
 use native.Mathlib.Omega.{arith}
+use Rattle.geometry.proofs.Bit.{from-bit}
 use Rattle.plan_site.proofs.site_with.Goals as goal
 
 pub narrow-header-requires : goal.narrow-header-requires
@@ -11,11 +12,8 @@ narrow-header-requires c = omega (arith, c.header_of.ensures, c.requires.0.heade
 pub overflow_add-rmap_at : goal.overflow_add-rmap_at
 overflow_add-rmap_at c = let n = c.requires.0 in omega (arith, c.narrow-header.ensures, c.header_of.ensures, n.header)
 
-pub overflow_cast-rmap_at : goal.overflow_cast-rmap_at
-overflow_cast-rmap_at c = let n = c.requires.0 in omega (arith, c.bit_of.ensures, n.finobt)
-
 pub overflow_add-rmap_at-2 : goal.overflow_add-rmap_at-2
-overflow_add-rmap_at-2 c = let n = c.requires.0 in omega (arith, c.narrow-header.ensures, c.header_of.ensures, n.header, c.bit_of.ensures, n.finobt)
+overflow_add-rmap_at-2 c = let n = c.requires.0 in omega (arith, c.narrow-header.ensures, c.header_of.ensures, n.header, from-bit c.args.g.features.finobt, n.finobt)
 
 pub narrow-requires : goal.narrow-requires
 narrow-requires c = let n = c.requires.0 in omega (arith, c.requires.1, n.length)
@@ -41,12 +39,9 @@ narrow-requires-7 c = let n = c.requires.0 in omega (arith, c.chunk_of.ensures, 
 pub overflow_add-result : goal.overflow_add-result
 overflow_add-result c = let n = c.requires.0 in omega (arith, c.narrow-header.ensures, c.header_of.ensures, n.header)
 
-pub overflow_cast-result : goal.overflow_cast-result
-overflow_cast-result c = let n = c.requires.0 in omega (arith, c.bit_of-2.ensures, n.rmapbt)
-
 pub overflow_add-result-2 : goal.overflow_add-result-2
-overflow_add-result-2 c = let n = c.requires.0 in omega (arith, c.narrow-header.ensures, c.header_of.ensures, n.header, c.bit_of.ensures, n.finobt, c.bit_of-2.ensures, n.rmapbt)
+overflow_add-result-2 c = let n = c.requires.0 in omega (arith, c.narrow-header.ensures, c.header_of.ensures, n.header, from-bit c.args.g.features.finobt, n.finobt, from-bit c.args.g.features.rmapbt, n.rmapbt)
 
 pub returns : goal.returns
 unfolding site_of ibt_block rmap_block refc_block
-returns c = rw (c.bit_of-2.ensures, c.narrow-7.ensures, c.chunk_of.ensures, c.narrow-6.ensures, c.root_chunk_of.ensures, c.narrow-5.ensures, c.narrow-4.ensures, c.narrow-3.ensures, c.freelist_of.ensures, c.narrow-2.ensures, c.prealloc_of.ensures, c.narrow.ensures, c.requires.1, c.bit_of.ensures, c.narrow-header.ensures, c.header_of.ensures)
+returns c = rw (c.from-2.ensures, from-bit c.args.g.features.rmapbt, c.narrow-7.ensures, c.chunk_of.ensures, c.narrow-6.ensures, c.root_chunk_of.ensures, c.narrow-5.ensures, c.narrow-4.ensures, c.narrow-3.ensures, c.freelist_of.ensures, c.narrow-2.ensures, c.prealloc_of.ensures, c.narrow.ensures, c.requires.1, c.from.ensures, from-bit c.args.g.features.finobt, c.narrow-header.ensures, c.header_of.ensures)

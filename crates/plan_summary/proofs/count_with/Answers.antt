@@ -13,4 +13,4 @@ of_each-heads-requires c = let l : length c.args.g.label ≡ 12 = search (rules,
 
 pub returns : goal.returns
 unfolding const_count site_of
-returns c = c.minus-2.ensures ∙ rw (c.minus-after.ensures, c.minus.ensures, c.of_each-heads.ensures, c.requires.1)
+returns c = c.saturating_sub-2.ensures ∙ rw (c.saturating_sub-after.ensures, c.saturating_sub.ensures, c.of_each-heads.ensures, c.requires.1)

@@ -9,4 +9,4 @@ pub overflow_add-after : goal.overflow_add-after
 overflow_add-after c = let s = c.requires.0 in omega (arith, s.log-after, s.head-most, s.log-most)
 
 pub returns : goal.returns
-returns c = sym (short-after c.args.s c.requires.1 ∙ rw (← c.minus_u32.ensures))
+returns c = sym (short-after c.args.s c.requires.1 ∙ rw (← c.saturating_sub.ensures))

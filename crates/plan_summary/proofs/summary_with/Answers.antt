@@ -12,14 +12,14 @@ use borrow.Author.Rules.{rules}
 use Rattle.plan_summary.proofs.summary_with.Goals as goal
 
 pub overflow_mul-before : goal.overflow_mul-before
-overflow_mul-before c = let l : length c.args.g.label ≡ 12 = search (rules, c.well_formed.0.1.1.1.1.1.1.1.1.1.1.1.1.1.1.1.1.1.1.1) in omega (arith, before-fits c.args.g l c.requires.0, ap (λ (x : ℕ). x * c.args.g.agsize) c.minus.ensures)
+overflow_mul-before c = let l : length c.args.g.label ≡ 12 = search (rules, c.well_formed.0.1.1.1.1.1.1.1.1.1.1.1.1.1.1.1.1.1.1.1) in omega (arith, before-fits c.args.g l c.requires.0, ap (λ (x : ℕ). x * c.args.g.agsize) c.saturating_sub.ensures)
 
 pub overflow_cast-result : goal.overflow_cast-result
 overflow_cast-result c = let l : length c.args.g.label ≡ 12 = search (rules, c.well_formed.0.1.1.1.1.1.1.1.1.1.1.1.1.1.1.1.1.1.1.1) in omega (arith, (answer-bounds c.args.g l c.requires.0).groups.group-most)
 
 pub overflow_cast-result-2 : goal.overflow_cast-result-2
-overflow_cast-result-2 c = let l : length c.args.g.label ≡ 12 = search (rules, c.well_formed.0.1.1.1.1.1.1.1.1.1.1.1.1.1.1.1.1.1.1.1) in let e = c.minus-2.ensures ∙ ap (λ (x : ℕ). c.args.g.dblocks - x * c.args.g.agsize) c.minus.ensures in omega (arith, e, last_fits c.args.g l c.requires.0)
+overflow_cast-result-2 c = let l : length c.args.g.label ≡ 12 = search (rules, c.well_formed.0.1.1.1.1.1.1.1.1.1.1.1.1.1.1.1.1.1.1.1) in let e = c.saturating_sub-2.ensures ∙ ap (λ (x : ℕ). c.args.g.dblocks - x * c.args.g.agsize) c.saturating_sub.ensures in omega (arith, e, last_fits c.args.g l c.requires.0)
 
 pub returns : goal.returns
 unfolding summary_of site_of
-returns c = rw (c.minus-2.ensures, c.total_with-total.ensures, c.count_with-count.ensures, c.minus.ensures, c.requires.1)
+returns c = rw (c.saturating_sub-2.ensures, c.total_with-total.ensures, c.count_with-count.ensures, c.saturating_sub.ensures, c.requires.1)

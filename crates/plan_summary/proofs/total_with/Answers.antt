@@ -13,4 +13,4 @@ of_each-list-requires c = let l : length c.args.g.label ≡ 12 = search (rules, 
 
 pub returns : goal.returns
 unfolding closed_total site_of
-returns c = rw (c.minus.ensures, c.of_each-list.ensures, c.requires.1, c.requires.2)
+returns c = rw (c.saturating_sub.ensures, c.of_each-list.ensures, c.requires.1, c.requires.2)

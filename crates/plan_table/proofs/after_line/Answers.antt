@@ -4,4 +4,4 @@ use Rattle.std.proofs.Common.{refl}
 use Rattle.plan_table.proofs.after_line.Goals as goal
 
 pub returns : goal.returns
-returns c = rw (c.minus.ensures, c.sums_after-sums.ensures) refl
+returns c = rw (c.saturating_sub.ensures, c.sums_after-sums.ensures) refl

@@ -1,17 +1,22 @@
--- `plan::fill::extend` meets its contract. Invariant: the list with the `left` blocks from `at` on appended is the list with all n.
+-- `plan::fill::extend` meets its contract. Invariant: the list with the blocks from b on appended is the list with all n.
 -- Assumes nothing.
 use Rattle.plan.proofs.Laws.{appended-up, appended-none}
 use Rattle.plan.specs.Plan.{of_agfl, to_agfl}
-use borrow.Author.Rules.{rules}
+use Prim.Native.Nat.{◌+◌, ◌-◌, ◌<◌}
 use native.Mathlib.Omega.{arith}
 use mathlib.Core.Path.{◌≡◌, sym, ap, ◌∙◌}
 use Rattle.plan.proofs.fill.extend.Goals as goal
 
-pub overflow_cast-at-in-loop-left : goal.overflow_cast-at-in-loop-left
-overflow_cast-at-in-loop-left c = omega (arith, c.requires)
+pub loop-b-init : goal.loop-b-init
+loop-b-init c = let e : c.args.start + c.args.n - c.args.start ≡ c.args.n = omega arith in rw e
 
-pub loop-left-preserved : goal.loop-left-preserved
-loop-left-preserved c = let l = c.loop-left in rw c.push_block-out.ensures (omega arith, l.invariant.1 ∙ appended-up (of_agfl l.out) l.at l.left (search rules))
+pub loop-b-preserved : goal.loop-b-preserved
+loop-b-preserved c =
+    let l = c.loop-b in
+    let e : c.args.start + c.args.n - (l.b + 1) ≡ c.args.start + c.args.n - l.b - 1 = omega arith in
+    rw (c.push_block-out.ensures, e) (l.invariant ∙ appended-up (of_agfl l.out) l.b (c.args.start + c.args.n - l.b) (omega arith))
 
 pub returns : goal.returns
-returns c = let e : c.loop-left.left ≡ 0 = omega arith in ap to_agfl (sym (c.loop-left.invariant.1 ∙ appended-none _ _ _ e))
+returns c =
+    let e : c.args.start + c.args.n - c.loop-b.b ≡ 0 = omega arith in
+    ap to_agfl (sym (c.loop-b.invariant ∙ appended-none _ _ _ e))

@@ -1,14 +1,18 @@
--- `plan::fill::fill_list` meets its contract. Invariant: the k turns that are left give what all turns give.
+-- `plan::fill::fill_list` meets its contract.
 -- Assumes nothing.
-use Rattle.plan.specs.Plan.{list_turn}
-use Rattle.seqs.proofs.Laws.{turns-step, turns-end}
-use borrow.Author.Rules.{rules}
+use mathlib.Core.Path.{◌≡◌, refl, ◌∙◌}
+use Prim.Native.Nat.{ℕ, ◌-◌}
 use native.Mathlib.Omega.{arith}
-use mathlib.Core.Path.{◌≡◌, sym, ◌∙◌}
+use borrow.Author.Rules.{rules}
+use Rattle.std.proofs.iter.Yields.{nat_range_steps}
+use Rattle.std.proofs.lemmas.Iterator.{YieldsList-from_range}
+use Rattle.std.proofs.lemmas.Iterator.Consumers.{fold_from_yields_List}
+use Rattle.seqs.proofs.Chains.{folded-turns}
+use Rattle.plan.specs.Plan.{list_turn}
 use Rattle.plan.proofs.fill.fill_list.Goals as goal
 
-pub loop-k-preserved : goal.loop-k-preserved
-loop-k-preserved c = let l = c.loop-k in rw c.one_turn-out.ensures (l.invariant ∙ turns-step list_turn l.k l.out (search rules))
-
 pub returns : goal.returns
-returns c = let e : c.loop-k.k ≡ 0 = omega arith in sym (c.loop-k.invariant ∙ turns-end list_turn _ _ e)
+returns c =
+    let n : c.args.need - 0 ≡ c.args.need = omega arith in
+    fold_from_yields_List {steps = nat_range_steps} {v = λ x. x} _ (λ w _. list_turn w) _ _ c.fold.ensures.ran (YieldsList-from_range 0 c.args.need c.args.need refl n) (λ a x b q k. search rules)
+    ∙ folded-turns list_turn c.args.need 0 c.args.w

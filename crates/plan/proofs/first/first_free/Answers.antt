@@ -16,4 +16,4 @@ returns-then-s c = let s = c.args.s in c.put_gap.ensures ∙ rw (c.put_gap-one.e
 
 pub returns : goal.returns
 unfolding free_at_first
-returns c = c.push_free.ensures ∙ rw (c.empty-none.ensures, c.if-s.false) (ap to_free (pushed-packed zero_free_rec [] _ (omega arith)))
+returns c = c.push.ensures ∙ rw (c.empty-none.ensures, c.if-s.false) (ap to_free (pushed-packed zero_free_rec [] _ (omega arith)))

@@ -7,7 +7,7 @@ use Rattle.plan.proofs.first.put_gap.Goals as goal
 
 pub returns-then-a-b : goal.returns-then-a-b
 unfolding appended
-returns-then-a-b c = c.push_free.ensures ∙ simp (lt-ltb _ _ c.if-a-b.true)
+returns-then-a-b c = c.push.ensures ∙ simp (lt-ltb _ _ c.if-a-b.true)
 
 pub returns : goal.returns
 unfolding appended

@@ -7,4 +7,4 @@ use Rattle.plan.proofs.first.put_head.Goals as goal
 
 pub returns : goal.returns
 unfolding appended negative
-returns c = c.push_rmap.ensures ∙ rw (c.push_rmap-c.ensures, c.push_rmap-b.ensures, c.push_rmap-a.ensures)
+returns c = c.push.ensures ∙ rw (c.push-c.ensures, c.push-b.ensures, c.push-a.ensures)

@@ -7,7 +7,7 @@ use Rattle.plan.proofs.first.put_refc.Goals as goal
 
 pub returns-then-s : goal.returns-then-s
 unfolding appended negative
-returns-then-s c = c.push_rmap.ensures ∙ rw c.if-s.true
+returns-then-s c = c.push.ensures ∙ rw c.if-s.true
 
 pub returns : goal.returns
 unfolding appended

@@ -1,18 +1,28 @@
--- `plan_free::list::append` meets its contract. Invariant: the list with the records from i on appended is the list with all of them.
+-- `plan_free::list::append` meets its contract.
 -- Assumes nothing.
-use mathlib.Core.Path.{◌≡◌, sym, ap, ◌∙◌}
-use borrow.Author.Rules.{rules}
+use mathlib.Core.Path.{◌≡◌, refl, ◌∙◌}
+use mathlib.Core.List.{List, [], ◌∷◌}
 use native.Mathlib.Omega.{arith}
-use lib.ListN.{length}
-use Rattle.plan_free.specs.Free.{of_free, to_free, zero_free_rec}
-use Rattle.seqs.proofs.Laws.{appended-step, appended-end}
+use borrow.Author.Rules.{rules}
+use lib.Seq.{slice}
+use Rattle.std.specs.List.{fold}
+use Rattle.std.proofs.lemmas.Iterator.{YieldsList-from_slice}
+use Rattle.std.proofs.lemmas.Iterator.Consumers.{fold_from_yields_List}
+use Rattle.seqs.proofs.Chains.{part-is}
+use Rattle.seqs.specs.Lists.{pushed, appended}
+use Rattle.btree.specs.declared.records.AllocRec.{AllocRec}
+use Rattle.plan_free.specs.declared.FreeList.{FreeList}
+use Rattle.plan_free.specs.Free.{of_free, to_free}
 use Rattle.plan_free.proofs.list.append.Goals as goal
 
-pub loop-i-preserved : goal.loop-i-preserved
-loop-i-preserved c = let l = c.loop-i in
-    let k : length c.args.src.recs ≡ 64 = c.well_formed.1.0.1.1.0.1.0.1 in
-    rw c.push-out.ensures (search rules, l.invariant.1 ∙ appended-step zero_free_rec (of_free l.out) c.args.src.recs c.args.to l.i (search rules) (omega arith))
+with-all : (l : FreeList) (xs : List AllocRec) → fold (λ s r. to_free (pushed (of_free s) r)) l xs ≡ to_free (appended (of_free l) xs)
+unfolding appended
+with-all l [] = refl
+with-all l (x ∷ xs) = with-all (to_free (pushed (of_free l) x)) xs
 
 pub returns : goal.returns
-returns c = let e : c.loop-i.i ≡ c.args.to = omega arith in
-    ap to_free (sym (c.loop-i.invariant.1 ∙ appended-end zero_free_rec _ c.args.src.recs _ _ e))
+returns c =
+    let rest = part-is c.args.src.recs c.args.from c.args.to (omega arith) in
+    fold_from_yields_List _ (λ s r. to_free (pushed (of_free s) r)) _ _ c.fold.ensures.ran
+    (YieldsList-from_slice (slice c.args.from c.args.to c.args.src.recs) (c.iter.ensures.rest ∙ rest)) (λ a x b q k. search rules)
+    ∙ with-all c.args.l (slice c.args.from c.args.to c.args.src.recs)

@@ -1,26 +1,21 @@
--- `plan_free::list::is_valid` meets its contract. Invariant: the list is valid exactly where its records from i on are, from `lo` on.
+-- `plan_free::list::is_valid` meets its contract. Invariant: the list is valid exactly where the records that are left are, from `lo` on.
 -- Assumes nothing.
-use mathlib.Core.Path.{◌≡◌, sym, ◌∙◌}
-use borrow.Author.Rules.{rules}
+use mathlib.Core.Path.{sym, ◌∙◌}
 use native.Mathlib.Omega.{arith}
-use lib.ListN.{length}
-use Rattle.plan_free.specs.Free.{alloc_start, alloc_count, zero_free_rec}
-use Rattle.seqs.proofs.Validity.{valid-step, valid-no, valid-end}
+use Rattle.plan_free.specs.Free.{free_of, alloc_start, alloc_count, zero_free_rec}
+use Rattle.seqs.proofs.Chains.{rest-valid, rest-not-valid, nothing-valid}
 use Rattle.plan_free.proofs.list.is_valid.Goals as goal
 
 pub returns-then-not-may_follow : goal.returns-then-not-may_follow
-returns-then-not-may_follow c = let l = c.loop-i in
-    let k : length c.args.l.recs ≡ 64 = c.well_formed.0.1.1.0.1.0.1 in
-    sym (l.invariant.1 ∙ valid-no alloc_start alloc_count zero_free_rec l.lo c.args.l.recs c.args.l.len l.i (search rules) (omega arith) (sym c.may_follow.ensures ∙ c.if-not-may_follow.true))
+returns-then-not-may_follow c =
+    sym (c.loop-r.invariant
+    ∙ rest-not-valid alloc_start alloc_count zero_free_rec c.loop-r.lo (free_of c.args.l) c.loop-r.r-index c.loop-r-test.true
+    (sym c.may_follow.ensures ∙ c.if-not-may_follow.true))
 
-pub loop-i-preserved : goal.loop-i-preserved
-loop-i-preserved c = let l = c.loop-i in
-    let k : length c.args.l.recs ≡ 64 = c.well_formed.0.1.1.0.1.0.1 in (
-      search rules,
-      rw c.end_of-lo.ensures (l.invariant.1
-          ∙ valid-step alloc_start alloc_count zero_free_rec l.lo c.args.l.recs c.args.l.len l.i (search rules) (omega arith) (sym c.may_follow.ensures ∙ c.if-not-may_follow.false)),
-    )
+pub loop-r-preserved : goal.loop-r-preserved
+loop-r-preserved c = rw c.end_of-lo.ensures (c.loop-r.invariant
+    ∙ rest-valid alloc_start alloc_count zero_free_rec c.loop-r.lo (free_of c.args.l) c.loop-r.r-index c.loop-r-test.true
+    (sym c.may_follow.ensures ∙ c.if-not-may_follow.false))
 
 pub returns : goal.returns
-returns c = let e : c.loop-i.i ≡ c.args.l.len = omega arith in
-    sym (c.loop-i.invariant.1 ∙ valid-end alloc_start alloc_count zero_free_rec _ c.args.l.recs _ _ e)
+returns c = sym (c.loop-r.invariant ∙ nothing-valid alloc_start alloc_count zero_free_rec _ (free_of c.args.l) c.loop-r.r-index (omega arith))

@@ -4,10 +4,10 @@ use borrow.Author.Tests.{lt-ltb, le-ltb}
 use Rattle.seqs.specs.Lists.{pushed}
 use Rattle.plan_free.proofs.list.push.Goals as goal
 
-pub returns-then-at-lt64 : goal.returns-then-at-lt64
+pub returns-then-l-lt64 : goal.returns-then-l-lt64
 unfolding pushed
-returns-then-at-lt64 c = simp (lt-ltb _ _ c.if-at-lt64.true)
+returns-then-l-lt64 c = simp (lt-ltb _ _ c.if-l-lt64.true)
 
-pub returns : goal.returns
+pub returns-else-l-lt64 : goal.returns-else-l-lt64
 unfolding pushed
-returns c = simp (le-ltb _ _ c.if-at-lt64.false)
+returns-else-l-lt64 c = simp (le-ltb _ _ c.if-l-lt64.false)

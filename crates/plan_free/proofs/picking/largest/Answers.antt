@@ -1,21 +1,16 @@
--- `plan_free::picking::largest` meets its contract. Invariant: the largest of c and the records from i on is the largest of all.
+-- `plan_free::picking::largest` meets its contract.
 -- Assumes nothing.
+use mathlib.Core.Path.{◌≡◌, ◌∙◌}
 use borrow.Author.Rules.{rules}
-use native.Mathlib.Omega.{arith}
-use mathlib.Core.Path.{◌≡◌, sym, ◌∙◌}
-use lib.ListN.{length}
-use Rattle.plan_free.specs.Free.{zero_free_rec, bigger}
-use Rattle.seqs.proofs.Laws.{fold_step, fold_end}
+use Rattle.std.specs.List.{fold}
+use Rattle.std.proofs.lemmas.Iterator.{YieldsList-from_slice}
+use Rattle.std.proofs.lemmas.Iterator.Consumers.{fold_from_yields_List}
+use Rattle.seqs.proofs.Chains.{folded}
+use Rattle.plan_free.specs.Free.{no_choice, bigger, free_of}
 use Rattle.plan_free.proofs.picking.largest.Goals as goal
 
-pub loop-i-init : goal.loop-i-init
-loop-i-init c = (search rules, rw c.nothing-c.ensures)
-
-pub loop-i-preserved : goal.loop-i-preserved
-loop-i-preserved c = let k : length c.args.l.recs ≡ 64 = c.well_formed.0.1.1.0.1.0.1 in
-    let l = c.loop-i in
-    (search rules, rw c.better_size-c.ensures (l.invariant.1 ∙ fold_step bigger zero_free_rec l.c c.args.l.recs c.args.l.len l.i (search rules) (omega arith)))
-
 pub returns : goal.returns
-returns c = let e : c.loop-i.i ≡ c.args.l.len = omega arith in
-    sym (c.loop-i.invariant.1 ∙ fold_end _ zero_free_rec _ c.args.l.recs _ _ e)
+returns c =
+    let h : c.fold.result ≡ fold (bigger) c.unpicked.result (free_of c.args.l) =
+    fold_from_yields_List _ (bigger) _ _ c.fold.ensures.ran (YieldsList-from_slice (free_of c.args.l) cc) (λ a x b q k. search rules) in
+    rw c.unpicked.ensures at h ∙ folded (bigger) no_choice (free_of c.args.l)

@@ -7,7 +7,7 @@ use Rattle.plan_free.proofs.picking.pick.Goals as goal
 
 pub returns-then-l-gt64 : goal.returns-then-l-gt64
 unfolding pick_answer picked_from
-returns-then-l-gt64 c = c.refused.ensures ∙ simp (lt-ltb _ _ c.if-l-gt64.true)
+returns-then-l-gt64 c = c.unpicked.ensures ∙ simp (lt-ltb _ _ c.if-l-gt64.true)
 
 pub returns-then-c : goal.returns-then-c
 unfolding pick_answer picked_from

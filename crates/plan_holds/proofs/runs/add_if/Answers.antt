@@ -1,17 +1,14 @@
 -- `plan_holds::runs::add_if` meets its contract.
 -- Assumes nothing.
+use mathlib.Core.Logic.{inl, inr}
 use borrow.Author.Tests.{lt-ltb, le-ltb}
 use Rattle.plan_holds.specs.Adding.{added_if}
 use Rattle.plan_holds.proofs.runs.add_if.Goals as goal
 
-pub returns-then-at-lt8 : goal.returns-then-at-lt8
+pub returns-then-l-lt8 : goal.returns-then-l-lt8
 unfolding added_if
-returns-then-at-lt8 c = simp (c.if-test.true, lt-ltb _ _ c.if-at-lt8.true)
+returns-then-l-lt8 c = simp (c.if-test.true, lt-ltb _ _ c.if-l-lt8.true)
 
-pub returns-then-test : goal.returns-then-test
+pub returns-else-test : goal.returns-else-test
 unfolding added_if
-returns-then-test c = simp (c.if-test.true, le-ltb _ _ c.if-at-lt8.false)
-
-pub returns : goal.returns
-unfolding added_if
-returns c = simp c.if-test.false
+returns-else-test c = elim c.else-test.either [ inl h ↦ simp (h.0, le-ltb _ _ h.1) | inr e ↦ simp e ]

@@ -7,6 +7,6 @@ pub returns-then-low : goal.returns-then-low
 unfolding starts_on
 returns-then-low c = simp c.if-low.true
 
-pub returns : goal.returns
+pub returns-else-low : goal.returns-else-low
 unfolding starts_on
-returns c = simp c.if-low.false
+returns-else-low c = simp c.if-low.false

@@ -1,25 +1,17 @@
--- `plan_holds::states::replay` meets its contract. Invariant: what the runs from i on make of the state is what all make of the first.
+-- `plan_holds::states::replay` meets its contract.
 -- Assumes nothing.
-use mathlib.Core.Path.{◌≡◌, refl, sym, ap, ◌∙◌}
+use mathlib.Core.Path.{◌≡◌, ◌∙◌}
 use borrow.Author.Rules.{rules}
-use native.Mathlib.Omega.{arith}
-use lib.ListN.{length}
-use Rattle.seqs.specs.Lists.{fold}
-use Rattle.seqs.proofs.Laws.{fold_step, fold_end}
-use Rattle.plan_free.specs.Free.{zero_free_rec}
-use Rattle.plan_holds.specs.declared.Held.{Held}
-use Rattle.plan_holds.specs.Holding.{held_of, held_next, replayed}
+use Rattle.std.specs.List.{fold}
+use Rattle.std.proofs.lemmas.Iterator.{YieldsList-from_slice}
+use Rattle.std.proofs.lemmas.Iterator.Consumers.{fold_from_yields_List}
+use Rattle.seqs.proofs.Chains.{folded}
+use Rattle.plan_holds.specs.Holding.{held_of, held_next, started, replayed}
 use Rattle.plan_holds.proofs.states.replay.Goals as goal
-
-pub loop-i-init : goal.loop-i-init
-loop-i-init c = (omega arith, refl)
-
-pub loop-i-preserved : goal.loop-i-preserved
-loop-i-preserved c = let l = c.loop-i in
-    let k : length c.args.h.recs ≡ 8 = c.well_formed.1.1.0.1.1.0.1.0.1 in
-    (search rules, rw c.hold_next-t.ensures (l.invariant.1 ∙ fold_step held_next zero_free_rec l.t c.args.h.recs c.args.h.len l.i (search rules) (omega arith)))
 
 pub returns : goal.returns
 unfolding replayed
-returns c = let e : c.loop-i.i ≡ c.args.h.len = omega arith in
-    sym (c.loop-i.invariant.1 ∙ fold_end held_next zero_free_rec _ c.args.h.recs _ _ e) ∙ ap (λ (t : Held). fold held_next t (held_of c.args.h)) c.begin-t.ensures
+returns c =
+    let h : c.fold.result ≡ fold held_next c.begin.result (held_of c.args.h) =
+    fold_from_yields_List _ held_next _ _ c.fold.ensures.ran (YieldsList-from_slice (held_of c.args.h) c.iter.ensures.rest) (λ s x b q k. search rules) in
+    rw c.begin.ensures at h ∙ folded held_next (started c.args.g c.args.agno) (held_of c.args.h)

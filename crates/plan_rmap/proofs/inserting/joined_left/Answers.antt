@@ -13,6 +13,6 @@ pub returns-then-p-gt0 : goal.returns-then-p-gt0
 unfolding joins_left
 returns-then-p-gt0 c = c.joined.ensures ∙ rw (lt-ltb 0 c.args.p (search rules), get_or-take c.args.l.len c.args.l.recs (c.args.p - 1) zero_rmap_rec (omega arith))
 
-pub returns : goal.returns
+pub returns-else-p-gt0 : goal.returns-else-p-gt0
 unfolding joins_left
-returns c = simp (le-ltb _ _ c.if-p-gt0.false)
+returns-else-p-gt0 c = rw (le-ltb _ _ c.if-p-gt0.false)

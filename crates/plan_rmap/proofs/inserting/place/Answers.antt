@@ -1,26 +1,22 @@
--- `plan_rmap::inserting::place` meets its contract. Invariant: the place among all is i and the place among the records from i on.
+-- `plan_rmap::inserting::place` meets its contract.
 -- Assumes nothing.
-use borrow.Author.Rules.{rules}
-use native.Mathlib.Omega.{arith}
 use mathlib.Core.Path.{◌≡◌, sym, ◌∙◌}
-use borrow.Author.Tests.{le-leb, lt-leb}
+use native.Mathlib.Omega.{arith}
+use borrow.Author.Rules.{rules}
+use borrow.Author.Tests.{tests}
 use lib.ListN.{length}
-use Rattle.plan_rmap.specs.Rmap.{zero_rmap_rec}
-use Rattle.seqs.proofs.Laws.{index-step, index-none, index-found}
+use lib.Seq.{length-take-le}
+use Rattle.std.specs.Prelude.{position}
+use Rattle.std.proofs.lemmas.Iterator.{YieldsList-from_slice}
+use Rattle.std.proofs.lemmas.Iterator.Search.{position_from_yields_List}
+use Rattle.seqs.proofs.Chains.{place-or}
+use Rattle.plan_rmap.specs.Rmap.{not_before, rmap_of}
 use Rattle.plan_rmap.proofs.inserting.place.Goals as goal
 
-pub loop-i-preserved : goal.loop-i-preserved
-loop-i-preserved c = let k : length c.args.l.recs ≡ 64 = c.well_formed.0.1.1.0.1.0.1 in (
-  search rules,
-  c.loop-i.invariant.1
-      ∙ index-step _ c.args.l.recs zero_rmap_rec c.args.l.len c.loop-i.i (search rules) (omega arith) (lt-leb _ _ c.if-s-r.false),
-)
-
-pub returns-then-i-n : goal.returns-then-i-n
-returns-then-i-n c = let e : c.loop-i.i ≡ c.args.l.len = omega arith in
-    sym (c.loop-i.invariant.1 ∙ index-none _ c.args.l.recs zero_rmap_rec _ _ e ∙ e)
-
-pub returns-then-s-r : goal.returns-then-s-r
-returns-then-s-r c = let k : length c.args.l.recs ≡ 64 = c.well_formed.0.1.1.0.1.0.1 in
-    sym (c.loop-i.invariant.1
-    ∙ index-found _ c.args.l.recs zero_rmap_rec c.args.l.len c.loop-i.i (search rules) (omega arith) (le-leb _ _ c.if-s-r.true))
+pub returns : goal.returns
+returns c =
+    let k : length c.args.l.recs ≡ 64 = c.well_formed.0.1.1.0.1.0.1 in
+    let n : length (rmap_of c.args.l) ≡ c.args.l.len = length-take-le _ _ (omega arith) in
+    let h : c.position.result ≡ position (not_before c.args.s) (rmap_of c.args.l) =
+    position_from_yields_List (not_before c.args.s) _ _ _ c.position.ensures.ran (YieldsList-from_slice (rmap_of c.args.l) c.iter.ensures.rest) (λ x b q k. search (rules, tests)) in
+    c.unwrap_or.ensures ∙ place-or (not_before c.args.s) (rmap_of c.args.l) c.position.result c.args.l.len h (sym n)

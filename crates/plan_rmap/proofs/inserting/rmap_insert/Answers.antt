@@ -11,9 +11,9 @@ use Rattle.seqs.proofs.Laws.{index-le}
 use Rattle.plan_rmap.proofs.Laws.{takes-facts}
 use Rattle.plan_rmap.proofs.inserting.rmap_insert.Goals as goal
 
-pub returns-then-n-gt64 : goal.returns-then-n-gt64
+pub returns-then-rmap-gt64 : goal.returns-then-rmap-gt64
 unfolding inserted
-returns-then-n-gt64 c = c.refused.ensures ∙ simp (lt-ltb _ _ c.if-n-gt64.true)
+returns-then-rmap-gt64 c = c.refused.ensures ∙ simp (lt-ltb _ _ c.if-rmap-gt64.true)
 
 pub can_take-requires : goal.can_take-requires
 can_take-requires c = let k : length c.args.rmap.recs ≡ 64 = c.well_formed.0.1.1.0.1.0.1 in
@@ -24,7 +24,7 @@ can_take-requires c = let k : length c.args.rmap.recs ≡ 64 = c.well_formed.0.1
 pub returns-then-not-can_take : goal.returns-then-not-can_take
 unfolding inserted
 returns-then-not-can_take c = let t : takes (rmap_of c.args.rmap) (insert_place c.args.rec.start (rmap_of c.args.rmap)) c.args.rec ≡ c.can_take.result = rw (← c.place-p.ensures) (sym c.can_take.ensures) in
-    c.refused-then-not-can_take.ensures ∙ rw (le-ltb _ _ c.if-n-gt64.false, t, not-true c.can_take.result c.if-not-can_take.true-raw)
+    c.refused-then-not-can_take.ensures ∙ rw (le-ltb _ _ c.if-rmap-gt64.false, t, not-true c.can_take.result c.if-not-can_take.true-raw)
 
 pub insert_at-requires : goal.insert_at-requires
 insert_at-requires c = let k : length c.args.rmap.recs ≡ 64 = c.well_formed.0.1.1.0.1.0.1 in
@@ -36,4 +36,4 @@ insert_at-requires c = let k : length c.args.rmap.recs ≡ 64 = c.well_formed.0.
 pub returns : goal.returns
 unfolding inserted
 returns c = let t : takes (rmap_of c.args.rmap) (insert_place c.args.rec.start (rmap_of c.args.rmap)) c.args.rec ≡ c.can_take.result = rw (← c.place-p.ensures) (sym c.can_take.ensures) in
-    c.insert_at.ensures ∙ rw (le-ltb _ _ c.if-n-gt64.false, t, not-false c.can_take.result c.if-not-can_take.false-raw, ← c.place-p.ensures)
+    c.insert_at.ensures ∙ rw (le-ltb _ _ c.if-rmap-gt64.false, t, not-false c.can_take.result c.if-not-can_take.false-raw, ← c.place-p.ensures)

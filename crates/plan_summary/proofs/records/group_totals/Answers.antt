@@ -4,6 +4,7 @@ use Rattle.plan.specs.declared.Planned.{Planned}
 use Rattle.plan.specs.Plan.{planned}
 use Rattle.plan_same.proofs.Planners.{planned-is-plan}
 use Rattle.plan_totals.specs.Totals.{NarrowRecords}
+use Rattle.plan_summary.proofs.Folds.{blocks-are, blocks-fit}
 use Rattle.plan_summary.proofs.Narrow.{plan-records}
 use Rattle.plan_summary.specs.Summaries.{group_totals}
 use borrow.Author.Tests.{ne_eqb}
@@ -29,7 +30,7 @@ pub sum_of-requires : goal.sum_of-requires
 sum_of-requires c =
     let l : length c.args.g.label ≡ 12 = search (rules, c.well_formed.0.1.1.1.1.1.1.1.1.1.1.1.1.1.1.1.1.1.1.1) in
     let f = few c.args.g c.args.agno c.plan_ag-answer.result l c.plan_ag-answer.ensures c.if-number-ne0.false in
-    (omega (arith, f.0), f.1)
+    record { few = omega (arith, f.0); fits = blocks-fit c.plan_ag-answer.result.plan.free f.1 }
 
 pub longest_of-requires : goal.longest_of-requires
 longest_of-requires c =
@@ -39,4 +40,4 @@ longest_of-requires c =
 
 pub returns : goal.returns
 unfolding group_totals
-returns c = rw (c.longest_of.ensures, c.sum_of.ensures, ← c.plan_ag-answer.ensures, c.if-number-ne0.false)
+returns c = rw (c.longest_of.ensures, c.sum_of.ensures ∙ sym (blocks-are c.plan_ag-answer.result.plan.free), ← c.plan_ag-answer.ensures, c.if-number-ne0.false)

@@ -13,4 +13,4 @@ pub returns-then-groups-left : goal.returns-then-groups-left
 returns-then-groups-left c = header-adds c.args.t c.if-t-ne0.false c.if-left-le1.false c.if-groups-left.true
 
 pub returns : goal.returns
-returns c = row-adds c.args.t c.if-t-ne0.false c.if-left-le1.false c.if-groups-left.false c.minus.ensures c.minus-2.ensures c.row_in-row.ensures c.with_row.ensures
+returns c = row-adds c.args.t c.if-t-ne0.false c.if-left-le1.false c.if-groups-left.false c.saturating_sub.ensures c.saturating_sub-2.ensures c.row_in-row.ensures c.with_row.ensures

@@ -5,4 +5,4 @@ use Rattle.plan_table.proofs.rows.chunk_in.Goals as goal
 
 pub returns : goal.returns
 unfolding chunk_blocks_in
-returns c = c.pick_u32.ensures
+returns c = c.pick.ensures

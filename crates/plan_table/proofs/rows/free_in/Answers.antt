@@ -6,4 +6,4 @@ use Rattle.plan_table.proofs.rows.free_in.Goals as goal
 
 pub returns : goal.returns
 unfolding free_blocks_in
-returns c = c.minus_u32-3.ensures ∙ rw (c.chunk_in.ensures, c.minus_u32-2.ensures, c.minus_u32-after.ensures, c.log_in.ensures, c.minus_u32.ensures, c.length_in.ensures)
+returns c = c.saturating_sub-3.ensures ∙ rw (c.chunk_in.ensures, c.saturating_sub-2.ensures, c.saturating_sub-after.ensures, c.log_in.ensures, c.saturating_sub.ensures, c.length_in.ensures)

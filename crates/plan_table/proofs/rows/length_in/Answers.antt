@@ -6,4 +6,4 @@ use Rattle.plan_table.proofs.rows.length_in.Goals as goal
 
 pub returns : goal.returns
 unfolding length_in
-returns c = c.pick_u32.ensures ∙ rw c.minus.ensures
+returns c = c.pick.ensures ∙ rw c.saturating_sub.ensures

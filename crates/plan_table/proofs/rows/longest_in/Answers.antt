@@ -6,4 +6,4 @@ use Rattle.plan_table.proofs.rows.longest_in.Goals as goal
 
 pub returns : goal.returns
 unfolding longest_in
-returns c = c.pick_u32.ensures ∙ rw (c.free_in.ensures, c.max_u32.ensures, c.minus_u32-after.ensures, c.minus_u32-2.ensures, c.length_in.ensures, c.minus_u32-before.ensures, c.minus_u32.ensures) refl
+returns c = c.pick.ensures ∙ rw (c.free_in.ensures, c.max_u32.ensures, c.saturating_sub-after.ensures, c.saturating_sub-2.ensures, c.length_in.ensures, c.saturating_sub-before.ensures, c.saturating_sub.ensures) refl
