@@ -5,7 +5,7 @@ ghost use Rattle.log_record.specs.Record.{record_number, log_record_bytes};
 ghost use Rattle.list_spec.specs.Listing.{log_unit, log_block};
 ghost use Rattle.group_bytes.specs.Answers.{log_refusal};
 
-use arith::choice::pick_u32;
+use arith::choice::pick;
 use arith::numbers::max_u32;
 use geometry::Geometry;
 use geometry_counts::stripes::{logsunit_of, lsunit_of};
@@ -34,7 +34,7 @@ fn log_unit(g: Geometry) -> u32
     ensures { result ≡ log_unit g }
 {
     let stored = logsunit_of(lsunit_of(g.lsectsize, g.blocksize));
-    let sector = pick_u32(512 < g.sectsize, g.lsectsize, 0);
+    let sector = pick(512 < g.sectsize, g.lsectsize, 0);
     clear_sunit(stored, sector)
 }
 

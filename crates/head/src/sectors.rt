@@ -12,8 +12,7 @@ ghost use Rattle.head_bytes.specs.Head.{agf_with, agi_for};
 ghost use Rattle.head_bytes.specs.Parts.{sector_on, sectors_on};
 
 use ag::{Agf, Agi};
-use arith::choice::pick_u32;
-use arith::numbers::minus_u32;
+use arith::choice::pick;
 use geometry::Geometry;
 use head_frame::Frame;
 use params::Features;
@@ -51,9 +50,9 @@ fn agf_of(w: Frame) -> Agf
     let f = w.features;
     let rmap = flag(f.rmapbt);
     let refc = flag(f.reflink);
-    let rmap_root = pick_u32(f.rmapbt, rmap_at(f, w.header), 0);
-    let refcount_root = pick_u32(f.reflink, refc_at(f, w.header), 0);
-    let slots = minus_u32(w.sector, Geometry::AGFL_HEADER) / 4;
+    let rmap_root = pick(f.rmapbt, rmap_at(f, w.header), 0);
+    let refcount_root = pick(f.reflink, refc_at(f, w.header), 0);
+    let slots = w.sector.saturating_sub(Geometry::AGFL_HEADER) / 4;
     Agf {
         seqno: w.agno,
         length: w.length,
@@ -85,15 +84,15 @@ fn agi_of(w: Frame) -> Agi
     Agi {
         seqno: w.agno,
         length: w.length,
-        count: pick_u32(w.has_chunk, 64, 0),
+        count: pick(w.has_chunk, 64, 0),
         root: w.header + 2,
         level: 1,
-        freecount: pick_u32(w.has_chunk, 61, 0),
+        freecount: pick(w.has_chunk, 61, 0),
         newino: w.newino,
-        free_root: pick_u32(f.finobt, w.header + 3, 0),
+        free_root: pick(f.finobt, w.header + 3, 0),
         free_level: free,
         iblocks: flag(f.inobtcount),
-        fblocks: pick_u32(f.inobtcount, free, 0),
+        fblocks: pick(f.inobtcount, free, 0),
     }
 }
 

@@ -6,7 +6,7 @@ use mathlib.Core.List.{List, [], ◌∷◌, ◌++◌}
 use Prim.Native.Nat.{ℕ, zero, suc, ◌/◌, ◌%◌, ◌^◌, ◌<◌}
 use native.Mathlib.Nat.{mod-lt}
 use lib.Dec.{lit<}
-use lib.ListN.{length, set, replicate}
+use lib.ListN.{set, replicate}
 use Rattle.endian.specs.Bytes.{be_bytes, numbers_bytes, Below, patch}
 use Rattle.endian_little.specs.Bytes.{le_bytes}
 use Rattle.endian.specs.Fields.{Field, write_fields}

@@ -13,7 +13,7 @@ use Rattle.sb.specs.Superblock.{sb_bytes}
 use Rattle.plan.specs.declared.AgPlan.{AgPlan}
 use Rattle.plan_same.specs.Same.{is_plan}
 use Rattle.head_frame.specs.Frames.{frame_of}
-use Rattle.head_bytes.specs.Head.{frame_blocks, behind_bytes, head_bytes, head_length}
+use Rattle.head_bytes.specs.Head.{behind_bytes, head_bytes, head_length}
 use Rattle.head_bytes.proofs.Lending.{sb-length}
 use Rattle.head_bytes.proofs.Ready.{blocks-are, ready, head-from}
 use Rattle.head_bytes.proofs.Whole.{whole_length}

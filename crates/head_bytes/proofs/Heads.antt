@@ -4,9 +4,8 @@ use mathlib.Core.Path.{◌≡◌, ap}
 use mathlib.Core.Bool.{Bool, true, false, cond}
 use mathlib.Core.List.{List, [], ◌∷◌, ◌++◌}
 use Prim.Native.Nat.{ℕ, ◌*◌, ◌-◌}
-use lib.ListN.{length, take, replicate}
-use Rattle.endian.specs.Bytes.{be_bytes, numbers_bytes, Below, zeros}
-use Rattle.endian.specs.Fields.{Field, field, write_fields}
+use lib.ListN.{length, replicate}
+use Rattle.endian.specs.Bytes.{be_bytes, Below, zeros}
 use Rattle.geometry.specs.declared.Geometry.{Geometry}
 use Rattle.geometry_layout.specs.Places.{ibt_block, fibt_block}
 use Rattle.btree.specs.declared.records.AllocRec.{AllocRec}

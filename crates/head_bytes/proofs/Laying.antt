@@ -5,11 +5,11 @@ use mathlib.Core.Bool.{Bool, true, false, cond}
 use mathlib.Core.List.{List, [], ◌∷◌, ◌++◌, append_assoc, append-nil}
 use Prim.Native.Nat.{ℕ, ◌+◌, ◌*◌, ◌-◌, ◌≤◌}
 use native.Mathlib.Omega.{arith}
-use lib.ListN.{length, take, drop, replicate, length-append, length-replicate, replicate-append-replicate}
+use lib.ListN.{length, take, drop, length-append, length-replicate, replicate-append-replicate}
 use lib.Seq.{take_at, drop_at}
 use Rattle.endian.specs.Bytes.{patch, zeros}
 use Rattle.endian.specs.Fields.{part}
-use Rattle.endian.proofs.Laws.{patch-split, length-patch}
+use Rattle.endian.proofs.Laws.{patch-split}
 use Rattle.head_bytes.specs.Parts.{sector_on}
 
 -- `pre` stands at the start of xs, with `rest` behind it

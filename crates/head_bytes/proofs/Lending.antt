@@ -1,14 +1,13 @@
 -- What a lent sector or block leaves in the head.
 -- Assumes nothing.
-use mathlib.Core.Path.{◌≡◌, refl, ap, sym, ◌∙◌}
-use mathlib.Core.Bool.{Bool, true}
+use mathlib.Core.Path.{◌≡◌, refl, ap, ◌∙◌}
+use mathlib.Core.Bool.{true}
 use mathlib.Core.List.{List}
 use Prim.Native.Nat.{ℕ, ◌+◌, ◌*◌, ◌-◌, ◌≤◌}
 use native.Mathlib.Omega.{arith}
-use lib.Dec.{leb}
 use lib.ListN.{length, take, drop, replicate, length-drop, length-replicate}
 use lib.Seq.{length-take-le}
-use borrow.Author.Tests.{le-leb, le-ltb}
+use borrow.Author.Tests.{le-leb}
 use borrow.Rule.Slice.PartMut.{put_mid}
 use Rattle.endian.specs.Bytes.{patch}
 use Rattle.endian.specs.Fields.{write_fields}
@@ -27,7 +26,6 @@ use Rattle.ag.specs.declared.agi.Agi.{Agi}
 use Rattle.ag.specs.Agf.{agf_fields, agf_bytes}
 use Rattle.ag.specs.Agi.{agi_fields, agi_bytes}
 use Rattle.ag.specs.Agfl.{agfl_number, agfl_fields, agfl_bytes}
-use Rattle.plan_free.specs.declared.FreeList.{FreeList}
 use Rattle.sb.specs.declared.SbState.{SbState}
 use Rattle.sb.specs.Superblock.{sb_fields, sb_bytes}
 use Rattle.head_frame.specs.declared.Frame.{Frame}

@@ -10,8 +10,7 @@ use lib.Dec.{eqb}
 use lib.ListN.{length}
 use borrow.Author.Tests.{eq-eqb, ne_eqb}
 use Rattle.endian.specs.Bytes.{zeros}
-use Rattle.refusals.specs.Numbers.{no_answer, wrong_length}
-use Rattle.arith.specs.Choice.{bit}
+use Rattle.refusals.specs.Numbers.{no_answer}
 use Rattle.geometry.specs.declared.Geometry.{Geometry}
 use Rattle.geometry.specs.Log.{prealloc_of}
 use Rattle.geometry_answers.specs.Named.{is_answer}

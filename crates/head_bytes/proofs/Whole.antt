@@ -7,9 +7,7 @@ use Prim.Native.Nat.{ℕ, ◌+◌, ◌*◌, ◌-◌, ◌≤◌, ◌<◌}
 use native.Mathlib.Nat.{add-mul, mul-le-mul_right}
 use native.Mathlib.Omega.{arith}
 use lib.ListN.{length, take, drop, replicate, length-append, length-replicate}
-use lib.Seq.{take_at, drop_at}
 use Rattle.arith.specs.Choice.{bit}
-use Rattle.arith.proofs.Laws.{bit_le}
 use Rattle.endian.specs.Bytes.{patch, zeros}
 use Rattle.endian.proofs.Laws.{patch-split, length-patch}
 use Rattle.geometry.specs.declared.Geometry.{Geometry}

@@ -1,15 +1,13 @@
 -- The head of a group: its four header sectors, zeros up to the next block, and the root blocks of its trees, one after the other.
 -- Assumes nothing.
-use Rattle.std.specs.Prelude.{Bool, cond, List, [], ◌++◌, ℕ, ◌+◌, ◌*◌, ◌-◌, ◌%◌, eqb, length, take}
+use Rattle.std.specs.Prelude.{cond, List, [], ◌++◌, ℕ, ◌+◌, ◌*◌, ◌-◌, ◌%◌, eqb, length, take}
 use Rattle.endian.specs.Bytes.{zeros}
 use Rattle.refusals.specs.Numbers.{wrong_length, no_answer}
 use Rattle.arith.specs.Choice.{when, bit}
 use Rattle.structs.specs.Written.{require}
-use Rattle.params.specs.declared.Features.{Features}
 use Rattle.geometry.specs.declared.Geometry.{Geometry}
 use Rattle.geometry.specs.Log.{prealloc_of}
 use Rattle.geometry_layout.specs.Places.{cnt_block, ibt_block, fibt_block, rmap_block, refc_block, agfl_size, daddr_of}
-use Rattle.btree.specs.declared.records.InobtRec.{InobtRec}
 use Rattle.btree.specs.Records.{records_bytes, alloc_bytes, inobt_bytes, rmap_bytes}
 use Rattle.btree.specs.Leaf.{leaf_bytes}
 use Rattle.ag.specs.declared.agf.Agf.{Agf}
@@ -23,7 +21,6 @@ use Rattle.plan_free.specs.declared.FreeList.{FreeList}
 use Rattle.plan_free.specs.Free.{free_of}
 use Rattle.plan_rmap.specs.declared.RmapList.{RmapList}
 use Rattle.plan_rmap.specs.Rmap.{rmap_of}
-use Rattle.plan.specs.declared.Agfl.{Agfl}
 use Rattle.plan.specs.declared.AgPlan.{AgPlan}
 use Rattle.plan.specs.Plan.{planned}
 use Rattle.plan_totals.specs.Totals.{freeblks_of, longest_of}

@@ -1,6 +1,6 @@
 -- Free extents in the order of the tree by size.
 -- Assumes nothing.
-use Rattle.std.specs.Prelude.{◌≡◌, Bool, true, false, cond, List, [], ◌∷◌, ℕ, eqb, leb, ltb}
+use Rattle.std.specs.Prelude.{◌≡◌, Bool, true, cond, List, [], ◌∷◌, ℕ, eqb, leb, ltb}
 use Rattle.btree.specs.declared.records.AllocRec.{AllocRec}
 
 -- a has fewer blocks than b, or as many and does not start behind it

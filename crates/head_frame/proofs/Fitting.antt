@@ -1,5 +1,6 @@
 -- Every plan of the planner has a frame that is fine, and short lists.
 -- Assumes nothing.
+use Rattle.std.specs.Prelude.{Option, Some, None}
 use mathlib.Core.Path.{◌≡◌, refl, sym, ◌∙◌}
 use mathlib.Core.Bool.{Bool, true, false, ◌||◌, cond}
 use mathlib.Core.Logic.{⊎_elim}
@@ -24,8 +25,6 @@ use Rattle.plan_site.specs.Sites.{site_of, SoundSite}
 use Rattle.plan_site.proofs.Sites.{site-sound}
 use Rattle.structs.specs.Sizes.{is_power, is_sector, is_block}
 use Rattle.plan.specs.declared.AgPlan.{AgPlan}
-use Rattle.params.specs.declared.OptU64.{OptU64}
-use Rattle.params.specs.declared.OptU64.TheVariants.{Absent, Given}
 use Rattle.btree.specs.declared.records.RmapRec.{RmapRec}
 use Rattle.plan.specs.Plan.{own_ag, own_log, own_inodes, own_refc, map_rec, refc_map, log_map, planned}
 use Rattle.plan_closed.specs.Closed.{has_root_chunk, is_joined, list_at, head_mappings, list_parts, chunk_mapping, closed_rmap}
@@ -78,10 +77,10 @@ rmap-few s =
     (λ t. omega arith)
 
 -- the chunk's first inode, for at most 32 inodes a block
-ino-least : (s : Site) (log : ℕ) → SoundSite s → 2 ^ log ≤ 32 → chunk_ino log (cond (has_root_chunk s) (Given s.chunk_at) Absent) < 2 ^ 32
+ino-least : (s : Site) (log : ℕ) → SoundSite s → 2 ^ log ≤ 32 → chunk_ino log (cond (has_root_chunk s) (Some s.chunk_at) None) < 2 ^ 32
 unfolding chunk_ino
 ino-least s log ok h =
-    choose-elim (λ (x : OptU64). chunk_ino log x < 2 ^ 32) (has_root_chunk s) _ _
+    choose-elim (λ (x : Option ℕ). chunk_ino log x < 2 ^ 32) (has_root_chunk s) _ _
     (λ t. let c = ok.chunk-ends in let b : s.chunk_at ≤ 80 = omega arith in let m : s.chunk_at * 2 ^ log ≤ 80 * 32 = mul-le-mul b h in omega arith)
     (λ t. omega arith)
 

@@ -1,9 +1,7 @@
 -- What the parts of a group's head have in common.
 -- Assumes nothing.
-use Rattle.std.specs.Prelude.{◌≡◌, Bool, true, false, cond, ℕ, ◌+◌, ◌*◌, ◌/◌, ◌^◌, ◌≤◌, ◌<◌, eqb}
+use Rattle.std.specs.Prelude.{◌≡◌, Bool, true, false, cond, ℕ, ◌+◌, ◌*◌, ◌/◌, ◌^◌, ◌≤◌, ◌<◌, eqb, Option, Some, None}
 use Rattle.refusals.specs.Numbers.{no_answer}
-use Rattle.params.specs.declared.OptU64.{OptU64}
-use Rattle.params.specs.declared.OptU64.TheVariants.{Absent, Given}
 use Rattle.params.specs.declared.Features.{Features}
 use Rattle.geometry.specs.declared.Geometry.{Geometry}
 use Rattle.geometry.specs.Log.{header_of}
@@ -18,14 +16,14 @@ use Rattle.head_frame.specs.declared.Framed.{Framed}
 use Rattle.head_frame.specs.declared.FramedPlan.{FramedPlan}
 
 -- the root chunk lies in this group
-unfoldable pub has_chunk : OptU64 → Bool
-has_chunk Absent = false
-has_chunk (Given c) = true
+unfoldable pub has_chunk : Option ℕ → Bool
+has_chunk None = false
+has_chunk (Some c) = true
 
 -- its first inode within the group: the block shifted by the logarithm of inodes per block; null where there is none
-unfoldable pub chunk_ino : ℕ → OptU64 → ℕ
-chunk_ino log Absent = null32
-chunk_ino log (Given c) = c * 2 ^ log
+unfoldable pub chunk_ino : ℕ → Option ℕ → ℕ
+chunk_ino log None = null32
+chunk_ino log (Some c) = c * 2 ^ log
 
 unfoldable pub frame_of : Geometry → AgPlan → Frame
 frame_of g p =

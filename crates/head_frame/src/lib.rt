@@ -8,7 +8,7 @@ ghost use Rattle.head_frame.specs.Frames.{has_chunk, chunk_ino, frame_of, no_fra
 
 use geometry::Geometry;
 use geometry::log_size::header_of;
-use params::{Features, OptU64};
+use params::Features;
 use plan::AgPlan;
 use plan_summary::records::{free_totals, group_totals};
 
@@ -44,12 +44,12 @@ pub struct FramedPlan {
     pub frame: Frame,
 }
 
-fn has_chunk(chunk: OptU64) -> bool
+fn has_chunk(chunk: Option<u64>) -> bool
     ensures { result ≡ has_chunk chunk }
 {
     match chunk {
-        OptU64::Absent => false,
-        OptU64::Given(_) => true,
+        None => false,
+        Some(_) => true,
     }
 }
 
@@ -62,13 +62,13 @@ fn first_ino(block: u64, log: u8) -> u32
 }
 
 // The first inode of the chunk within its group.
-fn chunk_ino(chunk: OptU64, log: u8) -> u32
+fn chunk_ino(chunk: Option<u64>, log: u8) -> u32
     requires { (log < 64) × (chunk_ino log chunk < 2 ^ 32) }
     ensures { result ≡ chunk_ino log chunk }
 {
     match chunk {
-        OptU64::Absent => structs::NULL32,
-        OptU64::Given(c) => first_ino(c, log),
+        None => structs::NULL32,
+        Some(c) => first_ino(c, log),
     }
 }
 

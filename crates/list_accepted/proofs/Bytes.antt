@@ -3,14 +3,11 @@
 use mathlib.Core.Path.{◌≡◌}
 use mathlib.Core.List.{List, [], ◌∷◌}
 use Prim.Native.Nat.{ℕ, zero, suc, ◌-◌, ◌<◌, min}
-use lib.ListN.{length, get_or, take, replicate, length-replicate}
+use lib.ListN.{get_or, take, replicate}
 use Rattle.endian.specs.Bytes.{Below}
 use Rattle.geometry.specs.Limits.{label_room}
 use Rattle.geometry.specs.Compute.{label_of}
 use Rattle.head_bytes.proofs.Below.{below-append, below-zeros}
-use Rattle.params.specs.declared.Presence.{Presence}
-use Rattle.params.specs.declared.Presence.TheVariants.{Absent, Given}
-use Rattle.request.specs.Defaults.{or_zeros}
 
 -- every byte is Below the bound where each place's is
 pub below_all : (m : ℕ) (xs : List ℕ) → ((i : ℕ) → get_or xs i 0 < m) → Below m xs
@@ -32,12 +29,3 @@ below-take m (suc n) (x ∷ xs) b = (b.0, below-take m n xs b.1)
 pub label-below : (n : ℕ) (bytes : List ℕ) → Below 256 bytes → Below 256 (label_of n bytes)
 unfolding label_of
 label-below n bytes b = below-append 256 (take (min n label_room) bytes) (replicate (label_room - min n label_room) 0) (below-take 256 (min n label_room) bytes b) (below-zeros (label_room - min n label_room))
-
--- a UUID that is given, or zeros
-pub uuid-length : (p : Presence) (bytes : List ℕ) → length bytes ≡ 16 → length (or_zeros p bytes) ≡ 16
-uuid-length Given bytes e = e
-uuid-length Absent bytes e = length-replicate {A = ℕ} 16 0
-
-pub uuid-below : (p : Presence) (bytes : List ℕ) → Below 256 bytes → Below 256 (or_zeros p bytes)
-uuid-below Given bytes b = b
-uuid-below Absent bytes b = below-zeros 16

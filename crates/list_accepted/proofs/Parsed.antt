@@ -1,5 +1,6 @@
 -- What `parse` answers for bytes has the machine's types: so what `accept` accepts are accepted runs.
 -- Assumes nothing.
+use Rattle.std.specs.Prelude.{Option, Some, None, unwrap_or}
 use mathlib.Core.Path.{◌≡◌, refl, ◌∙◌}
 use mathlib.Core.Bool.{Bool, true, false}
 use mathlib.Core.List.{List, [], ◌∷◌}
@@ -12,16 +13,12 @@ use Rattle.endian.specs.Bytes.{Below}
 use Rattle.endian.specs.Fields.{part}
 use Rattle.endian.proofs.Laws.{at_bound}
 use Rattle.head_bytes.proofs.Below.{below-append, below-zeros}
-use Rattle.params.specs.Options.{or64, or32, or8}
-use Rattle.params.specs.declared.OptU64.{OptU64}
-use Rattle.params.specs.declared.OptU64.TheVariants.{Absent, Given}
 use Rattle.geometry_answers.specs.Answers.{TypedOptions}
-use Rattle.request.specs.declared.Request.{Request}
 use Rattle.request_input.specs.Records.{option, option_bits, value_with, records, well_formed}
 use Rattle.request_input.specs.Records as keys
 use Rattle.request.specs.Options.{short32, short8, signed, time_given, LabelInside, UuidInside, label_at, label_given, uuid_given, params_of, OptBelow}
 use Rattle.request.specs.Parse.{parse_def, parsed_if}
-use Rattle.request.specs.Defaults.{or_epoch, time_of, seed_of}
+use Rattle.request.specs.Defaults.{or_epoch, uuid_of, time_of, seed_of}
 use Rattle.request.proofs.Values.{option-fits, label_inside, uuid-inside}
 use Rattle.run.specs.Runs.{accepted}
 use Rattle.run.proofs.Accepted.{run-zero}
@@ -31,17 +28,17 @@ use Rattle.list_accepted.proofs.Runs.{request-zero}
 
 -- ---- an option that fits, absent or given
 
-or-64 : (m : ℕ) (o : OptU64) → 0 < m → OptBelow m o → or64 o 0 < m
-or-64 m Absent p h = p
-or-64 m (Given n) p h = h
+or-64 : (m : ℕ) (o : Option ℕ) → 0 < m → OptBelow m o → unwrap_or o 0 < m
+or-64 m None p h = p
+or-64 m (Some n) p h = h
 
-or-32 : (m : ℕ) (o : OptU64) → 0 < m → OptBelow m o → or32 (short32 o) 0 < m
-or-32 m Absent p h = p
-or-32 m (Given n) p h = h
+or-32 : (m : ℕ) (o : Option ℕ) → 0 < m → OptBelow m o → unwrap_or (short32 o) 0 < m
+or-32 m None p h = p
+or-32 m (Some n) p h = h
 
-or-8 : (m : ℕ) (o : OptU64) → 0 < m → OptBelow m o → or8 (short8 o) 0 < m
-or-8 m Absent p h = p
-or-8 m (Given n) p h = h
+or-8 : (m : ℕ) (o : Option ℕ) → 0 < m → OptBelow m o → unwrap_or (short8 o) 0 < m
+or-8 m None p h = p
+or-8 m (Some n) p h = h
 
 -- ---- the time
 
@@ -53,11 +50,11 @@ signed-at n false e h = let b = ltb-false n (2 ^ 63) e in rw (e, lt-ltb n (2 ^ 6
 signed-fits : (n : ℕ) → n < 2 ^ 64 → Signed64 (signed n)
 signed-fits n h = signed-at n (ltb n (2 ^ 63)) refl h
 
-time-fits : (s n : OptU64) → OptBelow (2 ^ 64) s → OptBelow (2 ^ 32) n → Signed64 (or_epoch (time_given s n)).secs × ((or_epoch (time_given s n)).nsecs < 2 ^ 32)
-time-fits Absent Absent a b = (lit< tt, lit< tt)
-time-fits Absent (Given n) a b = (signed-fits 0 (lit< tt), b)
-time-fits (Given s) Absent a b = (signed-fits s a, lit< tt)
-time-fits (Given s) (Given n) a b = (signed-fits s a, b)
+time-fits : (s n : Option ℕ) → OptBelow (2 ^ 64) s → OptBelow (2 ^ 32) n → Signed64 (or_epoch (time_given s n)).secs × ((or_epoch (time_given s n)).nsecs < 2 ^ 32)
+time-fits None None a b = (lit< tt, lit< tt)
+time-fits None (Some n) a b = (signed-fits 0 (lit< tt), b)
+time-fits (Some s) None a b = (signed-fits s a, lit< tt)
+time-fits (Some s) (Some n) a b = (signed-fits s a, b)
 
 -- ---- label and UUID
 
@@ -73,19 +70,19 @@ module _ (xs : List ℕ) (bytes : (i : ℕ) → get_or xs i 0 < 256) where
   part_length : (off n : ℕ) → off + n ≤ length xs → length (part off n xs) ≡ n
   part_length off n h = simp (length-take, length-drop) (omega arith)
 
-  label-fits : (o : OptU64) → LabelInside xs o → ((label_given o xs).length < 2 ^ 64) × (length (label_given o xs).bytes ≡ 12) × Below 256 (label_given o xs).bytes
+  label-fits : (o : Option ℕ) → LabelInside xs o → ((label_given o xs).length < 2 ^ 64) × (length (label_given o xs).bytes ≡ 12) × Below 256 (label_given o xs).bytes
   unfolding label_at
-  label-fits Absent h = (lit< tt, refl, below-zeros 12)
-  label-fits (Given p) h =
+  label-fits None h = (lit< tt, refl, below-zeros 12)
+  label-fits (Some p) h =
       let n = min (get_or xs p 0) 12 in
       let b = bytes p in
       let l : length (part (p + 1) n xs) ≡ n = part_length (p + 1) n (omega arith) in
       let z : length (replicate {A = ℕ} (12 - n) 0) ≡ 12 - n = length-replicate (12 - n) 0 in
       (omega arith, length-append (part (p + 1) n xs) (replicate (12 - n) 0) ∙ omega arith, below-append 256 (part (p + 1) n xs) (replicate (12 - n) 0) (part-below (p + 1) n) (below-zeros (12 - n)))
 
-  uuid-fits : (o : OptU64) → UuidInside xs o → (length (uuid_given o xs).bytes ≡ 16) × Below 256 (uuid_given o xs).bytes
-  uuid-fits Absent h = (refl, below-zeros 16)
-  uuid-fits (Given p) h = (part_length p 16 h, part-below p 16)
+  uuid-fits : (o : Option ℕ) → UuidInside xs o → (length (unwrap_or (uuid_given o xs) (replicate 16 0)) ≡ 16) × Below 256 (unwrap_or (uuid_given o xs) (replicate 16 0))
+  uuid-fits None h = (refl, below-zeros 16)
+  uuid-fits (Some p) h = (part_length p 16 h, part-below p 16)
 
   -- ---- the request
 
@@ -111,7 +108,7 @@ module _ (xs : List ℕ) (bytes : (i : ℕ) → get_or xs i 0 < 256) where
         }
 
     request-typed : TypedRequest (parsed_if true xs)
-    unfolding time_of seed_of params_of option_bits
+    unfolding uuid_of time_of seed_of params_of option_bits
     request-typed =
         let u = uuid-fits (value_with keys.uuid (records 0 xs)) (uuid-inside xs) in
         let t = time-fits (value_with (option 10) (records 0 xs)) (value_with (option 11) (records 0 xs)) (fits 10) (fits 11) in
@@ -121,7 +118,7 @@ module _ (xs : List ℕ) (bytes : (i : ℕ) → get_or xs i 0 < 256) where
           logical = at_bound 4 10 xs bytes;
           physical = at_bound 4 14 xs bytes;
           uuid-size = u.0;
-          uuid-bytes = below_at 256 (params_of xs).uuid.bytes (lit< tt) u.1;
+          uuid-bytes = below_at 256 (uuid_of (params_of xs)) (lit< tt) u.1;
           seconds = t.0;
           nanoseconds = t.1;
           seed = or-64 (2 ^ 64) (value_with (option 8) (records 0 xs)) (lit< tt) (fits 8);

@@ -23,7 +23,7 @@ use Rattle.run.specs.declared.Run.{Run}
 use Rattle.run.specs.Runs.{or_next, step_of, time_refusal, bare_number, run_number, run_of}
 use Rattle.run.proofs.Accepted.{none, bare-zero, profile-zero}
 use Rattle.list_accepted.specs.Accepted.{AcceptedRun, Source}
-use Rattle.list_accepted.proofs.Bytes.{below_all, label-below, uuid-length, uuid-below}
+use Rattle.list_accepted.proofs.Bytes.{below_all, label-below}
 
 all_none : (a b c d : ℕ) → a ≡ 0 → b ≡ 0 → c ≡ 0 → d ≡ 0 → or_next a (or_next b (or_next c d)) ≡ 0
 all_none a b c d e f g h = rw (e, f, g, h) refl
@@ -143,12 +143,10 @@ module _ (r : Request) (a : AcceptedRun r) where
   run-label-bytes = rw (run-geometry, its-geometry r.params r.device r.logical r.physical step-number) chosen-below
 
   pub run-uuid-length : length (run_of r).uuid ≡ 16
-  unfolding uuid_of
-  run-uuid-length = rw run-uuid (uuid-length r.params.uuid.presence r.params.uuid.bytes a.typed.uuid-size)
+  run-uuid-length = rw run-uuid a.typed.uuid-size
 
   pub run-uuid-bytes : Below 256 (run_of r).uuid
-  unfolding uuid_of
-  run-uuid-bytes = rw run-uuid (uuid-below r.params.uuid.presence r.params.uuid.bytes (below_all 256 r.params.uuid.bytes a.typed.uuid-bytes))
+  run-uuid-bytes = rw run-uuid (below_all 256 (uuid_of r.params) a.typed.uuid-bytes)
 
 -- ---- a geometry and a UUID that some accepted run has
 

@@ -1,5 +1,6 @@
 -- Station cases read from the bytes that their runs leave: root inode and free count of the finished superblock.
 -- Assumes nothing.
+use Rattle.std.specs.Prelude.{Option, None}
 use mathlib.Core.Path.{◌≡◌, refl, ap, ◌∙◌}
 use mathlib.Core.Bool.{Bool, true, false, cond}
 use mathlib.Core.List.{List, [], ◌∷◌}
@@ -11,10 +12,8 @@ use lib.IntN.{pos}
 use lib.ListN.{length, get_or}
 use Rattle.arith.specs.Choice.{when}
 use Rattle.endian.proofs.Fields.{and_left, and_right}
-use Rattle.params.specs.declared.OptU64.TheVariants.{Absent as Absent64}
+use Rattle.params.specs.declared.Timestamp.{Timestamp}
 use Rattle.params.specs.Params.{all_features, no_options}
-use Rattle.params.specs.declared.OptTime.{OptTime}
-use Rattle.params.specs.declared.OptTime.TheVariants.{Absent}
 use Rattle.geometry.specs.declared.Geometry.{Geometry}
 use Rattle.geometry.specs.declared.Computed.{Computed}
 use Rattle.geometry.specs.Limits.{mib}
@@ -23,7 +22,6 @@ use Rattle.inode_time.specs.Time.{not_early, shifted, time_inside, time_number}
 use Rattle.geometry_places.specs.Answers.{root_ino}
 use Rattle.plan_totals.specs.Totals.{plans_number, free_count}
 use Rattle.sb_states.specs.States.{finished_state}
-use Rattle.request.specs.Parse.{request}
 use Rattle.request.specs.Defaults.{or_epoch, time_of}
 use Rattle.profile.proofs.Labels.{not-under}
 use Rattle.run.specs.Runs.{step_of, time_refusal, run_of}
@@ -59,10 +57,10 @@ unfolding time_inside not_early shifted
 epoch-stored true = refl
 epoch-stored false = refl
 
-absent-stored : (big : Bool) (o : OptTime) → o ≡ Absent → time_number big (or_epoch o).secs (or_epoch o).nsecs ≡ 0
-absent-stored big o e = ap (λ (t : OptTime). time_number big (or_epoch t).secs (or_epoch t).nsecs) e ∙ epoch-stored big
+absent-stored : (big : Bool) (o : Option Timestamp) → o ≡ None → time_number big (or_epoch o).secs (or_epoch o).nsecs ≡ 0
+absent-stored big o e = ap (λ (t : Option Timestamp). time_number big (or_epoch t).secs (or_epoch t).nsecs) e ∙ epoch-stored big
 
-module _ (c : StationCase) (root free : ℕ) (rest : List ℕ) (row : c.plans ≡ 0 ∷ root ∷ free ∷ rest) (pass : T (passes c)) (plain : c.options.time ≡ Absent) (typed : TypedRequest (request_of c)) where
+module _ (c : StationCase) (root free : ℕ) (rest : List ℕ) (row : c.plans ≡ 0 ∷ root ∷ free ∷ rest) (pass : T (passes c)) (plain : c.options.time ≡ None) (typed : TypedRequest (request_of c)) where
   abbrev step : Computed
   step = compute_def c.options c.device 512 512
 
@@ -106,13 +104,13 @@ passed n h = every stations n (station_refused no_options 0 0) h (and_left (all_
 -- K1: a disk of 1 GiB is accepted, and its superblock has root inode 128 and free count 245,724
 pub k1-accepted : AcceptedRun (request_of (station 0))
 unfolding stations
-k1-accepted = station-accepted (station 0) 128 245724 (16 ∷ 2 ∷ 1 ∷ []) refl (passed 0 (lit< tt)) refl (plain-typed all_features Absent64 false (1024 * mib) (lit< tt) (lit< tt))
+k1-accepted = station-accepted (station 0) 128 245724 (16 ∷ 2 ∷ 1 ∷ []) refl (passed 0 (lit< tt)) refl (plain-typed all_features None false (1024 * mib) (lit< tt) (lit< tt))
 
 pub k1-says : (root_field (left_in (run_of (request_of (station 0))) 0) ≡ 128) × (free_field (left_in (run_of (request_of (station 0))) 0) ≡ 245724)
 unfolding stations
-k1-says = station-says (station 0) 128 245724 (16 ∷ 2 ∷ 1 ∷ []) refl (passed 0 (lit< tt)) refl (plain-typed all_features Absent64 false (1024 * mib) (lit< tt) (lit< tt))
+k1-says = station-says (station 0) 128 245724 (16 ∷ 2 ∷ 1 ∷ []) refl (passed 0 (lit< tt)) refl (plain-typed all_features None false (1024 * mib) (lit< tt) (lit< tt))
 
 -- K2: one of 300 MiB has free count 60,380
 pub k2-says : free_field (left_in (run_of (request_of (station 2))) 0) ≡ 60380
 unfolding stations
-k2-says = (station-says (station 2) 128 60380 (16 ∷ 2 ∷ 1 ∷ []) refl (passed 2 (lit< tt)) refl (plain-typed all_features Absent64 false (300 * mib) (lit< tt) (lit< tt))).1
+k2-says = (station-says (station 2) 128 60380 (16 ∷ 2 ∷ 1 ∷ []) refl (passed 2 (lit< tt)) refl (plain-typed all_features None false (300 * mib) (lit< tt) (lit< tt))).1

@@ -4,7 +4,7 @@ use Rattle.std.specs.Prelude.{◌≡◌, List, ℕ, ◌^◌, ◌<◌, ℤ, pos, 
 use Rattle.geometry.specs.declared.Geometry.{Geometry}
 use Rattle.geometry_answers.specs.Answers.{TypedOptions}
 use Rattle.request.specs.declared.Request.{Request}
-use Rattle.request.specs.Defaults.{time_of, seed_of}
+use Rattle.request.specs.Defaults.{uuid_of, time_of, seed_of}
 use Rattle.run.specs.Runs.{run_number, run_of}
 
 -- a signed number fits 64 bits
@@ -18,8 +18,8 @@ pub record TypedRequest (r : Request) : Type 0 where
   pub device : r.device < 2 ^ 64
   pub logical : r.logical < 2 ^ 32
   pub physical : r.physical < 2 ^ 32
-  pub uuid-size : length r.params.uuid.bytes ≡ 16
-  pub uuid-bytes : (i : ℕ) → get_or r.params.uuid.bytes i 0 < 2 ^ 8
+  pub uuid-size : length (uuid_of r.params) ≡ 16
+  pub uuid-bytes : (i : ℕ) → get_or (uuid_of r.params) i 0 < 2 ^ 8
   pub seconds : Signed64 (time_of r.params).secs
   pub nanoseconds : (time_of r.params).nsecs < 2 ^ 32
   pub seed : seed_of r.params < 2 ^ 64

@@ -7,7 +7,7 @@
 ghost use Rattle.std.specs.Prelude.{◌≡◌};
 ghost use Rattle.list_apply.specs.Applying.{applying_begun, head_next, head_bytes_wanted, kept_of, piece_length, applying_wanted, idle_step, stopped_by, marked_step, input_ended, following_of, taken_up, waits_def, held_back, released, accepted_by, put_piece, in_limit, fed_record, fed_decoded, applying_fed_head, fed_bytes, applying_fed};
 
-use arith::numbers::{min_u64, minus};
+use arith::numbers::min_u64;
 use list_read::{FLUSH, MORE, ZEROS, decode, ended, next, within};
 use list_records::{HEAD_SIZE, MARK_SIZE};
 
@@ -299,7 +299,7 @@ fn accepted_by(a: Applying, flushes: u8, kind: u8, at: u64, len: u64) -> Step
 fn put_piece(a: Applying, n: usize) -> Step
     ensures { result ≡ put_piece a n }
 {
-    let left = minus(a.left, n as u64);
+    let left = a.left.saturating_sub(n as u64);
     Step {
         applying: Applying {
             stop: GOES_ON,

@@ -3,19 +3,19 @@
 use mathlib.Core.Path.{◌≡◌, refl, sym, ap, ap₂, ◌∙◌}
 use mathlib.Core.Bool.{Bool, true, false, true≢false, cond, ◌&&◌}
 use mathlib.Core.List.{List, [], ◌∷◌, ◌++◌, append_assoc, append-nil}
-use Prim.Native.Nat.{ℕ, zero, suc, ◌+◌, ◌-◌, ◌%◌, ◌^◌, ◌≤◌, ◌<◌}
+use Prim.Native.Nat.{ℕ, ◌+◌, ◌-◌, ◌%◌, ◌^◌, ◌≤◌, ◌<◌}
 use native.Mathlib.Omega.{arith}
 use native.Mathlib.Nat.{add-zero}
 use lib.Dec.{leb, ltb, eqb}
 use lib.ListN.{length, take, drop, length-append}
-use lib.Seq.{length-take-le, take_at, drop_at}
+use lib.Seq.{length-take-le, take_at}
 use borrow.Author.Tests.{le-leb}
 use Rattle.endian.specs.Bytes.{be_at}
 use Rattle.list_records.specs.Records.{Record, WZ, Wb, FL, All, by_kind, record_bytes, list_bytes}
 use Rattle.list_records.proofs.Sizes.{zeros-bytes, block-bytes}
 use Rattle.list_records.specs.Device.{Device, at, len, byte, step_record, applied}
 use Rattle.list_records.proofs.Applying.{step-miss, applied-append}
-use Rattle.list_read.specs.Records.{flush, zeros_kind, bytes, head, head_incomplete, write_head, decode_def, within_def, head_said, payload_of, RecordFits}
+use Rattle.list_read.specs.Records.{flush, zeros_kind, bytes, head, head_incomplete, write_head, decode_def, within_def, head_said, RecordFits}
 use Rattle.list_read.specs.Flushes.{flushes_passed, next_def, ended_def, ruled, WholeList}
 use Rattle.list_read.specs.Whole.{AllFit}
 use Rattle.list_read.proofs.Heads.{within_end}

@@ -11,7 +11,7 @@ use lib.ListN.{length, take, drop, get_or, length-drop}
 use lib.Seq.{length-take-le, take-append-le, drop-append-le, take-take, get_or-take, get_or-drop}
 use borrow.Author.Tests.{eqb-true, eqb-false, leb-true, leb-false, ltb-true, ltb-false, ne_eqb, le-ltb}
 use Rattle.seqs.specs.Lists.{turns}
-use Rattle.list_records.specs.Records.{Record, WZ, Wb, FL}
+use Rattle.list_records.specs.Records.{Record, WZ, Wb}
 use Rattle.list_records.specs.Device.{Device, at, len, byte, step_record, applied}
 use Rattle.list_records.proofs.Applying.{step-hit, step-miss}
 use Rattle.list_read.specs.Records.{zeros_kind, bytes}

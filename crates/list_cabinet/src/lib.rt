@@ -6,7 +6,6 @@ ghost use Rattle.std.specs.Prelude.{◌≡◌};
 ghost use Rattle.list_cabinet.specs.Cabinet.{answer_with, taken_by};
 ghost use Rattle.list_cabinet.specs.Entering.{cabinet_opened, cabinet_number, entered};
 
-use arith::numbers::minus;
 use list_size::{ListSize, list_size, refused};
 use refusals::{AREA_TOO_SMALL, TOO_MANY_DISKS, first};
 
@@ -102,8 +101,8 @@ pub fn enter(c: Cabinet, input: &[u8]) -> Entered
     let taken = taken_by(size);
     let cabinet = Cabinet {
         number: c.number,
-        left: minus(c.left, taken),
-        coming: minus(c.coming, 1),
+        left: c.left.saturating_sub(taken),
+        coming: c.coming.saturating_sub(1),
     };
     Entered { size, cabinet }
 }

@@ -6,7 +6,6 @@ ghost use Rattle.list_lengths.specs.Pieces.{listed_length, part_length, format_n
 
 pub mod parts; // parts.rt: how long the pieces and their parts are
 
-use arith::numbers::minus;
 use geometry::Geometry;
 use inode_time::encode_time;
 use parts::{length_of, part_of};
@@ -72,7 +71,7 @@ fn place_number(run: Run, k: u64) -> u32
         return n;
     }
     let g = run.geometry;
-    if minus(k, 2) <= g.agcount {
+    if k.saturating_sub(2) <= g.agcount {
         return 0;
     }
     refusals::NO_PLACE

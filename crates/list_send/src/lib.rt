@@ -5,7 +5,7 @@
 ghost use Rattle.std.specs.Prelude.{◌≡◌};
 ghost use Rattle.list_send.specs.Sending.{sending_begun, next_piece, sending_wanted, longest_piece, unsent, sending_stepped, Turn};
 
-use arith::numbers::{max_u64, minus};
+use arith::numbers::max_u64;
 use list_lengths::{Counted, piece_count, piece_length};
 use list_write::write_piece;
 use refusals::{NO_PLACE, WRONG_LENGTH};
@@ -58,7 +58,7 @@ pub fn begin(input: &[u8]) -> Sending
 fn next_of(s: Sending) -> u64
     ensures { result ≡ next_piece s }
 {
-    minus(s.count, s.left)
+    s.count.saturating_sub(s.left)
 }
 
 // 0, or why nothing is sent: 28, 1 to 26.
@@ -102,7 +102,7 @@ pub fn longest(s: Sending) -> u64
     ensures { result ≡ longest_piece s }
 {
     let head = piece_length(s.run, 1);
-    let root = piece_length(s.run, minus(s.count, 2));
+    let root = piece_length(s.run, s.count.saturating_sub(2));
     max_u64(head.value, root.value)
 }
 
@@ -115,7 +115,7 @@ fn stepped_on(s: Sending) -> Sending
         run,
         device: s.device,
         count: s.count,
-        left: minus(s.left, 1),
+        left: s.left.saturating_sub(1),
     }
 }
 

@@ -5,12 +5,12 @@ use mathlib.Core.List.{List, [], ◌∷◌, ◌++◌, append_assoc}
 use Prim.Native.Nat.{ℕ, suc, ◌+◌, ◌*◌, ◌-◌, ◌<◌, ◌≤◌, ◌^◌}
 use native.Mathlib.Omega.{arith}
 use native.Mathlib.Nat.{mul-le-mul_right}
-use lib.ListN.{length, get_or, set, take, drop, length-drop}
-use lib.Seq.{length-take-le, take_all, take-suc, drop-drop}
+use lib.ListN.{length, take, drop, length-drop}
+use lib.Seq.{length-take-le, drop-drop}
 use native.Mathlib.Numerals.{add-one}
 use Rattle.endian.specs.Answer.{Put}
 use Rattle.endian.specs.Bytes.{be_bytes, patch}
-use Rattle.endian.proofs.Laws.{length-be, length-patch, patch-append, put_in}
+use Rattle.endian.proofs.Laws.{length-be, length-patch, patch-append, patch-split, put_in}
 use Rattle.structs.proofs.Reading.{patch-apart}
 use Rattle.list_records.specs.Records.{Record, WZ, Wb, FL, record_bytes, list_bytes, block_records}
 use Rattle.list_records.proofs.Sizes.{block-bytes}
@@ -54,22 +54,11 @@ head_done mark offset n at xs ys zs ws h p q r =
     (b ∙ ap (λ (l : List ℕ). patch (at + 2) (be_bytes 8 offset) l) (a ∙ ap (λ (i : ℕ). patch i (be_bytes 8 n) xs) (sym k)) ∙ sym (patch-append (at + 2) (be_bytes 8 offset) (be_bytes 8 n) xs) ∙ ap (λ (i : ℕ). patch i (be_bytes 8 offset ++ be_bytes 8 n) xs) (sym m))
     ∙ sym (patch-append at (be_bytes 2 mark) (be_bytes 8 offset ++ be_bytes 8 n) xs)
 
--- the next byte of a copy
-pub copy-turn : (at i : ℕ) (src xs ys : List ℕ) → i < length src → ys ≡ patch at (take i src) xs → set ys (at + i) (get_or src i 0) ≡ patch at (take (i + 1) src) xs
-unfolding patch
-copy-turn at i src xs ys h e =
-    let y = get_or src i 0 in
-    let l : length (take i src) ≡ i = length-take-le i src (omega arith) in
-    let k : at + length (take i src) ≡ at + i = ap (λ (n : ℕ). at + n) l in
-    ap (λ (v : List ℕ). set v (at + i) y) e
-    ∙ sym (patch-apart at (at + i) (take i src) (y ∷ []) xs (omega arith))
-    ∙ ap (λ (n : ℕ). patch at (take i src) (patch n (y ∷ []) xs)) (sym k)
-    ∙ sym (patch-append at (take i src) (y ∷ []) xs)
-    ∙ ap (λ (v : List ℕ). patch at v xs) (sym (take-suc src i 0 h))
-    ∙ ap (λ (n : ℕ). patch at (take n src) xs) (sym (add-one i))
-
-pub copy-all : (at i : ℕ) (src xs ys : List ℕ) → length src ≤ i → ys ≡ patch at (take i src) xs → ys ≡ patch at src xs
-copy-all at i src xs ys h e = e ∙ ap (λ (v : List ℕ). patch at v xs) (take_all i src h)
+-- the bytes of `src` in place of those at `at`
+pub copied : (at : ℕ) (src xs : List ℕ) → at + length src ≤ length xs → take at xs ++ (src ++ drop (at + length src - at) (drop at xs)) ≡ patch at src xs
+copied at src xs h =
+    let whole : at + length src - at ≡ length src = omega arith in
+    rw (whole, drop-drop) (sym (patch-split at src xs h))
 
 -- a block and the head before it
 pub block-done : (offset at : ℕ) (src xs ys zs : List ℕ)

@@ -9,7 +9,7 @@ ghost use Rattle.list_lengths.specs.Pieces.{listed_length, part_length, format_n
 ghost use Rattle.list_write.specs.Writing.{part_bytes, zero_heads};
 
 use crate::split::{put_block, put_blocks, put_head};
-use arith::numbers::{min_u64, minus, round_down};
+use arith::numbers::{min_u64, round_down};
 use geometry_counts::inodes::root_chunk_of;
 use list_lengths::parts::sizes_of;
 use list_records::{FLUSH_MARK, HEAD_SIZE, MARK_SIZE, ZEROS_MARK};
@@ -32,9 +32,9 @@ fn put_zeros(bs: usize, device: u64, log: u64, n: u64, buf: &mut [u8])
     ensures { buf.new ≡ patch 0 (zero_heads bs device log n) buf.old }
 {
     let end = round_down(device, bs as u64);
-    let tail = round_down(minus(end, WHACK_SIZE), bs as u64);
+    let tail = round_down(end.saturating_sub(WHACK_SIZE), bs as u64);
     put_head(ZEROS_MARK, log, n, 2 * HEAD_SIZE, buf);
-    put_head(ZEROS_MARK, tail, minus(end, tail), HEAD_SIZE, buf);
+    put_head(ZEROS_MARK, tail, end.saturating_sub(tail), HEAD_SIZE, buf);
     put_head(ZEROS_MARK, 0, min_u64(WHACK_SIZE, end), 0, buf);
 }
 

@@ -22,11 +22,7 @@ fn copy(src: &[u8], at: usize, buf: &mut [u8])
     requires { at + length src.now ≤ length buf.old }
     ensures { buf.new ≡ patch at src.now buf.old }
 {
-    let mut i = 0;
-    while i < src.len() {
-        buf[at + i] = src[i];
-        i += 1;
-    }
+    buf[at..at + src.len()].copy_from_slice(src);
 }
 
 // A block with its head.
@@ -60,9 +56,7 @@ pub(crate) fn put_blocks(bs: usize, offset: u64, n: usize, src: &[u8], at: usize
         × (at + n * (record_head_size + bs) ≤ length buf.old) }
     ensures { buf.new ≡ patch at (list_bytes (blocks·of bs offset n src.now)) buf.old }
 {
-    let mut j = 0;
-    while j < n {
+    for j in 0..n {
         put_nth(bs, offset, src, j, at, buf);
-        j += 1;
     }
 }

@@ -15,7 +15,7 @@ use Rattle.geometry_layout.specs.Places.{fsb_of, ino_of, root_chunk_of}
 use Rattle.geometry_layout.specs.Bounds.{Bounds}
 use Rattle.geometry_layout.proofs.Bounding.{answer-bounds}
 use Rattle.geometry_layout.proofs.Inside.{blocks-least, fitting}
-use Rattle.geometry_counts.specs.Known.{known64, value64}
+use Rattle.geometry_counts.specs.Known.{known, value_in}
 use Rattle.geometry_places.specs.Answers.{root_chunk, root_ino, initial_fdblocks, unless64}
 use Rattle.geometry_places.proofs.Room.{some-inode}
 use Rattle.plan_totals.specs.Totals.{plans_number, free_count, free_count_answer}
@@ -33,15 +33,15 @@ module _ (g : Geometry) (l : length g.label ≡ 12) (h : plans_number g ≡ 0) w
   pub some-group : 0 < g.agcount
   some-group = let c = sized.groups.count-least in omega arith
 
-  pub root-value : value64 (known64 (is_answer g) (root_ino g)) ≡ root_ino g
-  unfolding known64
+  pub root-value : value_in (known (is_answer g) (root_ino g)) ≡ root_ino g
+  unfolding known
   root-value = rw answer
 
-  pub initial-value : value64 (known64 (is_answer g) (initial_fdblocks g)) ≡ initial_fdblocks g
-  unfolding known64
+  pub initial-value : value_in (known (is_answer g) (initial_fdblocks g)) ≡ initial_fdblocks g
+  unfolding known
   initial-value = rw answer
 
-  pub free-value : value64 (free_count_answer g) ≡ free_count g
+  pub free-value : value_in (free_count_answer g) ≡ free_count g
   unfolding free_count_answer unless64
   free-value = rw h
 

@@ -2,14 +2,13 @@
 #![tactic(auto)]
 
 ghost use Rattle.std.specs.Prelude.{◌≡◌, ◌+◌, ◌<◌, ◌^◌, leb};
-ghost use Rattle.geometry_counts.specs.Known.{value64};
+ghost use Rattle.geometry_counts.specs.Known.{value_in};
 ghost use Rattle.arith.specs.Choice.{when};
 ghost use Rattle.plan_totals.specs.Totals.{plans_number, free_count};
 ghost use Rattle.geometry_places.specs.Answers.{root_ino};
 ghost use Rattle.sb_states.specs.States.{secondary_with, primary_with, names_root, secondary_state, state_refused, state_number, stated, finished_answer};
 
 use geometry::Geometry;
-use geometry_counts::Value64;
 use geometry_places::fixed::{initial_fdblocks, rootino};
 use plan_summary::{free_count, plans_number};
 use sb::SbState;
@@ -25,12 +24,12 @@ pub struct Stated {
     pub state: SbState,
 }
 
-fn value_of(v: Value64) -> u64
-    ensures { result ≡ value64 v }
+fn value_of(v: Result<u64, u32>) -> u64
+    ensures { result ≡ value_in v }
 {
     match v {
-        Value64::Of(n) => n,
-        Value64::Refused(n) => 0,
+        Ok(n) => n,
+        Err(n) => 0,
     }
 }
 

@@ -1,9 +1,7 @@
 -- The station cases as one table: options, device size, what the geometry step answers, and what planning every group answers.
 -- Assumes nothing.
-use Rattle.std.specs.Prelude.{Bool, true, false, ◌&&◌, cond, List, [], ◌∷◌, ◌++◌, ℕ, zero, suc, ◌+◌, ◌*◌, eqb, replicate}
+use Rattle.std.specs.Prelude.{Bool, true, false, ◌&&◌, cond, List, [], ◌∷◌, ◌++◌, ℕ, zero, suc, ◌+◌, ◌*◌, eqb, replicate, Option, Some, None}
 use Rattle.params.specs.declared.Features.{Features}
-use Rattle.params.specs.declared.OptU64.{OptU64}
-use Rattle.params.specs.declared.OptU64.TheVariants.{Absent, Given}
 use Rattle.params.specs.declared.Params.{Params}
 use Rattle.params.specs.Params.{no_options, with_sector_size, with_agcount, with_agsize, with_features, with_roomy}
 use Rattle.geometry.specs.declared.Geometry.{Geometry}
@@ -43,9 +41,9 @@ unfoldable pub shown_step : Computed → List ℕ
 shown_step r = cond (eqb r.number 0) (shown_geometry r.geometry) (r.number ∷ [])
 
 -- where the chunk is, 0 for none
-abbrev pub chunk_start : OptU64 → ℕ
-chunk_start Absent = 0
-chunk_start (Given at) = at
+abbrev pub chunk_start : Option ℕ → ℕ
+chunk_start None = 0
+chunk_start (Some at) = at
 
 abbrev pub plan_in : Geometry → ℕ → AgPlan
 plan_in g k = (planned g k).plan

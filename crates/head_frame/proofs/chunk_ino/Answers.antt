@@ -6,12 +6,12 @@ use Rattle.head_frame.proofs.chunk_ino.Goals as goal
 
 pub first_ino-requires : goal.first_ino-requires
 unfolding chunk_ino
-first_ino-requires c = (c.requires.0, let h : chunk_ino c.args.log c.args.chunk < 2 ^ 32 = c.requires.1 in rw c.in-Given.is at h)
+first_ino-requires c = (c.requires.0, let h : chunk_ino c.args.log c.args.chunk < 2 ^ 32 = c.requires.1 in rw c.in-Some.is at h)
 
-pub returns-in-Absent : goal.returns-in-Absent
+pub returns-in-None : goal.returns-in-None
 unfolding chunk_ino
-returns-in-Absent c = cc
+returns-in-None c = cc
 
-pub returns-in-Given : goal.returns-in-Given
+pub returns-in-Some : goal.returns-in-Some
 unfolding chunk_ino
-returns-in-Given c = cc
+returns-in-Some c = cc

@@ -3,10 +3,10 @@
 use Rattle.head_frame.specs.Frames.{has_chunk}
 use Rattle.head_frame.proofs.has_chunk.Goals as goal
 
-pub returns-in-Absent : goal.returns-in-Absent
+pub returns-in-None : goal.returns-in-None
 unfolding has_chunk
-returns-in-Absent c = cc
+returns-in-None c = cc
 
-pub returns-in-Given : goal.returns-in-Given
+pub returns-in-Some : goal.returns-in-Some
 unfolding has_chunk
-returns-in-Given c = cc
+returns-in-Some c = cc

@@ -4,4 +4,4 @@ use Rattle.list_apply.proofs.Steps.{piece-put}
 use Rattle.list_apply.proofs.put_piece.Goals as goal
 
 pub returns : goal.returns
-returns c = piece-put _ _ _ _ _ c.minus-left.ensures c.following_of.ensures c.wrapping_add_u64.ensures.value
+returns c = piece-put _ _ _ _ _ c.saturating_sub-left.ensures c.following_of.ensures c.wrapping_add_u64.ensures.value

@@ -10,8 +10,8 @@ pub returns-then-n-ne0 : goal.returns-then-n-ne0
 unfolding piece_number
 returns-then-n-ne0 c = or-first _ _ _ c.format_number-n.ensures c.if-n-ne0.true
 
-pub returns-then-minus-g : goal.returns-then-minus-g
-returns-then-minus-g c = place-there c.args.run c.args.k (sym c.format_number-n.ensures ∙ c.if-n-ne0.false) (rw c.minus.ensures at c.if-minus-g.true)
+pub returns-then-saturating_sub-g : goal.returns-then-saturating_sub-g
+returns-then-saturating_sub-g c = place-there c.args.run c.args.k (sym c.format_number-n.ensures ∙ c.if-n-ne0.false) (rw c.saturating_sub.ensures at c.if-saturating_sub-g.true)
 
 pub returns : goal.returns
-returns c = place_none c.args.run c.args.k (sym c.format_number-n.ensures ∙ c.if-n-ne0.false) (rw c.minus.ensures at c.if-minus-g.false)
+returns c = place_none c.args.run c.args.k (sym c.format_number-n.ensures ∙ c.if-n-ne0.false) (rw c.saturating_sub.ensures at c.if-saturating_sub-g.false)

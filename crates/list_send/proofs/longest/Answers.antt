@@ -5,4 +5,4 @@ use Rattle.list_send.proofs.longest.Goals as goal
 
 pub returns : goal.returns
 unfolding longest_piece
-returns c = rw (c.max_u64.ensures, c.piece_length-root.ensures, c.minus.ensures, c.piece_length-head.ensures)
+returns c = rw (c.max_u64.ensures, c.piece_length-root.ensures, c.saturating_sub.ensures, c.piece_length-head.ensures)

@@ -3,4 +3,4 @@
 use Rattle.list_send.proofs.next_of.Goals as goal
 
 pub returns : goal.returns
-returns c = c.minus.ensures
+returns c = c.saturating_sub.ensures

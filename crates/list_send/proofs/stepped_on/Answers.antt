@@ -3,4 +3,4 @@
 use Rattle.list_send.proofs.stepped_on.Goals as goal
 
 pub returns : goal.returns
-returns c = rw c.minus.ensures
+returns c = rw c.saturating_sub.ensures

@@ -6,4 +6,4 @@ use Rattle.group_bytes.proofs.logs.log_unit.Goals as goal
 
 pub returns : goal.returns
 unfolding log_unit
-returns c = c.clear_sunit.ensures ∙ rw (c.pick_u32-sector.ensures, c.logsunit_of-stored.ensures, c.lsunit_of.ensures) refl
+returns c = c.clear_sunit.ensures ∙ rw (c.pick-sector.ensures, c.logsunit_of-stored.ensures, c.lsunit_of.ensures) refl
