@@ -1,11 +1,10 @@
 // The scan station profile: whether it allows a geometry with a label, and the label of a disk as it judges it.
 #![tactic(auto)]
 
-ghost use Rattle.std.specs.Prelude.{◌≡◌, ◌||◌, ◌≤◌, length, take};
+ghost use Rattle.std.specs.Prelude.{◌≡◌, ◌≤◌, length, take};
 ghost use Rattle.profile.specs.Rules.{allowed_sector, all_on, allowed_groups, label_byte, label_bytes, allowed_label, in_profile};
 ghost use Rattle.profile.specs.Rules.{profile_number, trimmed, label_on};
 
-use arith::choice::{both, pick_u32};
 use geometry::Geometry;
 use params::{Features, Label};
 use refusals::NOT_IN_PROFILE;
@@ -26,43 +25,34 @@ const MOST_GROUPS: u64 = 64;
 // Bytes of a label's field.
 const LABEL_ROOM: usize = 12;
 
-fn either(a: bool, b: bool) -> bool
-    ensures { result ≡ (a || b) }
-{
-    if a { true } else { b }
-}
-
+#[tactic(auto, unfolding(crate::specs::Rules::allowed_sector))]
 fn is_sector(bytes: u32) -> bool
     ensures { result ≡ allowed_sector bytes }
 {
-    either(bytes == SMALL_SECTOR, bytes == LARGE_SECTOR)
+    bytes == SMALL_SECTOR || bytes == LARGE_SECTOR
 }
 
 // Whether all seven features are on.
+#[tactic(auto, unfolding(crate::specs::Rules::all_on))]
 fn all_on(f: Features) -> bool
     ensures { result ≡ all_on f }
 {
-    let ok = both(f.finobt, f.rmapbt);
-    let ok = both(ok, f.reflink);
-    let ok = both(ok, f.inobtcount);
-    let ok = both(ok, f.bigtime);
-    let ok = both(ok, f.nrext64);
-    both(ok, f.sparse)
+    f.finobt && f.rmapbt && f.reflink && f.inobtcount && f.bigtime && f.nrext64 && f.sparse
 }
 
+#[tactic(auto, unfolding(crate::specs::Rules::allowed_groups))]
 fn is_few(groups: u64) -> bool
     ensures { result ≡ allowed_groups groups }
 {
-    both(FEWEST_GROUPS <= groups, groups <= MOST_GROUPS)
+    (FEWEST_GROUPS..=MOST_GROUPS).contains(&groups)
 }
 
 // A capital letter, a digit or a hyphen.
+#[tactic(auto, unfolding(crate::specs::Rules::label_byte))]
 fn is_label_byte(b: u8) -> bool
     ensures { result ≡ label_byte b }
 {
-    let digit = both(b'0' <= b, b <= b'9');
-    let letter = both(b'A' <= b, b <= b'Z');
-    either(letter, either(digit, b == b'-'))
+    matches!(b, b'A'..=b'Z' | b'0'..=b'9' | b'-')
 }
 
 // Whether the first `n` bytes are all allowed.
@@ -70,68 +60,59 @@ fn all_allowed(bytes: [u8; 12], n: usize) -> bool
     requires { n ≤ 12 }
     ensures { result ≡ label_bytes (take n bytes) }
 {
-    let mut i: usize = 0;
-    while i < n {
-        if !is_label_byte(bytes[i]) {
-            return false;
-        }
-        i += 1;
-    }
-    true
+    bytes[..n].iter().all(|b| is_label_byte(*b))
 }
 
+#[tactic(auto, unfolding(crate::specs::Rules::allowed_label))]
 fn is_label(label: Label) -> bool
     ensures { result ≡ allowed_label label }
 {
-    let bytes = label.bytes;
-    if label.length < 1 {
-        return false;
-    }
-    if LABEL_ROOM < label.length {
-        return false;
-    }
-    all_allowed(bytes, label.length)
+    (1..=LABEL_ROOM).contains(&label.length) && all_allowed(label.bytes, label.length)
 }
 
 // Whether the profile allows the geometry with the label.
+#[tactic(auto, unfolding(crate::specs::Rules::in_profile))]
 pub fn in_profile(g: Geometry, label: Label) -> bool
     ensures { result ≡ in_profile g label }
 {
-    let f = g.features;
-    let ok = both(g.blocksize == BLOCK, is_sector(g.sectsize));
-    let ok = both(ok, g.inodesize == INODE);
-    let ok = both(ok, all_on(f));
-    let ok = both(ok, is_few(g.agcount));
-    both(ok, is_label(label))
+    g.blocksize == BLOCK
+        && is_sector(g.sectsize)
+        && g.inodesize == INODE
+        && all_on(g.features)
+        && is_few(g.agcount)
+        && is_label(label)
 }
 
 // 37 under the profile where a rule fails, else 0.
+#[tactic(auto, unfolding(arith::specs::Choice::when))]
 pub fn profile_number(under: bool, g: Geometry, label: Label) -> u32
     ensures { result ≡ profile_number under g label }
 {
-    let outside = !in_profile(g, label);
-    pick_u32(both(under, outside), NOT_IN_PROFILE, 0)
+    if under && !in_profile(g, label) {
+        NOT_IN_PROFILE
+    } else {
+        0
+    }
 }
 
 // How many bytes stand before the zeros at the end.
 fn end_of(bytes: [u8; 12]) -> usize
     ensures { result ≡ length (trimmed bytes) }
 {
-    let mut n: usize = 12;
-    while 0 < n {
-        if bytes[n - 1] != 0 {
-            return n;
-        }
-        n -= 1;
+    match bytes.iter().rposition(|b| *b != 0) {
+        Some(last) => last + 1,
+        None => 0,
     }
-    0
 }
 
 // The label that a disk has: its field without the zeros at its end.
+#[tactic(auto, unfolding(crate::specs::Rules::label_on))]
 pub fn label_on(g: Geometry) -> Label
     ensures { result ≡ label_on g }
 {
     let bytes = g.label;
-    let length = end_of(bytes);
-    Label { length, bytes }
+    Label {
+        length: end_of(bytes),
+        bytes,
+    }
 }

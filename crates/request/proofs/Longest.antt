@@ -1,5 +1,6 @@
 -- No well-formed input is longer than the longest: each key stands once, and its record has a greatest length.
 -- Assumes nothing.
+use Rattle.std.specs.Prelude.{is_some}
 use mathlib.Core.Path.{◌≡◌, refl, sym, ap, ◌∙◌}
 use mathlib.Core.Bool.{Bool, true, false, not, ◌&&◌}
 use mathlib.Core.List.{List, [], ◌∷◌, map}
@@ -9,7 +10,6 @@ use lib.Dec.{ltb, eqb}
 use lib.ListN.{length, get_or, set, get_or-map}
 use lib.Seq.{get_or-set_other}
 use borrow.Author.Tests.{eqb-false, ltb-true, ltb-false, le-ltb, not-true}
-use Rattle.params.specs.Options.{given64}
 use Rattle.request_input.specs.declared.Record.{Record}
 use Rattle.request_input.specs.Records.{option, option_bits, option_fits, record_known, record_then, record_at, split_records, records, value_if_found, value_with, sound, starts_with_device, well_formed}
 use Rattle.request_input.proofs.Marks.{record-all, record-ends}
@@ -31,12 +31,12 @@ sum-set (w ∷ ws) zero = omega arith
 sum-set (w ∷ ws) (suc k) = let e = sum-set ws k in omega arith
 
 -- a key that no record has counts for nothing
-total-set : (ws : List ℕ) (k : ℕ) (rs : List Record) → given64 (value_with k rs) ≡ false → total ws rs ≡ total (set ws k 0) rs
+total-set : (ws : List ℕ) (k : ℕ) (rs : List Record) → is_some (value_with k rs) ≡ false → total ws rs ≡ total (set ws k 0) rs
 unfolding value_with
 total-set ws k [] e = refl
 total-set ws k (r ∷ rs) e = go (eqb k r.key) refl e (total-set ws k rs)
   where
-    go : (t : Bool) → eqb k r.key ≡ t → given64 (value_if_found t r.value (value_with k rs)) ≡ false → (given64 (value_with k rs) ≡ false → total ws rs ≡ total (set ws k 0) rs) → get_or ws r.key 0 + total ws rs ≡ get_or (set ws k 0) r.key 0 + total (set ws k 0) rs
+    go : (t : Bool) → eqb k r.key ≡ t → is_some (value_if_found t r.value (value_with k rs)) ≡ false → (is_some (value_with k rs) ≡ false → total ws rs ≡ total (set ws k 0) rs) → get_or ws r.key 0 + total ws rs ≡ get_or (set ws k 0) r.key 0 + total (set ws k 0) rs
     go true d e f = absurd (never (sym e))
     go false d e f =
         let s = get_or-set_other ws k r.key 0 0 (λ x. eqb-false k r.key d (sym x)) in
@@ -47,9 +47,9 @@ unfolding sound
 total-most ws [] e = omega arith
 total-most ws (r ∷ rs) e =
     let k = r.key in
-    let l = other (record_known k r.value) (not (given64 (value_with k rs)) && sound rs) e in
-    let n = not-true (given64 (value_with k rs)) (first (not (given64 (value_with k rs))) (sound rs) l) in
-    let h = total-most (set ws k 0) rs (other (not (given64 (value_with k rs))) (sound rs) l) in
+    let l = other (record_known k r.value) (not (is_some (value_with k rs)) && sound rs) e in
+    let n = not-true (is_some (value_with k rs)) (first (not (is_some (value_with k rs))) (sound rs) l) in
+    let h = total-most (set ws k 0) rs (other (not (is_some (value_with k rs))) (sound rs) l) in
     omega (arith, sum-set ws k, total-set ws k rs n)
 
 -- ---- the greatest length of each key's record
@@ -93,10 +93,10 @@ split-length xs bytes (suc n) at h e = go (ltb at (length xs)) refl e (split-len
         → length xs ≤ at + total most (record_then t (record_at at xs) (split_records n (record_at at xs).next xs))
     go true d e f =
         let r = record_at at xs in
-        let l = other (record_known r.key r.value) (not (given64 (value_with r.key (split_records n r.next xs))) && sound (split_records n r.next xs)) e in
+        let l = other (record_known r.key r.value) (not (is_some (value_with r.key (split_records n r.next xs))) && sound (split_records n r.next xs)) e in
         let g = record-ends at xs (ltb-true at (length xs) d) in
         let b = bounded at xs bytes (first (record_known r.key r.value) _ e) in
-        let t = f (omega arith) (other (not (given64 (value_with r.key (split_records n r.next xs)))) (sound (split_records n r.next xs)) l) in
+        let t = f (omega arith) (other (not (is_some (value_with r.key (split_records n r.next xs)))) (sound (split_records n r.next xs)) l) in
         omega arith
     go false d e f = let g = ltb-false at (length xs) d in omega arith
 

@@ -4,11 +4,13 @@ use mathlib.Core.Path.{◌≡◌, refl, ap, ◌∙◌}
 use Prim.Native.Nat.{ℕ, zero, suc, ◌-◌, ◌^◌, ◌≤◌, ◌<◌}
 use native.Mathlib.Omega.{arith}
 use native.Mathlib.Nat.{zero-add}
+use mathlib.Core.Bool.{Bool, true, false}
+use lib.Dec.{ltb}
 use lib.IntN.{pos, negsuc, ◌-ℤ◌}
 use mir.Syntax.{w64}
-use mir.Val.{SFits, to_z, of_z}
-use mir.ValLaws.{to_z_pos, to_z-of_z}
-use borrow.Author.Tests.{lt-ltb, le-ltb}
+use mir.Val.{SFits, to_z}
+use mir.ValLaws.{to_z_pos}
+use borrow.Author.Tests.{lt-ltb, ltb-true}
 use Rattle.request.specs.Options.{signed}
 
 pub not_negative : (n : ℕ) → n < 2 ^ 63 → to_z w64 n ≡ signed n
@@ -31,10 +33,11 @@ module _ (n : ℕ) (high : 2 ^ 63 ≤ n) (fits : n < 2 ^ 64) where
   pub negative_fits : SFits w64 (negsuc 0 -ℤ to_z w64 (18446744073709551615 - n))
   negative_fits = rw (read (18446744073709551615 - n) rest) (record { sfits = rest })
 
-  pub negative : to_z w64 (of_z w64 (negsuc 0 -ℤ to_z w64 (18446744073709551615 - n))) ≡ signed n
-  unfolding signed
-  negative =
-      let e : 18446744073709551615 - n ≡ 18446744073709551616 - suc n = omega arith in
-      to_z-of_z w64 (negsuc 0 -ℤ to_z w64 (18446744073709551615 - n)) negative_fits
-      ∙ read (18446744073709551615 - n) rest
-      ∙ rw (le-ltb n (2 ^ 63) high, lt-ltb n (2 ^ 64) fits) (ap negsuc e)
+-- whichever it is
+pub in_twos_complement : (n : ℕ) → n < 2 ^ 64 → to_z w64 n ≡ signed n
+unfolding signed
+in_twos_complement n fits = go (ltb n (2 ^ 63)) refl
+  where
+    go : (t : Bool) → ltb n (2 ^ 63) ≡ t → to_z w64 n ≡ signed n
+    go true e = not_negative n (ltb-true n (2 ^ 63) e)
+    go false e = rw (e, lt-ltb n (2 ^ 64) fits) refl

@@ -1,5 +1,6 @@
 -- What Holds of the values that are looked up in a well-formed input: they fit their types, and lie inside.
 -- Assumes nothing.
+use Rattle.std.specs.Prelude.{Option, Some, None, is_some}
 use mathlib.Core.Path.{◌≡◌, refl}
 use mathlib.Core.Bool.{Bool, true, false, not, ◌&&◌}
 use mathlib.Core.List.{List, [], ◌∷◌}
@@ -8,9 +9,6 @@ use native.Mathlib.Omega.{arith}
 use lib.Dec.{ltb, eqb}
 use lib.ListN.{length, get_or}
 use borrow.Author.Tests.{eqb-true, ltb-true, le-ltb}
-use Rattle.params.specs.Options.{given64}
-use Rattle.params.specs.declared.OptU64.{OptU64}
-use Rattle.params.specs.declared.OptU64.TheVariants.{Absent, Given}
 use Rattle.request_input.specs.declared.Record.{Record}
 use Rattle.request_input.specs.Records.{device, label, uuid, option, option_bits, option_fits, record_known, record_then, record_at, split_records, records, value_if_found, value_with, sound, starts_with_device, well_formed}
 use Rattle.request.specs.Options.{Holds, OptBelow, LabelInside, UuidInside}
@@ -47,11 +45,11 @@ pub sound-each : (rs : List Record) → sound rs ≡ true → Each (λ (key valu
 unfolding sound
 sound-each [] e = tt
 sound-each (r ∷ rs) e =
-    (first (record_known r.key r.value) _ e, sound-each rs (other (not (given64 (value_with r.key rs))) (sound rs) (other (record_known r.key r.value) _ e)))
+    (first (record_known r.key r.value) _ e, sound-each rs (other (not (is_some (value_with r.key rs))) (sound rs) (other (record_known r.key r.value) _ e)))
 
-weaken : (P Q : ℕ → Type 0) (o : OptU64) → ((n : ℕ) → P n → Q n) → Holds P o → Holds Q o
-weaken P Q Absent f h = tt
-weaken P Q (Given n) f h = f n h
+weaken : (P Q : ℕ → Type 0) (o : Option ℕ) → ((n : ℕ) → P n → Q n) → Holds P o → Holds Q o
+weaken P Q None f h = tt
+weaken P Q (Some n) f h = f n h
 
 known-fits : (code n : ℕ) → record_known (3 + code) n ≡ true → n < 2 ^ get_or option_bits code 0
 unfolding option_fits

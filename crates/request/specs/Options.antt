@@ -1,60 +1,51 @@
 -- The options that the records of a well-formed input give.
 -- Assumes nothing.
-use Rattle.std.specs.Prelude.{List, ◌++◌, Bool, false, cond, ℕ, ◌+◌, ◌-◌, ◌/◌, ◌%◌, ◌^◌, ◌≤◌, ◌<◌, min, ltb, eqb, ℤ, pos, ◌-ℤ◌, length, get_or, replicate}
+use Rattle.std.specs.Prelude.{List, ◌++◌, Bool, false, cond, ℕ, ◌+◌, ◌-◌, ◌/◌, ◌%◌, ◌^◌, ◌≤◌, ◌<◌, min, ltb, eqb, ℤ, pos, ◌-ℤ◌, length, get_or, replicate, Option, Some, None}
 use Rattle.endian.specs.Fields.{part}
-use Rattle.params.specs.declared.OptU64.{OptU64}
-use Rattle.params.specs.declared.OptU64.TheVariants.{Absent, Given}
-use Rattle.params.specs.declared.OptU32.{OptU32}
-use Rattle.params.specs.declared.OptU32.TheVariants.{Absent as Absent32, Given as Given32}
-use Rattle.params.specs.declared.OptU8.{OptU8}
-use Rattle.params.specs.declared.OptU8.TheVariants.{Absent as Absent8, Given as Given8}
-use Rattle.params.specs.declared.OptTime.{OptTime}
-use Rattle.params.specs.declared.OptTime.TheVariants.{Absent as AbsentTime, Given as GivenTime}
-use Rattle.params.specs.declared.Presence.TheVariants.{Given as Yes}
-use Rattle.params.specs.declared.OptUuid.{OptUuid}
+use Rattle.params.specs.declared.Timestamp.{Timestamp}
 use Rattle.params.specs.declared.Label.{Label}
 use Rattle.params.specs.declared.Features.{Features}
 use Rattle.params.specs.declared.Params.{Params}
-use Rattle.params.specs.Params.{all_features, options, no_label, no_uuid}
+use Rattle.params.specs.Params.{all_features, options, no_label}
 use Rattle.request_input.specs.declared.Record.{Record}
 use Rattle.request_input.specs.Records.{label, uuid, option, value_with, records}
 
 -- what Holds of an option's number, if it is given
-abbrev pub Holds : (ℕ → Type 0) → OptU64 → Type 0
-Holds P Absent = Unit {0}
-Holds P (Given n) = P n
+abbrev pub Holds : (ℕ → Type 0) → Option ℕ → Type 0
+Holds P None = Unit {0}
+Holds P (Some n) = P n
 
 -- it is below `m`; the label whose length stands there lies inside the input; so does the UUID that begins there
-abbrev pub OptBelow : ℕ → OptU64 → Type 0
+abbrev pub OptBelow : ℕ → Option ℕ → Type 0
 OptBelow m = Holds (λ (n : ℕ). n < m)
 
-abbrev pub LabelInside : List ℕ → OptU64 → Type 0
+abbrev pub LabelInside : List ℕ → Option ℕ → Type 0
 LabelInside xs = Holds (λ (p : ℕ). p + 1 + get_or xs p 0 ≤ length xs)
 
-abbrev pub UuidInside : List ℕ → OptU64 → Type 0
+abbrev pub UuidInside : List ℕ → Option ℕ → Type 0
 UuidInside xs = Holds (λ (p : ℕ). p + 16 ≤ length xs)
 
 -- an option of 32 bits, and of 8 bits
-abbrev pub short32 : OptU64 → OptU32
-short32 Absent = Absent32
-short32 (Given n) = Given32 n
+abbrev pub short32 : Option ℕ → Option ℕ
+short32 None = None
+short32 (Some n) = Some n
 
-abbrev pub short8 : OptU64 → OptU8
-short8 Absent = Absent8
-short8 (Given n) = Given8 n
+abbrev pub short8 : Option ℕ → Option ℕ
+short8 None = None
+short8 (Some n) = Some n
 
 unfoldable pub signed : ℕ → ℤ
 signed n = cond (ltb n (2 ^ 63)) (pos n) (pos n -ℤ pos (2 ^ 64))
 
-abbrev pub given_time : ℕ → ℕ → OptTime
-given_time secs nsecs = GivenTime (record { secs = signed secs; nsecs = nsecs })
+abbrev pub given_time : ℕ → ℕ → Option Timestamp
+given_time secs nsecs = Some (record { secs = signed secs; nsecs = nsecs })
 
 -- the time where seconds or nanoseconds are given; the absent ones are 0
-abbrev pub time_given : OptU64 → OptU64 → OptTime
-time_given Absent Absent = AbsentTime
-time_given Absent (Given n) = given_time 0 n
-time_given (Given s) Absent = given_time s 0
-time_given (Given s) (Given n) = given_time s n
+abbrev pub time_given : Option ℕ → Option ℕ → Option Timestamp
+time_given None None = None
+time_given None (Some n) = given_time 0 n
+time_given (Some s) None = given_time s 0
+time_given (Some s) (Some n) = given_time s n
 
 -- the bit `k` of the features is on
 abbrev pub on : ℕ → ℕ → Bool
@@ -73,27 +64,27 @@ features_in n = record {
   sparse = on 6 n;
 }
 
-abbrev pub features_given : OptU64 → Features
-features_given Absent = all_features
-features_given (Given n) = features_in n
+abbrev pub features_given : Option ℕ → Features
+features_given None = all_features
+features_given (Some n) = features_in n
 
 -- an option of one bit is on where 1 is given
-abbrev pub turned_on : OptU64 → Bool
-turned_on Absent = false
-turned_on (Given n) = eqb n 1
+abbrev pub turned_on : Option ℕ → Bool
+turned_on None = false
+turned_on (Some n) = eqb n 1
 
 -- the label whose length stands at `p`: its length, and its first 12 bytes, filled up with zeros
 unfoldable pub label_at : ℕ → List ℕ → Label
 label_at p xs = record { length = get_or xs p 0; bytes = part (p + 1) (min (get_or xs p 0) 12) xs ++ replicate (12 - min (get_or xs p 0) 12) 0 }
 
-abbrev pub label_given : OptU64 → List ℕ → Label
-label_given Absent xs = no_label
-label_given (Given p) xs = label_at p xs
+abbrev pub label_given : Option ℕ → List ℕ → Label
+label_given None xs = no_label
+label_given (Some p) xs = label_at p xs
 
 -- the 16 bytes of a UUID
-abbrev pub uuid_given : OptU64 → List ℕ → OptUuid
-uuid_given Absent xs = no_uuid
-uuid_given (Given p) xs = record { presence = Yes; bytes = part p 16 xs }
+abbrev pub uuid_given : Option ℕ → List ℕ → Option (List ℕ)
+uuid_given None xs = None
+uuid_given (Some p) xs = Some (part p 16 xs)
 
 -- the options by their codes
 abbrev pub options_in : List Record → List ℕ → Params

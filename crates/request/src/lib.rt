@@ -23,10 +23,9 @@ pub struct Request {
 fn malformed() -> Request
     ensures { result ≡ malformed_request }
 {
-    let params = Params::new();
     Request {
         number: refusals::MALFORMED,
-        params,
+        params: Params::new(),
         device: 0,
         logical: 0,
         physical: 0,
@@ -48,17 +47,12 @@ pub fn parse(input: &[u8]) -> Request
     if !request_input::well_formed(input) {
         return malformed();
     }
-    let params = options::params_of(input);
-    let profile = options::profile_of(input);
-    let device = endian::be64(input, 2);
-    let logical = endian::be32(input, 10);
-    let physical = endian::be32(input, 14);
     Request {
         number: 0,
-        params,
-        device: device.value,
-        logical: logical.value,
-        physical: physical.value,
-        profile,
+        params: options::params_of(input),
+        device: endian::be64(input, 2).value,
+        logical: endian::be32(input, 10).value,
+        physical: endian::be32(input, 14).value,
+        profile: options::profile_of(input),
     }
 }

@@ -4,9 +4,7 @@ ghost use Rattle.endian.specs.Fields.{part};
 ghost use Rattle.request_input.specs.Records.{option_bits, records, value_with, well_formed};
 ghost use Rattle.request.specs.Options.{OptBelow, LabelInside, UuidInside, short32, short8, signed, given_time, time_given, on, features_in, features_given, turned_on, label_at, label_given, uuid_given, params_of, profile_of};
 
-use params::{
-    Features, Label, OptTime, OptU8, OptU32, OptU64, OptUuid, Params, Presence, Timestamp,
-};
+use params::{Features, Label, Params, Timestamp};
 use request_input::{LABEL, OPTION, UUID, value_of};
 
 // The codes.
@@ -36,26 +34,23 @@ const ROOMY: usize = 12;
 
 const PROFILE: usize = 13;
 
-// 2^63
-const HALF: u64 = 0x8000_0000_0000_0000;
-
-fn short(option: OptU64) -> OptU32
+fn short(option: Option<u64>) -> Option<u32>
     requires { OptBelow 4294967296 option }
     ensures { result ≡ short32 option }
 {
     match option {
-        OptU64::Given(n) => OptU32::Given(n as u32),
-        OptU64::Absent => OptU32::Absent,
+        Some(n) => Some(n as u32),
+        None => None,
     }
 }
 
-fn byte(option: OptU64) -> OptU8
+fn byte(option: Option<u64>) -> Option<u8>
     requires { OptBelow 256 option }
     ensures { result ≡ short8 option }
 {
     match option {
-        OptU64::Given(n) => OptU8::Given(n as u8),
-        OptU64::Absent => OptU8::Absent,
+        Some(n) => Some(n as u8),
+        None => None,
     }
 }
 
@@ -63,37 +58,28 @@ fn byte(option: OptU64) -> OptU8
 fn signed_of(n: u64) -> i64
     ensures { result ≡ signed n }
 {
-    if n < HALF {
-        return n as i64;
-    }
-    -1 - (u64::MAX - n) as i64
+    n.cast_signed()
 }
 
-fn given_time(secs: u64, nsecs: u64) -> OptTime
+fn given_time(secs: u64, nsecs: u64) -> Option<Timestamp>
     requires { nsecs < 4294967296 }
     ensures { result ≡ given_time secs nsecs }
 {
-    let s = signed_of(secs);
-    let t = Timestamp {
-        secs: s,
+    Some(Timestamp {
+        secs: signed_of(secs),
         nsecs: nsecs as u32,
-    };
-    OptTime::Given(t)
+    })
 }
 
-fn time_of(secs: OptU64, nsecs: OptU64) -> OptTime
+fn time_of(secs: Option<u64>, nsecs: Option<u64>) -> Option<Timestamp>
     requires { OptBelow 4294967296 nsecs }
     ensures { result ≡ time_given secs nsecs }
 {
-    match secs {
-        OptU64::Given(s) => match nsecs {
-            OptU64::Given(n) => given_time(s, n),
-            OptU64::Absent => given_time(s, 0),
-        },
-        OptU64::Absent => match nsecs {
-            OptU64::Given(n) => given_time(0, n),
-            OptU64::Absent => OptTime::Absent,
-        },
+    match (secs, nsecs) {
+        (Some(s), Some(n)) => given_time(s, n),
+        (Some(s), None) => given_time(s, 0),
+        (None, Some(n)) => given_time(0, n),
+        (None, None) => None,
     }
 }
 
@@ -119,29 +105,20 @@ fn features_in(n: u64) -> Features
     }
 }
 
-fn features_of(option: OptU64) -> Features
+fn features_of(option: Option<u64>) -> Features
     ensures { result ≡ features_given option }
 {
     match option {
-        OptU64::Given(n) => features_in(n),
-        OptU64::Absent => Features::default(),
+        Some(n) => features_in(n),
+        None => Features::default(),
     }
 }
 
 // Whether an option of one bit is given as 1.
-fn turned_on(option: OptU64) -> bool
+fn turned_on(option: Option<u64>) -> bool
     ensures { result ≡ turned_on option }
 {
-    match option {
-        OptU64::Given(n) => n == 1,
-        OptU64::Absent => false,
-    }
-}
-
-fn wide(x: u8) -> usize
-    ensures { result ≡ x }
-{
-    x as usize
+    matches!(option, Some(1))
 }
 
 // The label whose length stands at `p`.
@@ -149,30 +126,26 @@ fn label_at(input: &[u8], p: usize) -> Label
     requires { p + 1 + get_or input.now p 0 ≤ length input.now }
     ensures { result ≡ label_at p input.now }
 {
-    let count = wide(input[p]);
-    let n = arith::numbers::min_usize(count, 12);
+    let count = usize::from(input[p]);
+    let n = count.min(12);
     let mut bytes = [0u8; 12];
-    let mut i = 0;
-    while i < n {
-        bytes[i] = input[p + 1 + i];
-        i += 1;
-    }
+    bytes[..n].copy_from_slice(&input[p + 1..p + 1 + n]);
     Label {
         length: count,
         bytes,
     }
 }
 
-fn label_of(input: &[u8], place: OptU64) -> Label
+fn label_of(input: &[u8], place: Option<u64>) -> Label
     requires { LabelInside input.now place }
     ensures { result ≡ label_given place input.now }
 {
     match place {
-        OptU64::Given(p) => label_at(input, p as usize),
-        OptU64::Absent => {
-            let bytes = [0u8; 12];
-            Label { length: 0, bytes }
-        }
+        Some(p) => label_at(input, p as usize),
+        None => Label {
+            length: 0,
+            bytes: [0; 12],
+        },
     }
 }
 
@@ -182,53 +155,37 @@ fn sixteen_at(input: &[u8], p: usize) -> [u8; 16]
     ensures { result ≡ part p 16 input.now }
 {
     let mut bytes = [0u8; 16];
-    let mut i = 0;
-    while i < 16 {
-        bytes[i] = input[p + i];
-        i += 1;
-    }
+    bytes.copy_from_slice(&input[p..p + 16]);
     bytes
 }
 
-fn uuid_of(input: &[u8], place: OptU64) -> OptUuid
+fn uuid_of(input: &[u8], place: Option<u64>) -> Option<[u8; 16]>
     requires { UuidInside input.now place }
     ensures { result ≡ uuid_given place input.now }
 {
     match place {
-        OptU64::Given(p) => {
-            let bytes = sixteen_at(input, p as usize);
-            OptUuid {
-                presence: Presence::Given,
-                bytes,
-            }
-        }
-        OptU64::Absent => {
-            let bytes = [0u8; 16];
-            OptUuid {
-                presence: Presence::Absent,
-                bytes,
-            }
-        }
+        Some(p) => Some(sixteen_at(input, p as usize)),
+        None => None,
     }
 }
 
 // ---- each option of a well-formed input
 
-fn option(input: &[u8], code: usize) -> OptU64
+fn option(input: &[u8], code: usize) -> Option<u64>
     requires { code < 256 }
     ensures { result ≡ value_with (3 + code) (records 0 input.now) }
 {
     value_of(input, 0, OPTION + code)
 }
 
-fn short_option(input: &[u8], code: usize) -> OptU32
+fn short_option(input: &[u8], code: usize) -> Option<u32>
     requires { (well_formed input.now ≡ true) × (code < 256) × (get_or option_bits code 0 ≡ 32) }
     ensures { result ≡ short32 (value_with (3 + code) (records 0 input.now)) }
 {
     short(option(input, code))
 }
 
-fn imaxpct(input: &[u8]) -> OptU8
+fn imaxpct(input: &[u8]) -> Option<u8>
     requires { well_formed input.now ≡ true }
     ensures { result ≡ short8 (value_with (3 + 7) (records 0 input.now)) }
 {
@@ -241,13 +198,13 @@ fn label_in(input: &[u8]) -> Label
     label_of(input, value_of(input, 0, LABEL))
 }
 
-fn uuid_in(input: &[u8]) -> OptUuid
+fn uuid_in(input: &[u8]) -> Option<[u8; 16]>
     ensures { result ≡ uuid_given (value_with 2 (records 0 input.now)) input.now }
 {
     uuid_of(input, value_of(input, 0, UUID))
 }
 
-fn time_in(input: &[u8]) -> OptTime
+fn time_in(input: &[u8]) -> Option<Timestamp>
     requires { well_formed input.now ≡ true }
     ensures { result ≡ time_given (value_with (3 + 10) (records 0 input.now))
         (value_with (3 + 11) (records 0 input.now)) }

@@ -7,7 +7,6 @@ ghost use Rattle.table_lines.specs.Lines.{PutLine};
 ghost use Rattle.text_pages.specs.Pages.{page as page_of, ascii_bytes};
 ghost use Rattle.request_expected.specs.Expected.{name_of, expected, name_lines, expected_lines};
 
-use arith::numbers::min_usize;
 use table_lines::Written;
 use text_pages::put_line;
 
@@ -70,14 +69,12 @@ fn texts() -> [u8; 901]
 pub fn put_name(key: usize, buf: &mut [u8], at: usize) -> Written
     ensures { PutLine at (ascii_bytes (name_of key)) buf.old result.number result.end buf.new }
 {
-    let page = names();
-    put_line(&page, min_usize(key, KEYS), buf, at)
+    put_line(&names(), key.min(KEYS), buf, at)
 }
 
 // What is expected behind the name of a key.
 pub fn put_expected(key: usize, buf: &mut [u8], at: usize) -> Written
     ensures { PutLine at (ascii_bytes (expected key)) buf.old result.number result.end buf.new }
 {
-    let page = texts();
-    put_line(&page, min_usize(key, KEYS), buf, at)
+    put_line(&texts(), key.min(KEYS), buf, at)
 }

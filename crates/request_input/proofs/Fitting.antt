@@ -1,19 +1,15 @@
 -- Which numbers fit an option's type: the tests that the code makes.
 -- Assumes nothing.
-use mathlib.Core.Path.{◌≡◌, refl, sym}
+use mathlib.Core.Path.{◌≡◌, refl}
 use mathlib.Core.Bool.{Bool, true, false}
-use Prim.Native.Nat.{ℕ, ◌-◌, ◌/◌, ◌^◌, ◌≤◌, ◌<◌}
+use Prim.Native.Nat.{ℕ, ◌/◌, ◌^◌, ◌≤◌, ◌<◌}
 use native.Mathlib.Omega.{arith}
 use native.Mathlib.Nat.{div-eq_of_lt, div-add-mod', mod-lt}
 use lib.Dec.{ltb, eqb}
 use lib.Pow.{pow_mono}
-use lib.ListN.{length, get_or, get_or-eq_default}
-use borrow.Author.Tests.{lt-ltb, le-ltb, eq-eqb, ltb-true, ltb-false, ne_eqb}
-use Rattle.request_input.specs.Records.{option_bits, option_fits, record_known}
-
--- a code past the table is no option's
-pub no_code : (code : ℕ) → length option_bits ≤ code → 0 ≡ get_or option_bits code 0
-no_code code h = sym (get_or-eq_default option_bits 0 h)
+use lib.ListN.{get_or}
+use borrow.Author.Tests.{lt-ltb, eq-eqb, ltb-true, ltb-false, ne_eqb}
+use Rattle.request_input.specs.Records.{option_bits, option_fits}
 
 module _ (code n b : ℕ) (is : b ≡ get_or option_bits code 0) where
   pub fits-none : b ≡ 0 → false ≡ option_fits code n
@@ -39,9 +35,3 @@ module _ (code n b : ℕ) (is : b ≡ get_or option_bits code 0) where
           go : (t : Bool) → ltb n m ≡ t → eqb (n / m) 0 ≡ t
           go true e = eq-eqb (n / m) 0 (div-eq_of_lt (ltb-true n m e))
           go false e = ne_eqb (n / m) 0 (λ z. let g = ltb-false n m e in omega (arith, rw z at (div-add-mod' n m), mod-lt n pos))
-
-pub known-option : (key value : ℕ) → 3 ≤ key → option_fits (key - 3) value ≡ record_known key value
-known-option key value h = rw (le-ltb key 3 h) refl
-
-pub known-other : (key value : ℕ) → key < 3 → true ≡ record_known key value
-known-other key value h = rw (lt-ltb key 3 h) refl

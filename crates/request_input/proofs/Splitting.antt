@@ -1,5 +1,6 @@
 -- The input as records: one record and those behind it.
 -- Assumes nothing.
+use Rattle.std.specs.Prelude.{Some, None, is_some}
 use mathlib.Core.Path.{◌≡◌, refl, sym, ap, ◌∙◌}
 use mathlib.Core.Bool.{Bool, true, false}
 use mathlib.Core.List.{List, [], ◌∷◌}
@@ -8,8 +9,6 @@ use native.Mathlib.Omega.{arith}
 use lib.Dec.{ltb}
 use lib.ListN.{length}
 use borrow.Author.Tests.{lt-ltb, le-ltb, eq-eqb, ne_eqb, ltb-true}
-use Rattle.params.specs.Options.{given64}
-use Rattle.params.specs.declared.OptU64.TheVariants.{Absent, Given}
 use Rattle.request_input.specs.declared.Record.{Record}
 use Rattle.request_input.specs.Records.{record_known, record_then, record_at, split_records, records, value_with, sound, starts_with_device, well_formed}
 use Rattle.request_input.proofs.Marks.{record-ends}
@@ -51,7 +50,7 @@ module _ (at : ℕ) (xs : List ℕ) (r : Record) (here : r ≡ record_at at xs) 
   this = rw here (records-more xs at h)
 
   module _ (key : ℕ) where
-    pub lookup-here : r.key ≡ key → value_with key (records at xs) ≡ Given r.value
+    pub lookup-here : r.key ≡ key → value_with key (records at xs) ≡ Some r.value
     unfolding value_with
     lookup-here e = rw (this, eq-eqb key r.key (sym e)) refl
 
@@ -63,15 +62,15 @@ module _ (at : ℕ) (xs : List ℕ) (r : Record) (here : r ≡ record_at at xs) 
   unfolding sound
   sound-unknown e = rw (this, e) refl
 
-  pub sound-twice : record_known r.key r.value ≡ true → given64 (value_with r.key (records r.next xs)) ≡ true → sound (records at xs) ≡ false
+  pub sound-twice : record_known r.key r.value ≡ true → is_some (value_with r.key (records r.next xs)) ≡ true → sound (records at xs) ≡ false
   unfolding sound
   sound-twice e d = rw (this, e, d) refl
 
-  pub sound-later : record_known r.key r.value ≡ true → given64 (value_with r.key (records r.next xs)) ≡ false → sound (records at xs) ≡ sound (records r.next xs)
+  pub sound-later : record_known r.key r.value ≡ true → is_some (value_with r.key (records r.next xs)) ≡ false → sound (records at xs) ≡ sound (records r.next xs)
   unfolding sound
   sound-later e d = rw (this, e, d) refl
 
-pub lookup-end : (key at : ℕ) (xs : List ℕ) → length xs ≤ at → value_with key (records at xs) ≡ Absent
+pub lookup-end : (key at : ℕ) (xs : List ℕ) → length xs ≤ at → value_with key (records at xs) ≡ None
 unfolding value_with
 lookup-end key at xs h = rw (records-end xs at h) refl
 

@@ -1,10 +1,7 @@
 -- The input as a list of records, and which lists are well-formed.
 -- Assumes nothing.
-use Rattle.std.specs.Prelude.{List, [], ◌∷◌, Bool, true, false, not, ◌&&◌, ◌||◌, cond, ℕ, zero, suc, ◌+◌, ◌-◌, ◌^◌, leb, ltb, eqb, length, get_or}
+use Rattle.std.specs.Prelude.{List, [], ◌∷◌, Bool, true, false, not, ◌&&◌, ◌||◌, cond, ℕ, zero, suc, ◌+◌, ◌-◌, ◌^◌, leb, ltb, eqb, length, get_or, Option, Some, None, is_some}
 use Rattle.endian.specs.Bytes.{be_at}
-use Rattle.params.specs.Options.{given64}
-use Rattle.params.specs.declared.OptU64.{OptU64}
-use Rattle.params.specs.declared.OptU64.TheVariants.{Absent, Given}
 use Rattle.request_input.specs.declared.Record.{Record}
 
 -- ---- options
@@ -89,19 +86,19 @@ split_records (suc n) at xs = record_then (ltb at (length xs)) (record_at at xs)
 unfoldable pub records : ℕ → List ℕ → List Record
 records at xs = split_records (length xs - at) at xs
 
-abbrev pub value_if_found : Bool → ℕ → OptU64 → OptU64
-value_if_found true v rest = Given v
+abbrev pub value_if_found : Bool → ℕ → Option ℕ → Option ℕ
+value_if_found true v rest = Some v
 value_if_found false v rest = rest
 
 -- the value of the first record with the key
-unfoldable pub value_with : ℕ → List Record → OptU64
-value_with key [] = Absent
+unfoldable pub value_with : ℕ → List Record → Option ℕ
+value_with key [] = None
 value_with key (r ∷ rs) = value_if_found (eqb key r.key) r.value (value_with key rs)
 
 -- every record is known, and none has the key of a later one
 unfoldable pub sound : List Record → Bool
 sound [] = true
-sound (r ∷ rs) = record_known r.key r.value && (not (given64 (value_with r.key rs)) && sound rs)
+sound (r ∷ rs) = record_known r.key r.value && (not (is_some (value_with r.key rs)) && sound rs)
 
 -- the first is the device's
 unfoldable pub starts_with_device : List Record → Bool

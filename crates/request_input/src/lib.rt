@@ -1,12 +1,9 @@
 // The input as records, one after the other: what each gives, whether all are known, and the value of a key.
 #![tactic(auto)]
 
-ghost use Rattle.std.specs.Prelude.{◌≡◌, ◌+◌, ◌≤◌, ◌<◌, length, get_or};
+ghost use Rattle.std.specs.Prelude.{◌≡◌, ◌+◌, ◌≤◌, ◌<◌, length, get_or, is_some};
 ghost use Rattle.request_input.specs.Records.{option_bits, option_fits, record_known, whole_record, no_record, record_at, records, value_with, sound, well_formed};
 ghost use Rattle.endian.specs.Bytes.{be_at};
-ghost use Rattle.params.specs.Options.{given64};
-
-use params::OptU64;
 
 // The marks, two bytes each.
 const DV: u16 = 0x4456;
@@ -27,8 +24,6 @@ pub const UUID: usize = 2;
 pub const OPTION: usize = 3;
 
 // The bits of each option's type, by its code; the code 0 is no option's.
-const CODES: usize = 14;
-
 const OPTION_BITS: [u8; 14] = [0, 64, 32, 32, 32, 64, 64, 8, 64, 7, 64, 32, 1, 1];
 
 // What a record gives: an option's number, or where the bytes of another begin; and where the next one begins.
@@ -39,43 +34,29 @@ pub struct Record {
     pub next: usize,
 }
 
-fn wide(x: u8) -> usize
-    ensures { (result ≡ x) × (result < 256) }
-{
-    x as usize
-}
-
 // The bits of the type of the option with the code; 0 where there is none.
+#[tactic(auto, unfolding(crate::specs::Records::option_bits))]
 fn option_bits(code: usize) -> u8
     ensures { result ≡ get_or option_bits code 0 }
 {
-    if code < CODES {
-        return OPTION_BITS[code];
-    }
-    0
+    OPTION_BITS.get(code).copied().unwrap_or(0)
 }
 
 // Whether there is an option with the code, and the number fits its type.
 fn number_fits(code: usize, n: u64) -> bool
     ensures { result ≡ option_fits code n }
 {
-    let bits = option_bits(code);
-    if bits == 0 {
-        return false;
+    match option_bits(code) {
+        0 => false,
+        64.. => true,
+        bits => n >> bits == 0,
     }
-    if bits < 64 {
-        return n >> bits == 0;
-    }
-    true
 }
 
 fn is_known(key: usize, value: u64) -> bool
     ensures { result ≡ record_known key value }
 {
-    if key < OPTION {
-        return true;
-    }
-    number_fits(key - OPTION, value)
+    key < OPTION || number_fits(key - OPTION, value)
 }
 
 // No record: nothing is read behind it.
@@ -112,10 +93,9 @@ fn option_record(input: &[u8], at: usize) -> Record
     if input.len() - at < 11 {
         return no_record(input.len());
     }
-    let n = endian::be64(input, at + 3);
     Record {
-        key: OPTION + wide(input[at + 2]),
-        value: n.value,
+        key: OPTION + usize::from(input[at + 2]),
+        value: endian::be64(input, at + 3).value,
         next: at + 11,
     }
 }
@@ -129,51 +109,48 @@ fn record_at(input: &[u8], at: usize) -> Record
     if len - at < 3 {
         return no_record(len);
     }
-    let mark = endian::be16(input, at);
-    let first = wide(input[at + 2]);
-    if mark.value == DV {
-        return whole_record(len, DEVICE, (at + 2) as u64, at, 18);
+    match endian::be16(input, at).value {
+        DV => whole_record(len, DEVICE, (at + 2) as u64, at, 18),
+        OP => option_record(input, at),
+        LB => whole_record(
+            len,
+            LABEL,
+            (at + 2) as u64,
+            at,
+            3 + usize::from(input[at + 2]),
+        ),
+        ID => whole_record(len, UUID, (at + 2) as u64, at, 18),
+        _ => no_record(len),
     }
-    if mark.value == OP {
-        return option_record(input, at);
-    }
-    if mark.value == LB {
-        return whole_record(len, LABEL, (at + 2) as u64, at, 3 + first);
-    }
-    if mark.value == ID {
-        return whole_record(len, UUID, (at + 2) as u64, at, 18);
-    }
-    no_record(len)
 }
 
 // The value of the first record with the key, from `from` on.
-pub fn value_of(input: &[u8], from: usize, key: usize) -> OptU64
+pub fn value_of(input: &[u8], from: usize, key: usize) -> Option<u64>
     ensures { result ≡ value_with key (records from input.now) }
 {
+    // How far the next record stands shows only once this one is read: an iterator of our own would hold this same walk.
     let mut at = from;
     while at < input.len() {
         let r = record_at(input, at);
         if r.key == key {
-            return OptU64::Given(r.value);
+            return Some(r.value);
         }
         at = r.next;
     }
-    OptU64::Absent
+    None
 }
 
-fn is_given(option: OptU64) -> bool
-    ensures { result ≡ given64 option }
+fn is_given(option: Option<u64>) -> bool
+    ensures { result ≡ is_some option }
 {
-    match option {
-        OptU64::Given(_) => true,
-        OptU64::Absent => false,
-    }
+    matches!(option, Some(_))
 }
 
 // Whether every record is known, and none has the key of a later one.
 fn all_sound(input: &[u8]) -> bool
     ensures { result ≡ sound (records 0 input.now) }
 {
+    // How far the next record stands shows only once this one is read: an iterator of our own would hold this same walk.
     let mut at = 0;
     while at < input.len() {
         let r = record_at(input, at);
@@ -192,12 +169,8 @@ fn all_sound(input: &[u8]) -> bool
 pub fn well_formed(input: &[u8]) -> bool
     ensures { result ≡ well_formed input.now }
 {
-    if input.len() == 0 {
+    if input.is_empty() {
         return false;
     }
-    let first = record_at(input, 0);
-    if first.key != DEVICE {
-        return false;
-    }
-    all_sound(input)
+    record_at(input, 0).key == DEVICE && all_sound(input)
 }

@@ -1,5 +1,6 @@
 -- AN INPUT WITH CODE 13 PUT BEHIND IT ASKS FOR THE SAME: every other option and the device stay, and 1 puts it under the profile.
 -- Assumes nothing.
+use Rattle.std.specs.Prelude.{Option, Some, None, is_some}
 use mathlib.Core.Path.{◌≡◌, refl, sym, ap, ◌∙◌}
 use mathlib.Core.Bool.{Bool, true, false, not, ◌&&◌}
 use mathlib.Core.List.{List, [], ◌∷◌, ◌++◌, append-nil}
@@ -10,9 +11,6 @@ use lib.Dec.{eqb}
 use lib.ListN.{length, get_or}
 use Rattle.arith.proofs.Both.{both_true, left-true, right-true}
 use Rattle.seqs.proofs.Laws.{never}
-use Rattle.params.specs.Options.{given64}
-use Rattle.params.specs.declared.OptU64.{OptU64}
-use Rattle.params.specs.declared.OptU64.TheVariants.{Absent, Given}
 use Rattle.request_input.specs.declared.Record.{Record}
 use Rattle.request_input.specs.Records.{label, uuid, option, option_bits, option_fits, record_known, entry, records, value_if_found, value_with, sound, starts_with_device, well_formed}
 use Rattle.request.specs.Options.{LabelInside, UuidInside, label_at, label_given, uuid_given, turned_on, params_of, profile_of}
@@ -30,33 +28,33 @@ module _ (s : Record) where
   not_last key [] n = rw (ne_eqb key s.key n) refl
   not_last key (r ∷ rs) n = ap (value_if_found (eqb key r.key) r.value) (not_last key rs n)
 
-  absent-first : (r : Record) (rs : List Record) → value_with s.key (r ∷ rs) ≡ Absent → (eqb s.key r.key ≡ false) × (value_with s.key rs ≡ Absent)
+  absent-first : (r : Record) (rs : List Record) → value_with s.key (r ∷ rs) ≡ None → (eqb s.key r.key ≡ false) × (value_with s.key rs ≡ None)
   unfolding value_with
   absent-first r rs e = go (eqb s.key r.key) refl e
     where
-      go : (t : Bool) → eqb s.key r.key ≡ t → value_if_found t r.value (value_with s.key rs) ≡ Absent → (eqb s.key r.key ≡ false) × (value_with s.key rs ≡ Absent)
-      go true d f = never (sym (ap given64 f))
+      go : (t : Bool) → eqb s.key r.key ≡ t → value_if_found t r.value (value_with s.key rs) ≡ None → (eqb s.key r.key ≡ false) × (value_with s.key rs ≡ None)
+      go true d f = never (sym (ap is_some f))
       go false d f = (d, f)
 
-  the_last : (rs : List Record) → value_with s.key rs ≡ Absent → value_with s.key (rs ++ (s ∷ [])) ≡ Given s.value
+  the_last : (rs : List Record) → value_with s.key rs ≡ None → value_with s.key (rs ++ (s ∷ [])) ≡ Some s.value
   unfolding value_with
   the_last [] e = rw (eq-eqb s.key s.key refl) refl
   the_last (r ∷ rs) e =
       let a = absent-first r rs e in
       rw a.0 (the_last rs a.1)
 
-  still-sound : (rs : List Record) → record_known s.key s.value ≡ true → value_with s.key rs ≡ Absent → sound rs ≡ true → sound (rs ++ (s ∷ [])) ≡ true
+  still-sound : (rs : List Record) → record_known s.key s.value ≡ true → value_with s.key rs ≡ None → sound rs ≡ true → sound (rs ++ (s ∷ [])) ≡ true
   unfolding sound value_with
   still-sound [] k e h = rw k refl
   still-sound (r ∷ rs) k e h =
       let a = absent-first r rs e in
-      let g = not (given64 (value_with r.key rs)) in
+      let g = not (is_some (value_with r.key rs)) in
       let n = right-true (record_known r.key r.value) (g && sound rs) h in
       let d = not_last r.key rs (λ q. eqb-false s.key r.key a.0 (sym q)) in
-      both_true (record_known r.key r.value) (not (given64 (value_with r.key (rs ++ (s ∷ [])))) && sound (rs ++ (s ∷ [])))
+      both_true (record_known r.key r.value) (not (is_some (value_with r.key (rs ++ (s ∷ [])))) && sound (rs ++ (s ∷ [])))
       (left-true (record_known r.key r.value) (g && sound rs) h)
-      (both_true (not (given64 (value_with r.key (rs ++ (s ∷ []))))) (sound (rs ++ (s ∷ [])))
-      (ap (λ (o : OptU64). not (given64 o)) d ∙ left-true g (sound rs) n)
+      (both_true (not (is_some (value_with r.key (rs ++ (s ∷ []))))) (sound (rs ++ (s ∷ [])))
+      (ap (λ (o : Option ℕ). not (is_some o)) d ∙ left-true g (sound rs) n)
       (still-sound rs k a.1 (right-true g (sound rs) n)))
 
 still-first : (rs ss : List Record) → starts_with_device rs ≡ true → starts_with_device (rs ++ ss) ≡ true
@@ -66,19 +64,19 @@ still-first (r ∷ rs) ss e = e
 
 -- ---- label and UUID
 
-label_same : (xs ys : List ℕ) (o : OptU64) → LabelInside xs o → label_given o (xs ++ ys) ≡ label_given o xs
+label_same : (xs ys : List ℕ) (o : Option ℕ) → LabelInside xs o → label_given o (xs ++ ys) ≡ label_given o xs
 unfolding label_at
-label_same xs ys Absent h = refl
-label_same xs ys (Given p) h =
+label_same xs ys None h = refl
+label_same xs ys (Some p) h =
     rw (get_d_front xs ys p (omega arith), part-front (p + 1) (min (get_or xs p 0) 12) xs ys (omega arith)) refl
 
-uuid-same : (xs ys : List ℕ) (o : OptU64) → UuidInside xs o → uuid_given o (xs ++ ys) ≡ uuid_given o xs
-uuid-same xs ys Absent h = refl
-uuid-same xs ys (Given p) h = rw (part-front p 16 xs ys h) refl
+uuid-same : (xs ys : List ℕ) (o : Option ℕ) → UuidInside xs o → uuid_given o (xs ++ ys) ≡ uuid_given o xs
+uuid-same xs ys None h = refl
+uuid-same xs ys (Some p) h = rw (part-front p 16 xs ys h) refl
 
 -- ---- the input
 
-module _ (xs : List ℕ) (well : well_formed xs ≡ true) (free : value_with (option 13) (records 0 xs) ≡ Absent) (v : ℕ) (bit : v < 2) where
+module _ (xs : List ℕ) (well : well_formed xs ≡ true) (free : value_with (option 13) (records 0 xs) ≡ None) (v : ℕ) (bit : v < 2) where
   abbrev zs : List ℕ
   zs = xs ++ op 13 v
 

@@ -4,7 +4,7 @@ use mathlib.Core.Path.{◌≡◌, refl, sym, ap, ◌∙◌}
 use mathlib.Core.List.{List, [], ◌∷◌, ◌++◌, append_assoc, append-nil}
 use Prim.Native.Nat.{ℕ, ◌+◌, ◌-◌, ◌^◌, ◌≤◌, ◌<◌, min}
 use native.Mathlib.Omega.{arith}
-use lib.ListN.{length, get_or, drop, take, replicate, length-append}
+use lib.ListN.{length, get_or, take, replicate, length-append}
 use lib.Seq.{drop-append-add, drop_at, take_at, get_or-append-add}
 use Rattle.endian.specs.Bytes.{be_bytes, be_at}
 use Rattle.endian.specs.Fields.{part}
@@ -13,7 +13,7 @@ use Rattle.endian.proofs.Fields.{at-written}
 use Rattle.request.specs.Cases.{dv, op, lb, id}
 use Rattle.request.specs.Options.{label_at}
 use Rattle.request_input.specs.declared.Record.{Record}
-use Rattle.request_input.specs.Records.{entry, whole_record, option, record_at, records}
+use Rattle.request_input.specs.Records.{entry, whole_record, record_at, records}
 use Rattle.request_input.proofs.Marks.{held, device-at, option-at, label-at, uuid-at}
 use Rattle.request_input.proofs.Splitting.{records-end, records-more}
 

@@ -1,11 +1,12 @@
 -- The records that words ask for, as pieces: all are known, and none has the key of a later one.
 -- Assumes nothing.
+use Rattle.std.specs.Prelude.{Option, Some, None}
 use mathlib.Core.Path.{◌≡◌, refl, sym, ap, ◌∙◌}
-use mathlib.Core.Bool.{Bool, true, false, not, ◌&&◌, ◌||◌, cond}
+use mathlib.Core.Bool.{Bool, true, false, ◌&&◌, ◌||◌, cond}
 use mathlib.Core.List.{List, [], ◌∷◌, ◌++◌, append_assoc, append-nil}
 use Prim.Native.Nat.{ℕ, zero, suc, ◌+◌, ◌-◌, ◌^◌, ◌≤◌, ◌<◌}
 use native.Mathlib.Omega.{arith}
-use lib.Dec.{eqb, ltb}
+use lib.Dec.{eqb}
 use lib.ListN.{length, get_or, replicate, length-append, length-take}
 use borrow.Author.Tests.{lt-ltb, le-ltb, eq-eqb, ne_eqb, eqb-true}
 use mathlib.Core.Logic.{◌⊎◌, inl, inr}
@@ -13,13 +14,8 @@ use Rattle.seqs.proofs.Laws.{lt-or-le}
 use Rattle.endian.specs.Bytes.{be_bytes, be_at}
 use Rattle.request.specs.Cases.{dv, op, lb, id}
 use Rattle.request.specs.Options.{label_given, uuid_given}
-use Rattle.params.specs.declared.Presence.TheVariants.{Given as Yes}
-use Rattle.params.specs.Params.{no_label, no_uuid}
-use Rattle.params.specs.Options.{given64}
-use Rattle.params.specs.declared.OptU64.{OptU64}
-use Rattle.params.specs.declared.OptU64.TheVariants.{Absent, Given}
+use Rattle.params.specs.Params.{no_label}
 use Rattle.request_input.specs.Records.{option_bits, option_fits, record_known, value_with as lookup_record, sound, starts_with_device, records, well_formed}
-use Rattle.request_words.specs.declared.Word.{Word}
 use Rattle.request_words.specs.Values.{label_key, size_key, logical_key, physical_key, uuid_key, codes, largest_values}
 use Rattle.request_words.specs.Words.{word_with, given, words_from}
 use Rattle.request_words.specs.Asked.{pairs, device_record, option_record, option_records, label_word_text, label_record, uuid_record, words_request}
@@ -36,7 +32,7 @@ abbrev Good : List Piece → Type 0
 Good [] = Unit {0}
 Good (p ∷ ps) = ((at : ℕ) → record_known p.key (p.value at) ≡ true) × Fresh p.key ps × Good ps
 
-fresh-lookup : (key at : ℕ) (ps : List Piece) → Fresh key ps → lookup_record key (entries at ps) ≡ Absent
+fresh-lookup : (key at : ℕ) (ps : List Piece) → Fresh key ps → lookup_record key (entries at ps) ≡ None
 unfolding lookup_record entries
 fresh-lookup key at [] f = refl
 fresh-lookup key at (p ∷ ps) f = rw (ne_eqb key p.key (λ e. f.0 (sym e))) (fresh-lookup key (at + length p.bytes) ps f.1)
@@ -68,12 +64,12 @@ kept-good true p ps k f g = (k refl, f, g)
 kept-good false p ps k f g = g
 
 -- ---- an option's record that is there or isn't, and one that is another's
-here : (b : Bool) (c v at : ℕ) (ps : List Piece) → Fresh (3 + c) ps → lookup_record (3 + c) (entries at (kept b (option-piece c v) ps)) ≡ cond b (Given v) Absent
+here : (b : Bool) (c v at : ℕ) (ps : List Piece) → Fresh (3 + c) ps → lookup_record (3 + c) (entries at (kept b (option-piece c v) ps)) ≡ cond b (Some v) None
 unfolding lookup_record entries
 here true c v at ps f = rw (eq-eqb (3 + c) (3 + c) refl) refl
 here false c v at ps f = fresh-lookup (3 + c) at ps f
 
-skip : (b : Bool) (key c v at : ℕ) (ps : List Piece) (o : OptU64) → (3 + c ≡ key → ⊥) → ((at : ℕ) → lookup_record key (entries at ps) ≡ o)
+skip : (b : Bool) (key c v at : ℕ) (ps : List Piece) (o : Option ℕ) → (3 + c ≡ key → ⊥) → ((at : ℕ) → lookup_record key (entries at ps) ≡ o)
     → lookup_record key (entries at (kept b (option-piece c v) ps)) ≡ o
 unfolding lookup_record entries
 skip true key c v at ps o ne f = rw (ne_eqb key (3 + c) (λ e. ne (sym e))) (f (at + length (op c v)))
@@ -94,36 +90,36 @@ module _ (b c : Bool) (text bytes : List ℕ) where
   both-names : List Piece
   both-names = kept b (label-piece text) (kept c (uuid-piece bytes) [])
 
-  label-found : (at : ℕ) → lookup_record 1 (entries at both-names) ≡ cond b (Given (at + 2)) Absent
+  label-found : (at : ℕ) → lookup_record 1 (entries at both-names) ≡ cond b (Some (at + 2)) None
   unfolding both-names lookup_record entries
   label-found at = by b c
     where
-      by : (b c : Bool) → lookup_record 1 (entries at (kept b (label-piece text) (kept c (uuid-piece bytes) []))) ≡ cond b (Given (at + 2)) Absent
+      by : (b c : Bool) → lookup_record 1 (entries at (kept b (label-piece text) (kept c (uuid-piece bytes) []))) ≡ cond b (Some (at + 2)) None
       by true c = refl
       by false true = refl
       by false false = refl
 
-  uuid-found : (at : ℕ) → lookup_record 2 (entries at both-names) ≡ cond c (Given (at + length (cond b (lb text) []) + 2)) Absent
+  uuid-found : (at : ℕ) → lookup_record 2 (entries at both-names) ≡ cond c (Some (at + length (cond b (lb text) []) + 2)) None
   unfolding both-names lookup_record entries
   uuid-found at = by b c
     where
       by : (b c : Bool) → lookup_record 2 (entries at (kept b (label-piece text) (kept c (uuid-piece bytes) [])))
-          ≡ cond c (Given (at + length (cond b (lb text) []) + 2)) Absent
+          ≡ cond c (Some (at + length (cond b (lb text) []) + 2)) None
       by true true = refl
       by true false = refl
-      by false true = ap Given (let e : at + 2 ≡ at + 0 + 2 = omega arith in e)
+      by false true = ap Some (let e : at + 2 ≡ at + 0 + 2 = omega arith in e)
       by false false = refl
 
 -- ---- what stands where they are found
 label-given : (b : Bool) (pre text post : List ℕ) → length text ≤ 12
-    → label_given (cond b (Given (length pre + 2)) Absent) (pre ++ (cond b (lb text) [] ++ post))
+    → label_given (cond b (Some (length pre + 2)) None) (pre ++ (cond b (lb text) [] ++ post))
     ≡ cond b (record { length = length text; bytes = text ++ replicate (12 - length text) 0 }) no_label
 label-given true pre text post h = label-there pre text post h
 label-given false pre text post h = refl
 
 uuid-given : (b : Bool) (pre bytes post : List ℕ) → length bytes ≡ 16
-    → uuid_given (cond b (Given (length pre + 2)) Absent) (pre ++ (cond b (id bytes) [] ++ post)) ≡ cond b (record { presence = Yes; bytes = bytes }) no_uuid
-uuid-given true pre bytes post h = ap (λ (u : List ℕ). record { presence = Yes; bytes = u }) (uuid-there pre bytes post h)
+    → uuid_given (cond b (Some (length pre + 2)) None) (pre ++ (cond b (id bytes) [] ++ post)) ≡ cond b (Some bytes) None
+uuid-given true pre bytes post h = ap Some (uuid-there pre bytes post h)
 uuid-given false pre bytes post h = refl
 
 -- ---- numbers fit their options
@@ -281,8 +277,8 @@ module _ (xs : List ℕ) where
   unfolding pieces device entries starts_with_device
   starts = refl
 
-  asked : ℕ → OptU64
-  asked k = cond (given k (words_from 0 xs)) (Given (value_of k)) Absent
+  asked : ℕ → Option ℕ
+  asked k = cond (given k (words_from 0 xs)) (Some (value_of k)) None
 
   found_turn : (k n code : ℕ) (rest : List Piece) (at : ℕ) → code ≤ k → (code < k) ⊎ (k ≤ code)
       → (code < k → (at : ℕ) → lookup_record (3 + k) (entries at (option-pieces n (code + 1) rest)) ≡ asked k) → Fresh (3 + k) rest
@@ -353,10 +349,10 @@ module _ (xs : List ℕ) where
       let l : length before + length (label_record ws xs) ≡ length pre = sym (length-append before (label_record ws xs)) in
       let w : words_request xs ≡ pre ++ (uuid_record ws xs ++ []) =
       behind ∙ sym (append_assoc before (label_record ws xs) (uuid_record ws xs)) ∙ ap (λ (u : List ℕ). pre ++ u) (sym (append-nil (uuid_record ws xs))) in
-      ap (λ (o : OptU64). uuid_given o (words_request xs))
+      ap (λ (o : Option ℕ). uuid_given o (words_request xs))
       (names-found 2 (omega arith) (omega arith) ∙ uuid-found label-flag uuid-flag label-text uuid-text (length before)
-      ∙ ap (λ (k : ℕ). cond uuid-flag (Given (k + 2)) Absent) l)
-      ∙ ap (uuid_given (cond uuid-flag (Given (length pre + 2)) Absent)) w
+      ∙ ap (λ (k : ℕ). cond uuid-flag (Some (k + 2)) None) l)
+      ∙ ap (uuid_given (cond uuid-flag (Some (length pre + 2)) None)) w
       ∙ uuid-given uuid-flag pre uuid-text [] (length_pairs 16 0 (word_with uuid_key ws).from xs)
 
   found-asked : (k : ℕ) → 1 ≤ k → k ≤ codes → lookup_record (3 + k) (records 0 (words_request xs)) ≡ option_asked k (words_from 0 xs)

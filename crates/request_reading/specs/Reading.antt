@@ -1,13 +1,9 @@
 -- The records that words ask for are well-formed, and read back as the words have them.
 -- Assumes nothing.
-use Rattle.std.specs.Prelude.{List, ◌++◌, ◌≡◌, true, cond, ℕ, ◌-◌, ◌≤◌, eqb, length, replicate}
+use Rattle.std.specs.Prelude.{List, ◌++◌, ◌≡◌, true, cond, ℕ, ◌-◌, ◌≤◌, eqb, length, replicate, Option, Some, None}
 use Rattle.endian.specs.Bytes.{be_at}
-use Rattle.params.specs.declared.OptU64.{OptU64}
-use Rattle.params.specs.declared.OptU64.TheVariants.{Absent, Given}
 use Rattle.params.specs.declared.Label.{Label}
-use Rattle.params.specs.declared.OptUuid.{OptUuid}
-use Rattle.params.specs.declared.Presence.TheVariants.{Given as Yes}
-use Rattle.params.specs.Params.{no_label, no_uuid}
+use Rattle.params.specs.Params.{no_label}
 use Rattle.request_input.specs.Records.{well_formed, label, uuid, option, records, value_with as lookup_record}
 use Rattle.request.specs.Options.{label_given, uuid_given}
 use Rattle.request_words.specs.declared.Word.{Word}
@@ -20,8 +16,8 @@ unfoldable pub Readable : Type 0
 Readable = (xs : List ℕ) → well_formed (words_request xs) ≡ true
 
 -- the option that a word gives, by its code
-abbrev pub option_asked : ℕ → List Word → OptU64
-option_asked code ws = cond (given code ws) (Given (word_with code ws).value) Absent
+abbrev pub option_asked : ℕ → List Word → Option ℕ
+option_asked code ws = cond (given code ws) (Some (word_with code ws).value) None
 
 -- each option that is read back is the word's, and absent where there is no word
 unfoldable pub OptionsReadBack : Type 0
@@ -43,9 +39,9 @@ label_asked ws xs =
     cond (given label_key ws) (record { length = length text; bytes = text ++ replicate (12 - length text) 0 }) no_label
 
 -- the UUID that a word gives: the bytes that its pairs of digits are
-abbrev pub uuid_asked : List Word → List ℕ → OptUuid
+abbrev pub uuid_asked : List Word → List ℕ → Option (List ℕ)
 uuid_asked ws xs = cond (eqb (word_with uuid_key ws).value 1)
-    (record { presence = Yes; bytes = pairs 16 0 (word_with uuid_key ws).from xs }) no_uuid
+    (Some (pairs 16 0 (word_with uuid_key ws).from xs)) None
 
 -- the label that is read back is the word's, and there is none where there is no word
 unfoldable pub LabelReadBack : Type 0

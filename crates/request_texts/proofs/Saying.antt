@@ -1,85 +1,54 @@
--- Laws of names and numbers: each branch of a test, and each turn of a loop.
+-- Laws of names and numbers: what the library's words are here, each turn of a loop, and each branch of a test.
 -- Assumes nothing.
-use mathlib.Core.Path.{◌≡◌, refl, ap, ◌∙◌}
-use mathlib.Core.Bool.{Bool, true, false, not, cond}
+use mathlib.Core.Path.{◌≡◌, refl, sym, ap, ◌∙◌}
+use mathlib.Core.Bool.{Bool, true, false, cond}
 use mathlib.Core.List.{List, [], ◌∷◌}
 use Prim.Native.Nat.{ℕ, zero, suc, ◌+◌, ◌-◌, ◌*◌, ◌^◌, ◌≤◌, ◌<◌}
 use native.Mathlib.Nat.{mul-suc}
 use native.Mathlib.Omega.{arith}
 use lib.Dec.{ltb}
 use lib.ListN.{length, get_or, take, drop}
-use borrow.Author.Tests.{lt-ltb, le-ltb, le-leb, lt-leb, eq-eqb, ne_eqb, ltb-true, ltb-false}
-use Rattle.seqs.specs.Lists.{fold}
+use borrow.Author.Tests.{lt-ltb, le-ltb, eq-eqb, ne_eqb, ltb-true, ltb-false}
+use Rattle.std.specs.List.{position, position_or_len}
+use Rattle.std.specs.List.{fold as std_fold}
+use Rattle.std.specs.Option.{unwrap_or}
+use Rattle.std.proofs.Common.{Some, None}
+use Rattle.std.proofs.lemmas.List.Sums.{prefix_len-le-length}
+use Rattle.std.proofs.lemmas.List.Recursion.{is_position_or_len}
+use Rattle.seqs.specs.Lists.{first_index, fold}
 use Rattle.table_lines.specs.Decimal.{value_after}
 use Rattle.text_pages.proofs.Places.{rest-cons, rest-nil}
 use Rattle.request_texts.specs.declared.Value.{Value}
-use Rattle.request_texts.specs.Texts.{good_value, malformed_value, too_large, within, letter, not_name, named, is_digit, leading, suffix, factor, number_text}
+use Rattle.request_texts.specs.Texts.{good_value, malformed_value, too_large, within, leading, factor, number_text}
 
--- ---- a loop over a whole list
-module _ {S : Type 0} (f : S → ℕ → S) (s : S) (xs : List ℕ) (i : ℕ) where
-  pub fold-turn : i < length xs → fold f s (drop i xs) ≡ fold f (f s (get_or xs i 0)) (drop (i + 1) xs)
+-- ---- what the library's words for a list are here
+module _ {S : Type 0} (f : S → ℕ → S) where
+  pub folded : (s : S) (xs : List ℕ) → std_fold f s xs ≡ fold f s xs
   unfolding fold
-  fold-turn h = rw (rest-cons xs 0 i h)
+  folded s [] = refl
+  folded s (x ∷ xs) = folded (f s x) xs
 
-  pub fold_done : length xs ≤ i → fold f s (drop i xs) ≡ s
-  unfolding fold
-  fold_done h = rw (rest-nil xs i h)
+one_more : (n : ℕ) → 1 + n ≡ suc n
+one_more n = omega arith
 
--- ---- a letter, a byte more of a name
-module _ (b x : ℕ) (e : x ≡ b) where
-  pub letter-above : 122 < x → 0 ≡ letter b
-  unfolding letter
-  letter-above h = rw (← e, lt-ltb 122 x h)
+module _ (p : ℕ → Bool) (xs : List ℕ) where
+  first_is : first_index p xs ≡ position_or_len p xs
+  unfolding first_index
+  first_is = is_position_or_len (first_index p) p refl (λ y ys. rw (one_more (first_index p ys)) refl) xs
 
-  pub letter-small : x ≤ 122 → 96 < x → x - 96 ≡ letter b
-  unfolding letter
-  letter-small g h = rw (← e, le-ltb 122 x g, lt-ltb 96 x h)
+  pub first-within : first_index p xs ≤ length xs
+  first-within = rw first_is (prefix_len-le-length _ xs)
 
-  pub letter-between : x ≤ 96 → 57 < x → 0 ≡ letter b
-  unfolding letter
-  letter-between g h =
-      let k : x ≤ 122 = omega arith in
-      rw (← e, le-ltb 122 x k, le-ltb 96 x g, lt-ltb 57 x h)
-
-  pub letter-digit : x ≤ 57 → 47 < x → x - 21 ≡ letter b
-  unfolding letter
-  letter-digit g h =
-      let k : x ≤ 122 = omega arith in
-      let l : x ≤ 96 = omega arith in
-      rw (← e, le-ltb 122 x k, le-ltb 96 x l, le-ltb 57 x g, lt-ltb 47 x h)
-
-  pub letter-below : x ≤ 47 → 0 ≡ letter b
-  unfolding letter
-  letter-below h =
-      let k : x ≤ 122 = omega arith in
-      let l : x ≤ 96 = omega arith in
-      let m : x ≤ 57 = omega arith in
-      rw (← e, le-ltb 122 x k, le-ltb 96 x l, le-ltb 57 x m, le-ltb 47 x h)
-
-module _ (v b d : ℕ) (e : d ≡ letter b) where
-  pub named_more : v < 2 ^ 58 → 0 < d → v * 37 + d ≡ named v b
-  unfolding named
-  named_more g h = rw (← e, lt-ltb v (2 ^ 58) g, lt-ltb 0 d h)
-
-  pub named_other : v < 2 ^ 58 → d ≤ 0 → not_name ≡ named v b
-  unfolding named
-  named_other g h = rw (← e, lt-ltb v (2 ^ 58) g, le-ltb 0 d h)
-
-  pub named-long : 2 ^ 58 ≤ v → not_name ≡ named v b
-  unfolding named
-  named-long g = rw (le-ltb v (2 ^ 58) g)
-
--- ---- digits
-pub digit_low : (b : ℕ) → b < 48 → not (is_digit b) ≡ true
-digit_low b h = rw (lt-leb 48 b h)
-
-pub digit-high : (b : ℕ) → 57 < b → not (is_digit b) ≡ true
-digit-high b h =
-    let k : 48 ≤ b = omega arith in
-    rw (le-leb 48 b k, lt-leb b 57 h)
-
-pub digit-is : (b : ℕ) → 48 ≤ b → b ≤ 57 → not (is_digit b) ≡ false
-digit-is b g h = rw (le-leb 48 b g, le-leb b 57 h)
+  -- where the first that passes stands, or the length
+  pub found_first : unwrap_or (position p xs) (length xs) ≡ first_index p xs
+  found_first = go (ltb (position_or_len p xs) (length xs)) refl ∙ sym first_is
+    where
+      go : (t : Bool) → ltb (position_or_len p xs) (length xs) ≡ t → unwrap_or (cond t (Some (position_or_len p xs)) None) (length xs) ≡ position_or_len p xs
+      go true e = refl
+      go false e =
+          let h = ltb-false (position_or_len p xs) (length xs) e in
+          let k : position_or_len p xs ≤ length xs = prefix_len-le-length _ xs in
+          omega arith
 
 -- ---- the number that digits say
 pub value_grows : (v : ℕ) (bs : List ℕ) → v ≤ value_after v bs
@@ -104,25 +73,6 @@ within-over n h = rw (le-ltb n (2 ^ 64) h)
 
 pub within-is : (n v : ℕ) → v < 2 ^ 64 → v ≡ n → good_value v ≡ within n
 within-is n v h e = rw (← e, lt-ltb v (2 ^ 64) h)
-
--- ---- what stands behind the digits
-module _ (xs : List ℕ) (n : ℕ) where
-  pub factor-none : length xs ≤ n → 1 ≡ factor (drop n xs)
-  unfolding factor
-  factor-none h = rw (rest-nil xs n h)
-
-  pub factor-one : length xs ≡ n + 1 → suffix (get_or xs n 0) ≡ factor (drop n xs)
-  unfolding factor
-  factor-one e =
-      let h : n < length xs = omega arith in
-      let k : length xs ≤ n + 1 = omega arith in
-      rw (rest-cons xs 0 n h, rest-nil xs (n + 1) k)
-
-  pub factor-more : n + 1 < length xs → 0 ≡ factor (drop n xs)
-  unfolding factor
-  factor-more k =
-      let h : n < length xs = omega arith in
-      rw (rest-cons xs 0 n h, rest-cons xs 0 (n + 1) k)
 
 -- ---- a number that is within 64 bits, or isn't
 module _ (n : ℕ) (v : Value) where

@@ -1,9 +1,10 @@
 // What a text says: a name, as a number; a decimal number with a suffix.
 #![tactic(auto)]
 
-ghost use Rattle.std.specs.Prelude.{◌≡◌, ◌+◌, ◌-◌, ◌≤◌, ◌<◌, ◌^◌, length, drop};
+ghost use Rattle.std.specs.Prelude.{◌≡◌, ◌+◌, ◌-◌, ◌≤◌, ◌<◌, ◌^◌, ◌*◌, length, drop, not, position};
+ghost use Rattle.std.specs.Option.{SomeIff};
 ghost use Rattle.table_lines.specs.Decimal.{value_after};
-ghost use Rattle.request_texts.specs.Texts.{said, within, letter as letter_def, named, packed_name, leading as leading_def, suffix as suffix_def, factor as factor_def, number_text};
+ghost use Rattle.request_texts.specs.Texts.{said, within, is_digit, letter as letter_def, named, packed_name, leading as leading_def, suffix as suffix_def, factor as factor_def, number_text};
 
 // What a text gives; `number` is 0, or says what is wrong beside the value 0.
 #[derive(Clone, Copy)]
@@ -32,115 +33,100 @@ pub fn refused(number: u8) -> Value
 }
 
 // A small letter or a digit as a digit of base 37, from 1 on; 0 for any other byte.
+#[tactic(auto, unfolding(crate::specs::Texts::letter))]
 fn letter(b: u8) -> u64
     ensures { (result ≡ letter_def b) × (result ≤ 36) }
 {
-    let x = endian::numbers::wide(b);
-    if 122 < x {
-        return 0;
+    match b {
+        b'a'..=b'z' => u64::from(b - b'a') + 1,
+        b'0'..=b'9' => u64::from(b - b'0') + 27,
+        _ => 0,
     }
-    if 96 < x {
-        return x - 96;
-    }
-    if 57 < x {
-        return 0;
-    }
-    if 47 < x {
-        return x - 21;
-    }
-    0
 }
 
 // A name with one byte more.
+#[tactic(auto, unfolding(crate::specs::Texts::named))]
 pub fn push(v: u64, b: u8) -> u64
     ensures { result ≡ named v b }
 {
     let d = letter(b);
-    if v < LONG {
-        if 0 < d {
-            return v * 37 + d;
-        }
-        return NOT_A_NAME;
+    if v < LONG && 0 < d {
+        v * 37 + d
+    } else {
+        NOT_A_NAME
     }
-    NOT_A_NAME
 }
 
 // A name as a number.
 pub fn pack(name: &[u8]) -> u64
     ensures { result ≡ packed_name name.now }
 {
-    let mut v = 0;
-    let mut i = 0;
-    while i < name.len() {
-        v = push(v, name[i]);
-        i += 1;
-    }
-    v
+    name.iter().fold(0, |v, b| push(v, *b))
+}
+
+// Where the first byte that is no digit stands.
+fn first_other(text: &[u8]) -> Option<usize>
+    ensures { result ≡ position (λ b. not (is_digit b)) text.now }
+{
+    text.iter().position(|b| !b.is_ascii_digit())
 }
 
 // How many digits the text begins with.
 pub fn leading(text: &[u8]) -> usize
     ensures { (result ≡ leading_def text.now) × (result ≤ length text.now) }
 {
-    let mut i = 0;
-    while i < text.len() {
-        let b = text[i];
-        if b < 48 {
-            return i;
-        }
-        if 57 < b {
-            return i;
-        }
-        i += 1;
-    }
-    i
+    first_other(text).unwrap_or(text.len())
+}
+
+// A number with one digit more, where it has 64 bits or fewer.
+fn longer(value: u64, digit: u8) -> Option<u64>
+    ensures { SomeIff result (value * 10 + (digit - 48) < 2 ^ 64) (value * 10 + (digit - 48)) }
+{
+    value
+        .checked_mul(10)?
+        .checked_add(u64::from(digit.saturating_sub(b'0')))
 }
 
 // The number that the digits say.
 pub fn decimal(digits: &[u8]) -> Value
     ensures { result ≡ within (value_after 0 digits.now) }
 {
-    let mut v = 0;
-    let mut i = 0;
-    while i < digits.len() {
-        let d = arith::numbers::minus(endian::numbers::wide(digits[i]), 48);
-        if (0xffff_ffff_ffff_ffff - d) / 10 < v {
-            return refused(TOO_LARGE);
-        }
-        v = v * 10 + d;
-        i += 1;
+    let mut value: u64 = 0;
+    for digit in digits {
+        value = match longer(value, *digit) {
+            Some(next) => next,
+            None => return refused(TOO_LARGE),
+        };
     }
-    Value {
-        number: 0,
-        value: v,
-    }
+    Value { number: 0, value }
 }
 
 // What a suffix multiplies by; 0 for any other byte.
 fn suffix(b: u8) -> u64
     ensures { result ≡ suffix_def b }
 {
-    let e = arith::choice::pick_u64(b == b'E', 0x1000_0000_0000_0000, 0);
-    let p = arith::choice::pick_u64(b == b'P', 0x4_0000_0000_0000, e);
-    let t = arith::choice::pick_u64(b == b'T', 0x100_0000_0000, p);
-    let g = arith::choice::pick_u64(b == b'G', 0x4000_0000, t);
-    let m = arith::choice::pick_u64(b == b'M', 0x10_0000, g);
-    arith::choice::pick_u64(b == b'K', 0x400, m)
+    match b {
+        b'K' => 0x400,
+        b'M' => 0x10_0000,
+        b'G' => 0x4000_0000,
+        b'T' => 0x100_0000_0000,
+        b'P' => 0x4_0000_0000_0000,
+        b'E' => 0x1000_0000_0000_0000,
+        _ => 0,
+    }
 }
 
 // What stands behind the first n bytes: nothing, or one suffix; 0 for anything else.
+#[tactic(auto, unfolding(crate::specs::Texts::factor))]
 fn factor(text: &[u8], n: usize) -> u64
     requires { n ≤ length text.now }
     ensures { result ≡ factor_def (drop n text.now) }
 {
-    let left = text.len() - n;
-    if left == 0 {
-        return 1;
+    match &text[n..] {
+        [] => 1,
+        [b] => suffix(*b),
+        _ => 0,
     }
-    if left == 1 {
-        return suffix(text[n]);
-    }
-    0
 }
 
 // A number with a suffix or none.
@@ -159,11 +145,8 @@ pub fn number(text: &[u8]) -> Value
     if v.number != 0 {
         return refused(TOO_LARGE);
     }
-    if arith::numbers::product_fits(v.value, m) {
-        return Value {
-            number: 0,
-            value: v.value * m,
-        };
+    match v.value.checked_mul(m) {
+        Some(value) => Value { number: 0, value },
+        None => refused(TOO_LARGE),
     }
-    refused(TOO_LARGE)
 }

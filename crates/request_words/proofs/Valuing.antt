@@ -1,26 +1,21 @@
 -- Laws of the values behind `=`: each branch of a test, and each turn of a loop.
 -- Assumes nothing.
-use mathlib.Core.Path.{◌≡◌, sym}
+use mathlib.Core.Path.{◌≡◌}
 use mathlib.Core.Bool.{true, false}
 use mathlib.Core.List.{List}
-use Prim.Native.Nat.{ℕ, zero, suc, ◌+◌, ◌-◌, ◌/◌, ◌%◌, ◌≤◌, ◌<◌}
+use Prim.Native.Nat.{ℕ, zero, suc, ◌+◌, ◌≤◌, ◌<◌}
 use native.Mathlib.Numerals.{add-one}
 use native.Mathlib.Omega.{arith}
 use lib.Dec.{ltb, eqb}
-use lib.ListN.{length, get_or, drop, get_or-eq_default}
+use lib.ListN.{length, get_or, drop}
 use borrow.Author.Tests.{lt-ltb, le-ltb, le-leb, lt-leb, eq-eqb, ne_eqb}
-use Rattle.arith.specs.Choice.{when}
 use Rattle.request_texts.specs.declared.Value.{Value}
 use Rattle.request_words.specs.declared.Names.{Names}
 use Rattle.request_texts.specs.Texts.{good_value, malformed_value, too_large, named, packed_name, number_text}
-use Rattle.request_words.specs.Values.{label_key, features_key, sizing_key, profile_key, uuid_key, no_key, index_in, largest_values, weights, no_feature_list, turned, features_read, last_feature, next_byte, feature_mask, none_name, all_name, features_text, sizings, sizing_in, station_name, profile_in, hex, is_dash, fits_at, shaped, uuid_in, value_in, limited}
+use Rattle.request_words.specs.Values.{label_key, features_key, sizing_key, profile_key, uuid_key, index_in, largest_values, weights, no_feature_list, features_read, last_feature, next_byte, feature_mask, none_name, all_name, features_text, sizings, sizing_in, station_name, profile_in, hex, is_dash, fits_at, shaped, uuid_in, value_in, limited}
 use Rattle.text_pages.proofs.Places.{rest-cons, rest-nil}
 
 -- ---- tables
-pub no-weight : (bit : ℕ) → 7 ≤ bit → 0 ≡ get_or weights bit 0
-unfolding weights
-no-weight bit h = sym (get_or-eq_default weights 0 h)
-
 pub weight-small : (bit : ℕ) → get_or weights bit 0 ≤ 64
 unfolding weights
 weight-small zero = omega arith
@@ -32,25 +27,7 @@ weight-small (suc (suc (suc (suc (suc zero))))) = omega arith
 weight-small (suc (suc (suc (suc (suc (suc zero)))))) = omega arith
 weight-small (suc (suc (suc (suc (suc (suc (suc n))))))) = omega arith
 
-pub no-largest : (key : ℕ) → no_key ≤ key → 0 ≡ get_or largest_values key 0
-unfolding largest_values
-no-largest key h = sym (get_or-eq_default largest_values 0 h)
-
 -- ---- features
-module _ (mask sign w : ℕ) where
-  pub turned-no-list : no_feature_list ≤ mask → no_feature_list ≡ turned mask sign w
-  unfolding turned when
-  turned-no-list h = rw (le-leb no_feature_list mask h)
-
-  pub turned-no-name : mask < no_feature_list → w ≡ 0 → no_feature_list ≡ turned mask sign w
-  unfolding turned when
-  turned-no-name g h = rw (lt-leb no_feature_list mask g, eq-eqb w 0 h)
-
-  pub turned_by : mask < no_feature_list → (w ≡ 0 → ⊥)
-      → when (eqb sign 43) (when (eqb (mask / w % 2) 1) mask (mask + w)) (when (eqb sign 45) (when (eqb (mask / w % 2) 1) (mask - w) mask) no_feature_list) ≡ turned mask sign w
-  unfolding turned when
-  turned_by g ne = rw (lt-leb no_feature_list mask g, ne_eqb w 0 ne)
-
 module _ (s : Names) (b : ℕ) where
   pub byte-comma : (mask : ℕ) → mask ≡ last_feature s → b ≡ 44 → features_read mask 0 0 ≡ next_byte s b
   unfolding next_byte
@@ -103,68 +80,6 @@ module _ (text : List ℕ) (name : ℕ) (is : name ≡ packed_name text) where
   profile-bad ne = rw (← is, ne_eqb name station_name ne)
 
 -- ---- the UUID
-module _ (b : ℕ) where
-  pub hex-1 : 102 < b → 16 ≡ hex b
-  unfolding hex
-  hex-1 h = rw (lt-ltb 102 b h)
-
-  pub hex-2 : b ≤ 102 → 96 < b → b - 87 ≡ hex b
-  unfolding hex
-  hex-2 g h = rw (le-ltb 102 b g, lt-ltb 96 b h)
-
-  pub hex-3 : b ≤ 96 → 70 < b → 16 ≡ hex b
-  unfolding hex
-  hex-3 g h =
-      let k : b ≤ 102 = omega arith in
-      rw (le-ltb 102 b k, le-ltb 96 b g, lt-ltb 70 b h)
-
-  pub hex-4 : b ≤ 70 → 64 < b → b - 55 ≡ hex b
-  unfolding hex
-  hex-4 g h =
-      let k : b ≤ 102 = omega arith in
-      let l : b ≤ 96 = omega arith in
-      rw (le-ltb 102 b k, le-ltb 96 b l, le-ltb 70 b g, lt-ltb 64 b h)
-
-  pub hex-5 : b ≤ 64 → 57 < b → 16 ≡ hex b
-  unfolding hex
-  hex-5 g h =
-      let k : b ≤ 102 = omega arith in
-      let l : b ≤ 96 = omega arith in
-      let m : b ≤ 70 = omega arith in
-      rw (le-ltb 102 b k, le-ltb 96 b l, le-ltb 70 b m, le-ltb 64 b g, lt-ltb 57 b h)
-
-  module _ (g : b ≤ 57) where
-    pub hex-6 : 47 < b → b - 48 ≡ hex b
-    unfolding hex
-    hex-6 h =
-        let k : b ≤ 102 = omega arith in
-        let l : b ≤ 96 = omega arith in
-        let m : b ≤ 70 = omega arith in
-        let n : b ≤ 64 = omega arith in
-        rw (le-ltb 102 b k, le-ltb 96 b l, le-ltb 70 b m, le-ltb 64 b n, le-ltb 57 b g, lt-ltb 47 b h)
-
-    pub hex-7 : b ≤ 47 → 16 ≡ hex b
-    unfolding hex
-    hex-7 h =
-        let k : b ≤ 102 = omega arith in
-        let l : b ≤ 96 = omega arith in
-        let m : b ≤ 70 = omega arith in
-        let n : b ≤ 64 = omega arith in
-        rw (le-ltb 102 b k, le-ltb 96 b l, le-ltb 70 b m, le-ltb 64 b n, le-ltb 57 b g, le-ltb 47 b h)
-
-module _ (i : ℕ) where
-  pub dash-8 : i ≡ 8 → true ≡ is_dash i
-  dash-8 e = rw (eq-eqb i 8 e)
-
-  pub dash-13 : i ≡ 13 → true ≡ is_dash i
-  dash-13 e = rw e
-
-  pub dash-18 : i ≡ 18 → true ≡ is_dash i
-  dash-18 e = rw e
-
-  pub dash-23 : (i ≡ 8 → ⊥) → (i ≡ 13 → ⊥) → (i ≡ 18 → ⊥) → eqb i 23 ≡ is_dash i
-  dash-23 a b c = rw (ne_eqb i 8 a, ne_eqb i 13 b, ne_eqb i 18 c)
-
 module _ (i b : ℕ) where
   pub dash-fits : is_dash i ≡ true → eqb b 45 ≡ fits_at i b
   unfolding fits_at

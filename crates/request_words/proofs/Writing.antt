@@ -7,10 +7,9 @@ use Prim.Native.Nat.{ℕ, zero, suc, ◌+◌, ◌-◌, ◌*◌, ◌/◌, ◌%◌
 use native.Mathlib.Nat.{add-zero}
 use native.Mathlib.Omega.{arith}
 use lib.Dec.{T, ltb, leb, eqb}
-use lib.ListN.{length, get_or, drop, replicate, length-append, length-drop, get_or-eq_default}
+use lib.ListN.{length, get_or, drop, replicate, length-append, length-drop}
 use lib.Seq.{length-take-le}
-use borrow.Author.Tests.{lt-ltb, le-ltb, le-leb, lt-leb, eq-eqb, ne_eqb, ltb-true, leb-true}
-use Rattle.arith.specs.Choice.{when}
+use borrow.Author.Tests.{le-leb, lt-leb, eq-eqb, ne_eqb, ltb-true, leb-true}
 use Rattle.seqs.specs.Lists.{first_index}
 use Rattle.seqs.proofs.Laws.{choose-elim, index-le}
 use Rattle.endian.specs.Bytes.{be_bytes, patch}
@@ -25,7 +24,7 @@ use Rattle.request_texts.specs.Texts.{packed_name}
 use Rattle.text_pages.specs.Pages.{place_of_byte}
 use Rattle.request_words.specs.Values.{size_key, logical_key, physical_key, uuid_key, no_key, codes, index_in, names, largest_values, value_in, limited}
 use Rattle.request_words.specs.Words.{no_word, meant, word_by, word_at, word_then, split_words, words_from, word_with, given, words_verdict}
-use Rattle.request_words.specs.Asked.{digits_at, pair_at, pairs, device_record, option_record, option_records, label_record, uuid_record, words_request, longest, made_as, Puts, Makes}
+use Rattle.request_words.specs.Asked.{pair_at, pairs, device_record, option_record, option_records, label_record, uuid_record, words_request, longest, made_as, Puts, Makes}
 
 -- ---- bytes written behind others
 or_right : (a b : Bool) → b ≡ true → T (a || b)
@@ -121,50 +120,20 @@ module _ (xs : List ℕ) where
   found_inside w key at e = let i = lookup-all xs (Inside xs) (omega arith, omega arith) at-inside key at in (rw e i.0, rw e i.1)
 
 -- ---- the UUID's bytes
-module _ (j : ℕ) where
-  pub digits_4 : j < 4 → 2 * j ≡ digits_at j
-  unfolding digits_at when
-  digits_4 h = rw (lt-ltb j 4 h, add-zero)
-
-  pub digits_6 : 4 ≤ j → j < 6 → 2 * j + 1 ≡ digits_at j
-  unfolding digits_at when
-  digits_6 g h = rw (le-ltb j 4 g, lt-ltb j 6 h)
-
-  pub digits_8 : 6 ≤ j → j < 8 → 2 * j + 2 ≡ digits_at j
-  unfolding digits_at when
-  digits_8 g h =
-      let k : 4 ≤ j = omega arith in
-      rw (le-ltb j 4 k, le-ltb j 6 g, lt-ltb j 8 h)
-
-  pub digits-10 : 8 ≤ j → j < 10 → 2 * j + 3 ≡ digits_at j
-  unfolding digits_at when
-  digits-10 g h =
-      let k : 4 ≤ j = omega arith in
-      let l : 6 ≤ j = omega arith in
-      rw (le-ltb j 4 k, le-ltb j 6 l, le-ltb j 8 g, lt-ltb j 10 h)
-
-  pub digits-16 : 10 ≤ j → 2 * j + 4 ≡ digits_at j
-  unfolding digits_at when
-  digits-16 g =
-      let k : 4 ≤ j = omega arith in
-      let l : 6 ≤ j = omega arith in
-      let m : 8 ≤ j = omega arith in
-      rw (le-ltb j 4 k, le-ltb j 6 l, le-ltb j 8 m, le-ltb j 10 g)
-
-pub none-at : (xs : List ℕ) (i : ℕ) → length xs ≤ i → 0 ≡ get_or xs i 0
-none-at xs i h = sym (get_or-eq_default xs 0 h)
-
-pub pairs-turn : (i from : ℕ) (xs : List ℕ) → 0 < i → i ≤ 16 → pair_at from (i - 1) xs ∷ pairs (16 - i) i from xs ≡ pairs (16 - (i - 1)) (i - 1) from xs
-unfolding pairs
-pairs-turn i from xs h k =
-    let e : 16 - (i - 1) ≡ suc (16 - i) = omega arith in
-    let f : i - 1 + 1 ≡ i = omega arith in
-    rw (e, f) refl
-
 pub length_pairs : (n j from : ℕ) (xs : List ℕ) → length (pairs n j from xs) ≡ n
 unfolding pairs
 length_pairs zero j from xs = refl
 length_pairs (suc n) j from xs = ap suc (length_pairs n (j + 1) from xs)
+
+pub all-pairs : (n j from : ℕ) (xs bs : List ℕ) → length bs ≡ n → ((i : ℕ) → i < n → get_or bs i 0 ≡ pair_at from (j + i) xs) → bs ≡ pairs n j from xs
+unfolding pairs
+all-pairs zero j from xs [] l f = refl
+all-pairs zero j from xs (b ∷ bs) l f = absurd (omega arith)
+all-pairs (suc n) j from xs [] l f = absurd (omega arith)
+all-pairs (suc n) j from xs (b ∷ bs) l f =
+    let first : b ≡ pair_at from j xs = rw add-zero at (f 0 (omega arith)) in
+    let rest = all-pairs n (j + 1) from xs bs (omega arith) (λ i h. let e : j + suc i ≡ j + 1 + i = omega arith in rw e at (f (suc i) (omega arith))) in
+    rw (first, rest) refl
 
 -- ---- each record
 pub option-bytes : (code value : ℕ) → code < 256 → write_fields (table (0 ∷ 2 ∷ 2 ∷ 1 ∷ 3 ∷ 8 ∷ []) (0x4f50 ∷ code ∷ value ∷ [])) (replicate 11 0) ≡ op code value

@@ -9,7 +9,6 @@ ghost use Rattle.request_words.specs.Asked.{digits_at, pair_at, pairs, device_re
 use crate::values::{LABEL, LOGICAL, PHYSICAL, SIZE, UUID, hex};
 use crate::words::{find, verdict};
 use crate::{Made, Word};
-use arith::numbers::min_usize;
 use endian::{put_all, put_bytes};
 
 // The marks.
@@ -49,34 +48,24 @@ fn option_record(code: u64, value: u64) -> [u8; 11]
 fn byte_at(words: &[u8], from: usize, k: usize) -> u8
     ensures { result ≡ get_or words.now (from + k) 0 }
 {
-    let len = words.len();
-    if from < len {
-        if k < len - from {
-            return words[from + k];
-        }
-        return 0;
-    }
-    0
+    from.checked_add(k)
+        .and_then(|i| words.get(i).copied())
+        .unwrap_or(0)
 }
 
 // Where the two digits of byte j stand in a UUID's text.
+#[tactic(auto, unfolding(crate::specs::Asked::digits_at, arith::specs::Choice::when))]
 fn digits_at(j: usize) -> usize
     requires { j < 16 }
     ensures { (result ≡ digits_at j) × (result ≤ 34) }
 {
-    if j < 4 {
-        return 2 * j;
+    match j {
+        0..4 => 2 * j,
+        4..6 => 2 * j + 1,
+        6..8 => 2 * j + 2,
+        8..10 => 2 * j + 3,
+        _ => 2 * j + 4,
     }
-    if j < 6 {
-        return 2 * j + 1;
-    }
-    if j < 8 {
-        return 2 * j + 2;
-    }
-    if j < 10 {
-        return 2 * j + 3;
-    }
-    2 * j + 4
 }
 
 // Byte j of the UUID whose text stands at `from`.
@@ -90,15 +79,15 @@ fn pair_at(words: &[u8], from: usize, j: usize) -> u8
     high % 16 * 16 + low % 16
 }
 
-fn put_pairs(words: &[u8], from: usize, buf: &mut [u8], at: usize)
-    requires { at + 16 ≤ length buf.old }
-    ensures { buf.new ≡ patch at (pairs 16 0 from words.now) buf.old }
+// The bytes of the UUID whose text stands at `from`.
+fn pairs(words: &[u8], from: usize) -> [u8; 16]
+    ensures { result ≡ pairs 16 0 from words.now }
 {
-    let mut i = 16;
-    while 0 < i {
-        i -= 1;
-        buf[at + i] = pair_at(words, from, i);
+    let mut bytes = [0; 16];
+    for (j, b) in bytes.iter_mut().enumerate() {
+        *b = pair_at(words, from, j);
     }
+    bytes
 }
 
 // The device's record, at the buffer's start.
@@ -133,10 +122,8 @@ fn put_options(words: &[u8], buf: &mut [u8], at: usize) -> usize
     ensures { Puts at (option_records codes 1 (words_from 0 words.now)) 143 buf.old result buf.new }
 {
     let mut end = at;
-    let mut code = 1;
-    while code <= CODES {
+    for code in 1..CODES + 1 {
         end = put_option(words, code, buf, end);
-        code += 1;
     }
     end
 }
@@ -148,7 +135,7 @@ fn put_label(words: &[u8], buf: &mut [u8], at: usize) -> usize
 {
     let w = find(words, 0, LABEL);
     if w.key == LABEL {
-        let n = min_usize(w.end - w.from, 12);
+        let n = (w.end - w.from).min(12);
         let from = w.from;
         let end = from + n;
         put_bytes(buf, at, &[b'L', b'B', n as u8]);
@@ -166,7 +153,7 @@ fn put_uuid(words: &[u8], buf: &mut [u8], at: usize) -> usize
     let w = find(words, 0, UUID);
     if w.value == 1 {
         put_bytes(buf, at, b"ID");
-        put_pairs(words, w.from, buf, at + 2);
+        put_bytes(buf, at + 2, &pairs(words, w.from));
         return at + 18;
     }
     at

@@ -1,10 +1,10 @@
 // What the text behind `=` gives, by the word's key.
-ghost use Rattle.std.specs.Prelude.{◌≡◌, ◌≤◌, ◌<◌, length, get_or};
+ghost use Rattle.std.specs.Prelude.{◌≡◌, ◌≤◌, ◌<◌, eqb, length, get_or, position};
+ghost use Rattle.std.specs.List.{fold};
 ghost use Rattle.request_texts.specs.Texts.{good_value as good_def, packed_name};
-ghost use Rattle.request_words.specs.Values.{index_in, names, largest_values as largest_def, feature_names, weights, turned as turned_def, last_feature as finished_def, next_byte, feature_mask as listed_def, features_text, sizings, sizing_in, profile_in, hex as hex_def, is_dash, fits_at, shaped as shaped_def, uuid_in, value_in, limited as limited_def};
+ghost use Rattle.request_words.specs.Values.{index_in, names, largest_values as largest_def, feature_names, weights, turned as turned_def, last_feature as finished_def, features_read, next_byte, feature_mask as listed_def, features_text, sizings, sizing_in, profile_in, hex as hex_def, is_dash, fits_at, shaped as shaped_def, uuid_in, value_in, limited as limited_def};
 
 use crate::Names;
-use arith::choice::pick_u64;
 use request_texts::{MALFORMED, TOO_LARGE, Value, number, pack, push, refused};
 
 // The keys that are no option's code, and the options whose text is no number.
@@ -102,18 +102,18 @@ fn good(value: u64) -> Value
     Value { number: 0, value }
 }
 
-// Where a name stands in a table of names; the table's length where it doesn't.
+// Where a name stands in a table of names.
+fn place_in(table: &[u64], name: u64) -> Option<usize>
+    ensures { result ≡ position (λ n. eqb n name) table.now }
+{
+    table.iter().position(|n| *n == name)
+}
+
+// The same; the table's length where it doesn't stand there.
 fn index_in(table: &[u64], name: u64) -> usize
     ensures { (result ≡ index_in table.now name) × (result ≤ length table.now) }
 {
-    let mut i = 0;
-    while i < table.len() {
-        if table[i] == name {
-            return i;
-        }
-        i += 1;
-    }
-    i
+    place_in(table, name).unwrap_or(table.len())
 }
 
 // The key of a name; 18 where it is no word's.
@@ -127,27 +127,25 @@ pub(crate) fn key_of(name: &[u8]) -> usize
 fn weight(bit: usize) -> u64
     ensures { (result ≡ get_or weights bit 0) × (result ≤ 64) }
 {
-    if bit < 7 {
-        return WEIGHTS[bit];
-    }
-    0
+    WEIGHTS.get(bit).copied().unwrap_or(0)
 }
 
 // A feature of weight w turned on or off.
+#[tactic(auto, unfolding(crate::specs::Values::turned, arith::specs::Choice::when))]
 fn turned(mask: u64, sign: u8, w: u64) -> u64
     requires { w ≤ 64 }
     ensures { result ≡ turned_def mask sign w }
 {
-    if NO_FEATURES <= mask {
-        return NO_FEATURES;
-    }
-    if w == 0 {
+    if NO_FEATURES <= mask || w == 0 {
         return NO_FEATURES;
     }
     let is_on = mask / w % 2 == 1;
-    let off = pick_u64(is_on, arith::numbers::minus(mask, w), mask);
-    let on = pick_u64(is_on, mask, mask + w);
-    pick_u64(sign == b'+', on, pick_u64(sign == b'-', off, NO_FEATURES))
+    match sign {
+        b'+' if !is_on => mask + w,
+        b'-' if is_on => mask.saturating_sub(w),
+        b'+' | b'-' => mask,
+        _ => NO_FEATURES,
+    }
 }
 
 // The features with the one that was read last.
@@ -163,9 +161,8 @@ fn next_byte(s: Names, b: u8) -> Names
     ensures { result ≡ next_byte s b }
 {
     if b == b',' {
-        let mask = finished(s);
         return Names {
-            mask,
+            mask: finished(s),
             sign: 0,
             name: 0,
         };
@@ -177,29 +174,29 @@ fn next_byte(s: Names, b: u8) -> Names
             name: 0,
         };
     }
-    let name = push(s.name, b);
     Names {
-        mask: s.mask,
-        sign: s.sign,
-        name,
+        name: push(s.name, b),
+        ..s
     }
+}
+
+// What was read of a list of features at its end.
+fn names_in(text: &[u8]) -> Names
+    ensures { result ≡ fold next_byte (features_read 127 0 0) text.now }
+{
+    let none_read = Names {
+        mask: 127,
+        sign: 0,
+        name: 0,
+    };
+    text.iter().fold(none_read, |s, b| next_byte(s, *b))
 }
 
 // A list of features.
 fn listed(text: &[u8]) -> u64
     ensures { result ≡ listed_def text.now }
 {
-    let mut s = Names {
-        mask: 127,
-        sign: 0,
-        name: 0,
-    };
-    let mut i = 0;
-    while i < text.len() {
-        s = next_byte(s, text[i]);
-        i += 1;
-    }
-    finished(s)
+    finished(names_in(text))
 }
 
 // `none`, `all`, or a list of features.
@@ -242,43 +239,22 @@ fn profile(text: &[u8]) -> Value
 }
 
 // The value of a hexadecimal digit; 16 of any other byte.
+#[tactic(auto, unfolding(crate::specs::Values::hex))]
 pub(crate) fn hex(b: u8) -> u8
     ensures { (result ≡ hex_def b) × (result ≤ 16) }
 {
-    if 102 < b {
-        return 16;
+    match b {
+        b'a'..=b'f' => b - b'a' + 10,
+        b'A'..=b'F' => b - b'A' + 10,
+        b'0'..=b'9' => b - b'0',
+        _ => 16,
     }
-    if 96 < b {
-        return b - 87;
-    }
-    if 70 < b {
-        return 16;
-    }
-    if 64 < b {
-        return b - 55;
-    }
-    if 57 < b {
-        return 16;
-    }
-    if 47 < b {
-        return b - 48;
-    }
-    16
 }
 
 fn is_dash(i: usize) -> bool
     ensures { result ≡ is_dash i }
 {
-    if i == 8 {
-        return true;
-    }
-    if i == 13 {
-        return true;
-    }
-    if i == 18 {
-        return true;
-    }
-    i == 23
+    matches!(i, 8 | 13 | 18 | 23)
 }
 
 // Whether the byte may stand at index i of a UUID: four dashes, hexadecimal digits else.
@@ -294,12 +270,10 @@ fn fits_at(i: usize, b: u8) -> bool
 fn shaped(text: &[u8]) -> bool
     ensures { result ≡ shaped_def 0 text.now }
 {
-    let mut i = 0;
-    while i < text.len() {
-        if !fits_at(i, text[i]) {
+    for (i, b) in text.iter().enumerate() {
+        if !fits_at(i, *b) {
             return false;
         }
-        i += 1;
     }
     true
 }
@@ -343,13 +317,11 @@ fn value_in(key: usize, text: &[u8]) -> Value
 }
 
 // The largest value of a key.
+#[tactic(auto, unfolding(crate::specs::Values::largest_values))]
 fn largest(key: usize) -> u64
     ensures { result ≡ get_or largest_def key 0 }
 {
-    if key < KEYS {
-        return LARGEST[key];
-    }
-    0
+    LARGEST.get(key).copied().unwrap_or(0)
 }
 
 // The text's value, unless it is larger than its key allows.

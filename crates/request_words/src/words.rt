@@ -76,6 +76,7 @@ fn word_at(words: &[u8], at: usize) -> Word
 pub(crate) fn find(words: &[u8], from: usize, key: usize) -> Word
     ensures { result ≡ word_with key (words_from from words.now) }
 {
+    // How far the next word stands shows only once this one is read: an iterator of our own would hold this same walk.
     let mut at = from;
     while at < words.len() {
         let w = word_at(words, at);
@@ -106,6 +107,7 @@ fn has(words: &[u8], key: usize) -> bool
 fn judge(words: &[u8]) -> Verdict
     ensures { result ≡ judged 0 (words_from 0 words.now) }
 {
+    // How far the next word stands shows only once this one is read: an iterator of our own would hold this same walk.
     let mut at = 0;
     let mut index = 0;
     while at < words.len() {

@@ -4,4 +4,4 @@ use Rattle.request_expected.proofs.Laws.{expected-put}
 use Rattle.request_expected.proofs.put_expected.Goals as goal
 
 pub returns : goal.returns
-returns c = expected-put _ _ c.min_usize.ensures c.texts-page.ensures c.put_line.ensures
+returns c = expected-put _ _ c.min.ensures c.texts.ensures c.put_line.ensures

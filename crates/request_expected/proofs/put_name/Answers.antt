@@ -4,4 +4,4 @@ use Rattle.request_expected.proofs.Laws.{name-put}
 use Rattle.request_expected.proofs.put_name.Goals as goal
 
 pub returns : goal.returns
-returns c = name-put _ _ c.min_usize.ensures c.names-page.ensures c.put_line.ensures
+returns c = name-put _ _ c.min.ensures c.names.ensures c.put_line.ensures

@@ -10,4 +10,4 @@ pub returns-then-input-at-lt11 : goal.returns-then-input-at-lt11
 returns-then-input-at-lt11 c = c.no_record.ensures ∙ cut _ _ _ _ (omega arith)
 
 pub returns : goal.returns
-returns c = option-held _ _ _ _ (omega arith) c.wide.ensures.0 (got_in c.be64-n.ensures (omega arith))
+returns c = option-held _ _ _ _ (omega arith) c.from.ensures (got_in c.be64.ensures (omega arith))

@@ -1,15 +1,16 @@
 -- `request_input::well_formed` meets its contract.
 -- Assumes nothing.
 use mathlib.Core.Path.{sym, ◌∙◌}
-use native.Mathlib.Omega.{arith}
+use borrow.Author.Tests.{ne_eqb}
+use Rattle.std.proofs.Common.{rules}
 use Rattle.request_input.proofs.Splitting.{empty-input, other-first, device-first}
 use Rattle.request_input.proofs.well_formed.Goals as goal
 
-pub returns-then-input-eq0 : goal.returns-then-input-eq0
-returns-then-input-eq0 c = sym (empty-input _ c.if-input-eq0.true)
+pub returns-then-is_empty : goal.returns-then-is_empty
+returns-then-is_empty c = sym (empty-input _ (search rules))
 
-pub returns-then-first-ne-DEVICE : goal.returns-then-first-ne-DEVICE
-returns-then-first-ne-DEVICE c = sym (other-first _ _ c.record_at-first.ensures.0 (omega arith) c.if-first-ne-DEVICE.true)
+pub returns-then-record_at-eq-DEVICE : goal.returns-then-record_at-eq-DEVICE
+returns-then-record_at-eq-DEVICE c = c.all_sound.ensures ∙ sym (device-first _ _ c.record_at.ensures.0 (search rules) c.if-record_at-eq-DEVICE.true)
 
-pub returns : goal.returns
-returns c = c.all_sound.ensures ∙ sym (device-first _ _ c.record_at-first.ensures.0 (omega arith) c.if-first-ne-DEVICE.false)
+pub returns-else-record_at-eq-DEVICE : goal.returns-else-record_at-eq-DEVICE
+returns-else-record_at-eq-DEVICE c = ne_eqb c.record_at.result.key 0 c.if-record_at-eq-DEVICE.false ∙ sym (other-first _ _ c.record_at.ensures.0 (search rules) c.if-record_at-eq-DEVICE.false)

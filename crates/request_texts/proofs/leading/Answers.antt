@@ -1,25 +1,14 @@
--- `request_texts::leading` meets its contract. Invariant: what comes before i is digits.
+-- `request_texts::leading` meets its contract.
 -- Assumes nothing.
-use Rattle.text_pages.proofs.Places.{index-here, index-later, index-past}
-use Rattle.request_texts.proofs.Saying.{digit_low, digit-high, digit-is}
-use Rattle.request_texts.specs.Texts.{leading}
-use lib.ListN.{get_or}
-use native.Mathlib.Omega.{arith}
-use mathlib.Core.Path.{sym, ◌∙◌}
+use mathlib.Core.Path.{◌≡◌, ◌∙◌}
+use mathlib.Core.Bool.{not}
+use Prim.Native.Nat.{ℕ}
+use Rattle.request_texts.specs.Texts.{is_digit, leading}
+use Rattle.request_texts.proofs.Saying.{found_first, first-within}
 use Rattle.request_texts.proofs.leading.Goals as goal
 
-pub loop-i-init : goal.loop-i-init
-unfolding leading
-loop-i-init c = (omega arith, omega arith)
-
-pub returns-then-b-lt48 : goal.returns-then-b-lt48
-returns-then-b-lt48 c = (sym (c.loop-i.invariant.0 ∙ index-here _ _ _ (omega arith) (digit_low _ c.if-b-lt48.true)), c.loop-i.invariant.1)
-
-pub returns-then-b-gt57 : goal.returns-then-b-gt57
-returns-then-b-gt57 c = (sym (c.loop-i.invariant.0 ∙ index-here _ _ _ (omega arith) (digit-high _ c.if-b-gt57.true)), c.loop-i.invariant.1)
-
-pub loop-i-preserved : goal.loop-i-preserved
-loop-i-preserved c = (c.loop-i.invariant.0 ∙ index-later _ c.args.text.now c.loop-i.i (omega arith) (digit-is (get_or c.args.text.now c.loop-i.i 0) (omega arith) (omega arith)), omega arith)
-
 pub returns : goal.returns
-returns c = (sym (c.loop-i.invariant.0 ∙ index-past _ _ _ (omega arith)), c.loop-i.invariant.1)
+unfolding leading
+returns c =
+    let e : c.unwrap_or.result ≡ leading c.args.text.now = c.unwrap_or.ensures ∙ rw c.first_other.ensures (found_first (λ (b : ℕ). not (is_digit b)) c.args.text.now) in
+    (e, rw e (first-within (λ (b : ℕ). not (is_digit b)) c.args.text.now))

@@ -1,9 +1,9 @@
 -- `request_texts::number` meets its contract.
 -- Assumes nothing.
 use lib.Seq.{length-take-le}
-use Prim.Native.Nat.{◌*◌}
+use Prim.Native.Nat.{◌*◌, ◌^◌, ◌<◌}
 use Rattle.request_texts.proofs.Saying.{number-none, number_behind, number-over, number_fits, number-passes}
-use borrow.Author.Tests.{ltb-true}
+use borrow.Author.Tests.{lt-ltb, le-ltb}
 use native.Mathlib.Omega.{arith}
 use mathlib.Core.Path.{sym, ◌∙◌}
 use Rattle.request_texts.proofs.number.Goals as goal
@@ -20,11 +20,8 @@ slice_bounds-decimal-end c = sym (length-take-le _ _ c.leading-n.ensures.1)
 pub returns-then-v-ne0 : goal.returns-then-v-ne0
 returns-then-v-ne0 c = c.refused-then-v-ne0.ensures ∙ number-over _ _ c.leading-n.ensures.0 _ c.factor-m.ensures c.if-n-eq0.false _ c.decimal-v.ensures c.if-m-eq0.false c.if-v-ne0.true
 
-pub overflow_mul-result : goal.overflow_mul-result
-overflow_mul-result c = let h = ltb-true (c.decimal-v.result.value * c.factor-m.result) _ (sym c.product_fits.ensures ∙ c.if-product_fits.true) in omega arith
+pub returns-in-Some : goal.returns-in-Some
+returns-in-Some c = let f = c.in-Some.ensures in rw f.1 (number_fits _ _ c.leading-n.ensures.0 _ c.factor-m.ensures c.if-n-eq0.false _ c.decimal-v.ensures c.if-m-eq0.false c.if-v-ne0.false (lt-ltb _ _ f.0))
 
-pub returns-then-product_fits : goal.returns-then-product_fits
-returns-then-product_fits c = number_fits _ _ c.leading-n.ensures.0 _ c.factor-m.ensures c.if-n-eq0.false _ c.decimal-v.ensures c.if-m-eq0.false c.if-v-ne0.false (sym c.product_fits.ensures ∙ c.if-product_fits.true)
-
-pub returns : goal.returns
-returns c = c.refused-2.ensures ∙ number-passes _ _ c.leading-n.ensures.0 _ c.factor-m.ensures c.if-n-eq0.false _ c.decimal-v.ensures c.if-m-eq0.false c.if-v-ne0.false (sym c.product_fits.ensures ∙ c.if-product_fits.false)
+pub returns-in-None : goal.returns-in-None
+returns-in-None c = c.refused-in-None.ensures ∙ number-passes _ _ c.leading-n.ensures.0 _ c.factor-m.ensures c.if-n-eq0.false _ c.decimal-v.ensures c.if-m-eq0.false c.if-v-ne0.false (le-ltb _ (2 ^ 64) (let h : c.decimal-v.result.value * c.factor-m.result < 2 ^ 64 → ⊥ = c.in-None.ensures in omega arith))

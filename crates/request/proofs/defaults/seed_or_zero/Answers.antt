@@ -5,4 +5,4 @@ use Rattle.request.proofs.defaults.seed_or_zero.Goals as goal
 
 pub returns : goal.returns
 unfolding seed_of
-returns c = c.or_zero.ensures
+returns c = c.unwrap_or.ensures

@@ -5,4 +5,4 @@ use Rattle.request.proofs.defaults.time_or_zero.Goals as goal
 
 pub returns : goal.returns
 unfolding time_of
-returns c = c.or_epoch.ensures
+returns c = c.unwrap_or.ensures

@@ -5,4 +5,4 @@ use Rattle.request.proofs.defaults.uuid_or_zeros.Goals as goal
 
 pub returns : goal.returns
 unfolding uuid_of
-returns c = c.or_zeros.ensures
+returns c = c.unwrap_or.ensures

@@ -2,5 +2,5 @@
 -- Assumes nothing.
 use Rattle.request.proofs.options.features_of.Goals as goal
 
-pub returns-in-Given : goal.returns-in-Given
-returns-in-Given c = cc
+pub returns-in-Some : goal.returns-in-Some
+returns-in-Some c = cc

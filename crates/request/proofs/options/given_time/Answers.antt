@@ -6,4 +6,4 @@ use borrow.Author.Rules.{rules}
 use Rattle.request.proofs.options.given_time.Goals as goal
 
 pub returns : goal.returns
-returns c = cc (to_z-of_z w64 c.signed_of-s.result (search rules))
+returns c = cc (to_z-of_z w64 c.signed_of.result (search rules))

@@ -1,14 +1,12 @@
 -- `request::options::signed_of` meets its contract.
 -- Assumes nothing.
+use mathlib.Core.Path.{◌∙◌}
+use mir.Syntax.{w64}
+use mir.ValLaws.{to_z-of_z}
+use borrow.Author.Rules.{rules}
 use native.Mathlib.Omega.{arith}
-use Rattle.request.proofs.TwosComplement.{not_negative, negative_fits, negative}
+use Rattle.request.proofs.TwosComplement.{in_twos_complement}
 use Rattle.request.proofs.options.signed_of.Goals as goal
 
-pub returns-then-n-lt-HALF : goal.returns-then-n-lt-HALF
-returns-then-n-lt-HALF c = not_negative _ c.if-n-lt-HALF.true
-
-pub overflow_sub-result-2 : goal.overflow_sub-result-2
-overflow_sub-result-2 c = negative_fits _ c.if-n-lt-HALF.false (omega arith)
-
 pub returns : goal.returns
-returns c = negative _ c.if-n-lt-HALF.false (omega arith)
+returns c = to_z-of_z w64 c.cast_signed.result (search rules) ∙ c.cast_signed.ensures ∙ in_twos_complement _ (omega arith)

@@ -5,11 +5,11 @@ use lib.ListN.{length}
 use Rattle.request.proofs.Copies.{holds-given}
 use Rattle.request.proofs.options.uuid_of.Goals as goal
 
-pub sixteen_at-bytes-requires : goal.sixteen_at-bytes-requires
-sixteen_at-bytes-requires c = holds-given (λ (p : ℕ). p + 16 ≤ length c.args.input.now) _ _ c.in-Given.is c.requires
+pub sixteen_at-requires : goal.sixteen_at-requires
+sixteen_at-requires c = holds-given (λ (p : ℕ). p + 16 ≤ length c.args.input.now) _ _ c.in-Some.is c.requires
 
-pub returns-in-Given : goal.returns-in-Given
-returns-in-Given c = rw (c.in-Given.is, c.sixteen_at-bytes.ensures)
+pub returns-in-Some : goal.returns-in-Some
+returns-in-Some c = rw (c.in-Some.is, c.sixteen_at.ensures)
 
-pub returns-in-Absent : goal.returns-in-Absent
-returns-in-Absent c = rw c.in-Absent.is
+pub returns-in-None : goal.returns-in-None
+returns-in-None c = rw c.in-None.is

@@ -14,7 +14,7 @@ pub put_option-end-requires : goal.put_option-end-requires
 put_option-end-requires c = (omega arith, omega arith)
 
 pub loop-code-preserved : goal.loop-code-preserved
-loop-code-preserved c = (c.loop-code.invariant.0 ∙ turn-left _ _ _ _ _ _ c.put_option-end.ensures c.loop-code-test.true, c.loop-code.invariant.1 ∙ turn_end _ _ _ _ _ _ c.put_option-end.ensures c.loop-code-test.true, omega arith, omega arith, (let r = turn-room _ _ _ _ _ _ c.put_option-end.ensures c.loop-code-test.true in omega arith), turn-length _ _ _ _ _ _ c.put_option-end.ensures c.loop-code-test.true ∙ c.loop-code.invariant.5)
+loop-code-preserved c = (c.loop-code.invariant.0 ∙ turn-left _ _ _ _ _ _ c.put_option-end.ensures (omega arith), c.loop-code.invariant.1 ∙ turn_end _ _ _ _ _ _ c.put_option-end.ensures (omega arith), omega arith, omega arith, (let r = turn-room _ _ _ _ _ _ c.put_option-end.ensures (omega arith) in omega arith), turn-length _ _ _ _ _ _ c.put_option-end.ensures (omega arith) ∙ c.loop-code.invariant.5)
 
 pub shape_of-buf : goal.shape_of-buf
 shape_of-buf c = c.loop-code.invariant.5

@@ -11,6 +11,3 @@ use Rattle.request_words.proofs.records.put_options.Given as goal
 
 abbrev pub invariant-loop-code : goal.invariant-loop-code
 invariant-loop-code l = (patch l.at (option_records codes 1 (words_from 0 l.words)) l.initial.buf ≡ patch l.end (option_records (codes + 1 - l.code) l.code (words_from 0 l.words)) l.buf) × (l.at + length (option_records codes 1 (words_from 0 l.words)) ≡ l.end + length (option_records (codes + 1 - l.code) l.code (words_from 0 l.words))) × (1 ≤ l.code) × (l.code ≤ codes + 1) × (l.end + 11 * (codes + 1 - l.code) ≤ l.at + 143) × (length l.buf ≡ length l.initial.buf)
-
-abbrev pub decreases-loop-code : goal.decreases-loop-code
-decreases-loop-code l = codes + 1 - l.code

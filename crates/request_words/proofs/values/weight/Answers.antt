@@ -1,14 +1,12 @@
 -- `request_words::values::weight` meets its contract.
 -- Assumes nothing.
-use Rattle.request_words.proofs.Valuing.{weight-small, no-weight}
+use Rattle.std.proofs.Common.{rules, ◌≡◌, get_or}
+use Rattle.request_words.proofs.Valuing.{weight-small}
 use Rattle.request_words.specs.Values.{weights}
-use native.Mathlib.Omega.{arith}
-use mathlib.Core.Path.{refl}
 use Rattle.request_words.proofs.values.weight.Goals as goal
 
-pub returns-then-bit-lt7 : goal.returns-then-bit-lt7
-unfolding weights
-returns-then-bit-lt7 c = (refl, weight-small c.args.bit)
-
 pub returns : goal.returns
-returns c = (no-weight c.args.bit (omega arith), omega arith)
+unfolding weights
+returns c =
+    let e : c.unwrap_or.result ≡ get_or weights c.args.bit 0 = search rules in
+    (e, rw e (weight-small c.args.bit))
