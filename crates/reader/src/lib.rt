@@ -7,7 +7,6 @@ ghost use Rattle.plan.specs.Plan.{refused_plan};
 ghost use Rattle.reader_exact.specs.Read.{not_found, read_sized, read_group0, read_group, read_log};
 
 use geometry::Geometry;
-use params::OptU64;
 use plan::{AgPlan, Agfl, Planned, plan_ag};
 use reader_compare::heads::group_number;
 use reader_compare::logs::log_number;
@@ -22,7 +21,7 @@ fn no_plan(n: u32) -> Planned
     let blocks = [0u32; 64];
     let agfl = Agfl { blocks, len: 0 };
     let rmap = plan_rmap::empty();
-    let chunk = OptU64::Absent;
+    let chunk = None;
     let plan = AgPlan {
         agno: 0,
         length: 0,

@@ -127,7 +127,7 @@ module _ (g : Geometry) (u : List ℕ) (s : Source g u) where
       }
 
   typed-again : TypedRequest again
-  unfolding time_of seed_of
+  unfolding uuid_of time_of seed_of
   typed-again =
       let t = a.typed in
       record {

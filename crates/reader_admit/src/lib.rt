@@ -4,7 +4,7 @@
 ghost use Rattle.std.specs.Prelude.{◌≡◌};
 ghost use Rattle.reader_admit.specs.Admit.{admitted};
 
-use arith::choice::pick_u32;
+use arith::choice::pick;
 use geometry::Geometry;
 use profile::{label_on, profile_number};
 
@@ -15,5 +15,5 @@ pub fn admit(told: bool, g: Geometry, number: u32) -> u32
 {
     let label = label_on(g);
     let n = profile_number(told, g, label);
-    pick_u32(number == 0, n, number)
+    pick(number == 0, n, number)
 }

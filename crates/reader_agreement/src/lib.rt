@@ -4,7 +4,6 @@
 ghost use Rattle.std.specs.Prelude.{◌≡◌, ◌≤◌, length};
 ghost use Rattle.reader_agreement.specs.Agreed.{common, nothing_left as unknown_def, head_agreed, log_agreed, first_as, farther as farther_def, first_agreed, agreed_at};
 
-use arith::numbers::min_usize;
 use geometry::Geometry;
 use group_bytes::{LARGEST_HEAD, head_left, log_block};
 use reader_names::{named_by, uuid_of};
@@ -36,15 +35,13 @@ fn unknown() -> Agreement
 pub fn common_prefix(a: &[u8], b: &[u8]) -> usize
     ensures { result ≡ common a.now b.now }
 {
-    let n = min_usize(a.len(), b.len());
-    let mut i = 0;
-    while i < n {
+    let n = a.len().min(b.len());
+    for i in 0..n {
         if a[i] != b[i] {
             return i;
         }
-        i += 1;
     }
-    i
+    n
 }
 
 // Group k's head, with a work buffer of its length.

@@ -33,7 +33,7 @@ use Rattle.head_bytes.proofs.Lending.{sb-length, agf-length, agi-length, agfl-le
 use Rattle.head_bytes.proofs.Whole.{root-length}
 use Rattle.reader_decoded.specs.Decoded.{sector_at, block_at}
 use Rattle.reader_decoded.specs.Checks.{Checked}
-use Rattle.reader_decoded.proofs.Parts.{joined, part-behind, part-before}
+use Rattle.reader_decoded.proofs.Parts.{joined, part-behind}
 use Rattle.reader_decoded.proofs.Sectors.{whole, agf-there, agi-there, list-there, fine, sector-back, block_back}
 
 -- ---- a list of blocks, each with its checksum

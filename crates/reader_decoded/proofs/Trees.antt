@@ -1,5 +1,6 @@
 -- The trees of a head are read back: the free records are the plan's, and the chunk is where the plan has it.
 -- Assumes nothing.
+use Rattle.std.specs.Prelude.{Option, Some, None}
 use mathlib.Core.Path.{◌≡◌, refl, ap, sym, ◌∙◌}
 use mathlib.Core.Bool.{Bool, true, false, cond}
 use mathlib.Core.List.{List, [], ◌∷◌, ◌++◌, append-nil}
@@ -14,8 +15,6 @@ use Rattle.endian.specs.Bytes.{be_at}
 use Rattle.endian.specs.Fields.{part}
 use Rattle.structs.proofs.Reading.{read_number}
 use Rattle.structs.proofs.Lengths.{block-least}
-use Rattle.params.specs.declared.OptU64.{OptU64}
-use Rattle.params.specs.declared.OptU64.TheVariants.{Absent, Given}
 use Rattle.geometry.specs.declared.Geometry.{Geometry}
 use Rattle.geometry_layout.specs.Places.{ibt_block, daddr_of}
 use Rattle.geometry_layout.proofs.Bounding.{answer-bounds}
@@ -163,10 +162,10 @@ module _ (g : Geometry) (p : AgPlan) (uuid : List ℕ) (s : SbState) (l : length
   inodes-some : 0 < g.inopblock
   inodes-some = let b = (answer-bounds g l (plan-answer g p l h).0).sizes.inodes-power in rw b (pow_pos g.inopblog)
 
-  chunk-at : (c : OptU64) → cond (has_chunk c) (chunk_ino g.inopblog c / g.inopblock ∷ []) [] ≡ chunk_list c
+  chunk-at : (c : Option ℕ) → cond (has_chunk c) (chunk_ino g.inopblog c / g.inopblock ∷ []) [] ≡ chunk_list c
   unfolding has_chunk chunk_ino chunk_list
-  chunk-at Absent = refl
-  chunk-at (Given c) =
+  chunk-at None = refl
+  chunk-at (Some c) =
       let b = (answer-bounds g l (plan-answer g p l h).0).sizes.inodes-power in
       ap (λ (n : ℕ). n ∷ []) (ap (λ (n : ℕ). c * n / g.inopblock) (sym b) ∙ mul-div_cancel c inodes-some)
 

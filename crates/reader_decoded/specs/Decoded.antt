@@ -1,10 +1,8 @@
 -- What the bytes of a head say of its group's blocks: definitions on the bytes and the geometry that the superblock names, nothing else.
 -- Assumes nothing.
-use Rattle.std.specs.Prelude.{List, [], ◌∷◌, ℕ, zero, suc, ◌*◌, ◌/◌, ◌%◌, ◌^◌, length, get_or}
+use Rattle.std.specs.Prelude.{List, [], ◌∷◌, ℕ, zero, suc, ◌*◌, ◌/◌, ◌%◌, ◌^◌, length, get_or, Option, Some, None}
 use Rattle.endian.specs.Bytes.{be_at, numbers_at}
 use Rattle.endian.specs.Fields.{part}
-use Rattle.params.specs.declared.OptU64.{OptU64}
-use Rattle.params.specs.declared.OptU64.TheVariants.{Absent, Given}
 use Rattle.geometry.specs.declared.Geometry.{Geometry}
 use Rattle.geometry_layout.specs.Limits.{agfl_header_size, agfl_slot}
 use Rattle.geometry_layout.specs.Places.{agfl_size}
@@ -86,6 +84,6 @@ unfoldable pub count_in : List ℕ → ℕ
 count_in xs = be_at 8 144 xs
 
 -- ---- beside them, the chunk of a plan as a list: none, or its first block
-unfoldable pub chunk_list : OptU64 → List ℕ
-chunk_list Absent = []
-chunk_list (Given c) = c ∷ []
+unfoldable pub chunk_list : Option ℕ → List ℕ
+chunk_list None = []
+chunk_list (Some c) = c ∷ []

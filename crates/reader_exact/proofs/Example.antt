@@ -1,5 +1,6 @@
 -- A disk of 1 GiB without options is accepted and read back, so that no statement of this crate is about nothing; and for each number bytes that get it.
 -- Assumes nothing.
+use Rattle.std.specs.Prelude.{None}
 use mathlib.Core.Path.{◌≡◌, refl}
 use mathlib.Core.Bool.{true, false}
 use mathlib.Core.List.{List, [], ◌∷◌}
@@ -12,7 +13,6 @@ use Rattle.refusals.specs.Numbers.{free_list_short, no_answer, no_place, not_lef
 use Rattle.arith.specs.Choice.{when, bit}
 use Rattle.arith.specs.Numbers.{ceil_div}
 use Rattle.arith.specs.Powers.{power_in, power_log, least_from, log2_up}
-use Rattle.params.specs.declared.OptU64.TheVariants.{Absent}
 use Rattle.params.specs.Params.{all_features, no_options, with_agcount, with_label}
 use Rattle.geometry.specs.Sizes.{default_sector, sizes_of, sizes_refusals}
 use Rattle.geometry.specs.declared.Geometry.{Geometry}
@@ -76,7 +76,7 @@ computed = record { disk-number = refl; disk-judged = refl; named-number = refl;
 
 pub disk-accepted : AcceptedRun disk
 unfolding disk
-disk-accepted = record { typed = plain-typed all_features Absent false 1_073_741_824 (lit< tt) (lit< tt); number = computed.disk-number }
+disk-accepted = record { typed = plain-typed all_features None false 1_073_741_824 (lit< tt) (lit< tt); number = computed.disk-number }
 
 -- it has no label, and so is outside the profile
 pub disk-outside : in_profile (run_of disk).geometry (label_on (run_of disk).geometry) ≡ false
@@ -88,7 +88,7 @@ unfolding named
 named-accepted =
     record {
       typed =
-          labelled-typed all_features Absent (record { length = 2; bytes = 65 ∷ 66 ∷ replicate 10 0 }) false true 1_073_741_824 (lit< tt) refl (lit< tt, (lit< tt, below-zeros 10)) (lit< tt) (lit< tt);
+          labelled-typed all_features None (record { length = 2; bytes = 65 ∷ 66 ∷ replicate 10 0 }) false true 1_073_741_824 (lit< tt) refl (lit< tt, (lit< tt, below-zeros 10)) (lit< tt) (lit< tt);
       number = computed.named-number;
     }
 

@@ -1,6 +1,7 @@
 -- ROOMY DISKS: one whose log plain sizing gives too is reported with that sizing; one that plain sizing refuses in planning is read back as it is;
 -- and one that both sizings accept with different logs is read back with its own, and is refused with the other's geometry.
 -- Assumes nothing.
+use Rattle.std.specs.Prelude.{Some}
 use mathlib.Core.Path.{◌≡◌, refl, ap, sym, ◌∙◌}
 use mathlib.Core.Bool.{Bool, true, false, not}
 use mathlib.Core.List.{List}
@@ -12,7 +13,6 @@ use lib.ListN.{length}
 use Rattle.refusals.specs.Numbers.{free_list_short, not_left}
 use Rattle.endian.specs.Bytes.{be_at}
 use Rattle.params.specs.declared.Features.{Features}
-use Rattle.params.specs.declared.OptU64.TheVariants.{Given}
 use Rattle.params.specs.Params.{all_features, no_options, with_agsize, with_features, with_roomy}
 use Rattle.request.specs.declared.Request.{Request}
 use Rattle.arith.specs.Choice.{when, bit}
@@ -103,7 +103,7 @@ computed =
     }
 
 typed : (f : Features) (agsize device : ℕ) (roomy : Bool) → agsize < 2 ^ 64 → device < 2 ^ 64 → TypedRequest (asked f agsize device roomy)
-typed f agsize device roomy a d = plain-typed f (Given agsize) roomy device a d
+typed f agsize device roomy a d = plain-typed f (Some agsize) roomy device a d
 
 -- plain sizing refuses the second in planning
 pub crowded-refused : run_number (crowded false) ≡ free_list_short

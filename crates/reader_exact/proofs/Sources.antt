@@ -1,6 +1,7 @@
 -- 31 IS EXACT: a geometry is an answer exactly where a request of its types asks for it. And every answer whose plans are accepted is the
 -- geometry of an accepted run, with any UUID.
 -- Assumes nothing.
+use Rattle.std.specs.Prelude.{Some, None}
 use mathlib.Core.Path.{◌≡◌, refl, ap, ◌∙◌}
 use mathlib.Core.Bool.{Bool, true, false}
 use mathlib.Core.List.{List}
@@ -10,9 +11,6 @@ use borrow.Author.Tests.{eq-eqb}
 use lib.Dec.{lit<}
 use lib.IntN.{pos}
 use lib.ListN.{replicate}
-use Rattle.params.specs.declared.OptU64.TheVariants.{Absent}
-use Rattle.params.specs.declared.OptTime.TheVariants.{Absent as AbsentTime}
-use Rattle.params.specs.declared.Presence.TheVariants.{Given}
 use Rattle.params.specs.declared.Params.{Params}
 use Rattle.params.specs.Params.{options}
 use Rattle.geometry.specs.Sizes.{sizes_of}
@@ -38,7 +36,7 @@ use Rattle.reader_exact.specs.Left.{Handed}
 -- the options with this UUID, and with neither time nor seed
 abbrev with_uuid_alone : Params → List ℕ → Params
 with_uuid_alone p u =
-    options p.size p.block_size p.sector_size p.inode_size p.agcount p.agsize p.imaxpct p.label (record { presence = Given; bytes = u }) AbsentTime Absent p.features p.roomy
+    options p.size p.block_size p.sector_size p.inode_size p.agcount p.agsize p.imaxpct p.label (Some u) None None p.features p.roomy
 
 -- a run's geometry depends on neither
 pub step_same : (p : Params) (u : List ℕ) (device logical physical : ℕ) → compute_def (with_uuid_alone p u) device logical physical ≡ compute_def p device logical physical
@@ -87,7 +85,7 @@ module _ (g : Geometry) (u : List ℕ) (h : Handed g u) (a : is_answer g ≡ tru
   step_is = step_same named.answered.options u named.answered.device named.answered.logical named.answered.physical ∙ named.answered.accepted
 
   asked-typed : TypedRequest asked
-  unfolding time_of seed_of
+  unfolding uuid_of time_of seed_of
   asked-typed =
       record {
         options = options-typed named.answered.options u named.options;

@@ -1,5 +1,6 @@
 -- AGF, AGI AND FREE LIST of a head that a run leaves, field by field, whatever state its superblock is in.
 -- Assumes nothing.
+use Rattle.std.specs.Prelude.{Some, None}
 use mathlib.Core.Path.{◌≡◌, refl, ap, sym, ◌∙◌}
 use mathlib.Core.Bool.{Bool, true, false, cond}
 use mathlib.Core.List.{List, [], ◌∷◌}
@@ -16,7 +17,6 @@ use Rattle.structs.specs.Holds.{Holds}
 use Rattle.structs.specs.Written.{null32}
 use Rattle.structs.proofs.Lengths.{sector-least}
 use Rattle.structs.proofs.Reading.{read_number}
-use Rattle.params.specs.declared.OptU64.TheVariants.{Absent, Given}
 use Rattle.geometry.specs.declared.Geometry.{Geometry}
 use Rattle.geometry_layout.specs.Places.{cnt_block, ibt_block, fibt_block, rmap_block, refc_block, group_blocks}
 use Rattle.geometry_places.specs.Answers.{root_chunk}
@@ -51,12 +51,12 @@ use Rattle.reader_layout.specs.Layouts.{AgfAt, AgiAt, FreeListAt}
 
 -- ---- the chunk is group 0's
 
-chunk-has : (t : Bool) (c : ℕ) → has_chunk (cond t (Given c) Absent) ≡ t
+chunk-has : (t : Bool) (c : ℕ) → has_chunk (cond t (Some c) None) ≡ t
 unfolding has_chunk
 chunk-has true c = refl
 chunk-has false c = refl
 
-chunk-first : (t : Bool) (c log : ℕ) → chunk_ino log (cond t (Given c) Absent) ≡ when t (c * 2 ^ log) null32
+chunk-first : (t : Bool) (c log : ℕ) → chunk_ino log (cond t (Some c) None) ≡ when t (c * 2 ^ log) null32
 unfolding chunk_ino when
 chunk-first true c log = refl
 chunk-first false c log = refl

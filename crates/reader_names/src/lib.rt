@@ -41,24 +41,21 @@ fn long_at(head: &[u8], off: usize) -> u64
     requires { off + 8 ≤ length head.now }
     ensures { result ≡ be_at 8 off head.now }
 {
-    let read = be64(head, off);
-    read.value
+    be64(head, off).value
 }
 
 fn word_at(head: &[u8], off: usize) -> u32
     requires { off + 4 ≤ length head.now }
     ensures { result ≡ be_at 4 off head.now }
 {
-    let read = be32(head, off);
-    read.value
+    be32(head, off).value
 }
 
 fn half_at(head: &[u8], off: usize) -> u32
     requires { off + 2 ≤ length head.now }
     ensures { result ≡ be_at 2 off head.now }
 {
-    let read = be16(head, off);
-    read.value as u32
+    u32::from(be16(head, off).value)
 }
 
 fn byte_at(head: &[u8], off: usize) -> u8
@@ -68,29 +65,12 @@ fn byte_at(head: &[u8], off: usize) -> u8
     head[off]
 }
 
-fn label_at(head: &[u8], off: usize) -> [u8; 12]
-    requires { off + 12 ≤ length head.now }
-    ensures { result ≡ part off 12 head.now }
+fn bytes_at<const N: usize>(head: &[u8], off: usize) -> [u8; N]
+    requires { off + N ≤ length head.now }
+    ensures { result ≡ part off N head.now }
 {
-    let mut bytes = [0u8; 12];
-    let mut i = 0;
-    while i < 12 {
-        bytes[i] = head[off + i];
-        i += 1;
-    }
-    bytes
-}
-
-fn uuid_at(head: &[u8], off: usize) -> [u8; 16]
-    requires { off + 16 ≤ length head.now }
-    ensures { result ≡ part off 16 head.now }
-{
-    let mut bytes = [0u8; 16];
-    let mut i = 0;
-    while i < 16 {
-        bytes[i] = head[off + i];
-        i += 1;
-    }
+    let mut bytes = [0; N];
+    bytes.copy_from_slice(&head[off..off + N]);
     bytes
 }
 
@@ -99,17 +79,15 @@ fn names_at(head: &[u8]) -> Named
     requires { 512 ≤ length head.now }
     ensures { result ≡ names_at head.now }
 {
-    let features = features_at(word_at(head, 212), word_at(head, 216));
-    let label = label_at(head, 108);
     Named {
         dblocks: long_at(head, 8),
-        agsize: word_at(head, 84) as u64,
+        agsize: u64::from(word_at(head, 84)),
         blocksize: word_at(head, 4),
         sectsize: half_at(head, 102),
         inodesize: half_at(head, 104),
         imaxpct: byte_at(head, 127),
-        features,
-        label,
+        features: features_at(word_at(head, 212), word_at(head, 216)),
+        label: bytes_at(head, 108),
     }
 }
 
@@ -118,10 +96,9 @@ pub fn named_by(head: &[u8], roomy: bool) -> Computed
     ensures { result ≡ named_read roomy head.now }
 {
     if head.len() < LEAST_SECTOR {
-        let geometry = Geometry::zero();
         return Computed {
             number: refusals::WRONG_LENGTH,
-            geometry,
+            geometry: Geometry::zero(),
         };
     }
     names_at(head).answer(roomy)
@@ -132,7 +109,7 @@ pub fn uuid_of(head: &[u8]) -> [u8; 16]
     ensures { result ≡ uuid_read head.now }
 {
     if head.len() < LEAST_SECTOR {
-        return [0u8; 16];
+        return [0; 16];
     }
-    uuid_at(head, 32)
+    bytes_at(head, 32)
 }

@@ -1,13 +1,12 @@
 -- One pass over a disk: the bytes that it wants next, the state after they were fed, and what is said at the end.
 -- Assumes nothing.
-use Rattle.std.specs.Prelude.{Bool, true, false, cond, List, ℕ, ◌+◌, ◌-◌, ◌^◌, ltb, eqb, length, replicate}
+use Rattle.std.specs.Prelude.{Bool, true, false, cond, List, ℕ, ◌+◌, ◌-◌, ◌^◌, ltb, eqb, length, replicate, Result, Ok, Err}
 use Rattle.refusals.specs.Numbers.{wrong_length, not_left}
 use Rattle.arith.specs.Choice.{when}
 use Rattle.geometry.specs.declared.Geometry.{Geometry}
 use Rattle.geometry.specs.declared.Computed.{Computed}
 use Rattle.geometry.specs.Compute.{zero_geometry}
-use Rattle.geometry_places.specs.declared.ToByteOffset.{ToByteOffset}
-use Rattle.geometry_places.specs.declared.ToByteOffset.TheVariants.{Refused, At}
+use Rattle.geometry_places.specs.declared.ByteOffset.{ByteOffset}
 use Rattle.geometry_places.specs.Answers.{to_byte_offset}
 use Rattle.head_bytes.specs.Head.{head_length}
 use Rattle.reader_names.specs.Read.{named_read}
@@ -26,9 +25,9 @@ pass_begun = record { stage = Naming; number = 0; place = 0; geometry = zero_geo
 -- ---- what is wanted
 
 -- the offset, or for a place that is not there one behind every file
-abbrev pub byte_in : ToByteOffset → ℕ
-byte_in (Refused n) = 2 ^ 64 - 1
-byte_in (At b) = b.0
+abbrev pub byte_in : Result ByteOffset ℕ → ℕ
+byte_in (Err n) = 2 ^ 64 - 1
+byte_in (Ok b) = b.0
 
 -- where block b of group k begins on the device
 unfoldable pub place_byte : Geometry → ℕ → ℕ → ℕ

@@ -11,7 +11,7 @@ ghost use Rattle.reader_pass.specs.declared.Stage.TheVariants.{Heads};
 
 use geometry::Geometry;
 use geometry_places::units::agb_to_byte;
-use geometry_places::{GroupBlock, ToByteOffset};
+use geometry_places::{ByteOffset, GroupBlock};
 use group_bytes::head_length;
 use reader::{read_group0, read_log};
 use reader_compare::heads::group_number_in;
@@ -72,12 +72,12 @@ pub fn begin() -> Pass
 }
 
 // The offset, or for a place that is not there one behind every file.
-fn byte_in(place: ToByteOffset) -> u64
+fn byte_in(place: Result<ByteOffset, u32>) -> u64
     ensures { result ≡ byte_in place }
 {
     match place {
-        ToByteOffset::At(at) => at.0,
-        ToByteOffset::Refused(_) => u64::MAX,
+        Ok(at) => at.0,
+        Err(_) => u64::MAX,
     }
 }
 

@@ -1,5 +1,6 @@
 -- One use, by the bytes: on every disk that an accepted run leaves Each block of Each group has exactly one use.
 -- Assumes nothing.
+use Rattle.std.specs.Prelude.{Option, Some, None}
 use mathlib.Core.Path.{◌≡◌, refl, ap, ◌∙◌}
 use mathlib.Core.Logic.{⊎_elim}
 use mathlib.Core.List.{List, [], ◌∷◌}
@@ -9,8 +10,6 @@ use native.Mathlib.Omega.{arith}
 use Rattle.seqs.specs.Lists.{total}
 use Rattle.seqs.proofs.Laws.{lt-or-le}
 use Rattle.seqs.specs.Runs.{weigh, run_length, has}
-use Rattle.params.specs.declared.OptU64.{OptU64}
-use Rattle.params.specs.declared.OptU64.TheVariants.{Absent, Given}
 use Rattle.geometry.specs.declared.Geometry.{Geometry}
 use Rattle.geometry_layout.specs.Places.{group_blocks, chunk_of}
 use Rattle.btree.specs.declared.records.AllocRec.{AllocRec}
@@ -26,10 +25,10 @@ use Rattle.reader_uses.specs.ByUse.{head_part, log_runs, log_part, list_part, ch
 use Rattle.reader_uses.proofs.Decodings.{answer, numbered, list-is, free-is, chunks-are, log_is}
 
 -- a chunk as a list weighs what it weighs in the plan
-chunk-weighs : (f : ℕ → ℕ → ℕ) (g : Geometry) (c : OptU64) → weigh self (chunk_length_of g) f (chunk_list c) ≡ chunk_from f c (chunk_of g.inodesize g.blocksize)
+chunk-weighs : (f : ℕ → ℕ → ℕ) (g : Geometry) (c : Option ℕ) → weigh self (chunk_length_of g) f (chunk_list c) ≡ chunk_from f c (chunk_of g.inodesize g.blocksize)
 unfolding weigh chunk_list
-chunk-weighs f g Absent = refl
-chunk-weighs f g (Given c) = add-zero _
+chunk-weighs f g None = refl
+chunk-weighs f g (Some c) = add-zero _
 
 -- ---- numbers that add up to 0, and to 1
 

@@ -1,5 +1,6 @@
 -- planlist's table, by the bytes: every row and the last line are those of the plans.
 -- Assumes nothing.
+use Rattle.std.specs.Prelude.{Option, Some, None}
 use mathlib.Core.Bool.{cond}
 use mathlib.Core.Path.{◌≡◌, refl, ap, sym, ◌∙◌}
 use mathlib.Core.List.{List}
@@ -9,8 +10,6 @@ use lib.Dec.{eqb}
 use lib.ListN.{length}
 use borrow.Author.Tests.{eq-eqb}
 use Rattle.seqs.specs.Lists.{total}
-use Rattle.params.specs.declared.OptU64.{OptU64}
-use Rattle.params.specs.declared.OptU64.TheVariants.{Absent, Given}
 use Rattle.geometry.specs.declared.Geometry.{Geometry}
 use Rattle.geometry_layout.specs.Places.{chunk_of}
 use Rattle.plan_free.specs.Free.{alloc_count}
@@ -38,10 +37,10 @@ sums blocks log list chunk free = record { length = blocks; log = log; list = li
 same-sums : {a b c d e a' b' c' d' e' : ℕ} → a ≡ a' → b ≡ b' → c ≡ c' → d ≡ d' → e ≡ e' → sums a b c d e ≡ sums a' b' c' d' e'
 same-sums p q r s t = cc
 
-chunk_count : (c : OptU64) (n : ℕ) → length (chunk_list c) * n ≡ chunk_blocks_of c n
+chunk_count : (c : Option ℕ) (n : ℕ) → length (chunk_list c) * n ≡ chunk_blocks_of c n
 unfolding chunk_list
-chunk_count Absent n = zero-mul n
-chunk_count (Given c) n = one-mul n
+chunk_count None n = zero-mul n
+chunk_count (Some c) n = one-mul n
 
 module _ (g : Geometry) (u : List ℕ) (heads : ℕ → List ℕ) (d : LeftHeads g u heads) where
   abbrev size : ℕ

@@ -1,5 +1,6 @@
 -- Totals, by the bytes: free records and free-list entries of all groups are the superblock's free count, and all blocks but heads, log and chunk.
 -- Assumes nothing.
+use Rattle.std.specs.Prelude.{Some, None}
 use mathlib.Core.Path.{◌≡◌, ap, sym, ◌∙◌}
 use mathlib.Core.Bool.{Bool, true, false, cond}
 use mathlib.Core.List.{List}
@@ -9,7 +10,6 @@ use native.Mathlib.Omega.{arith}
 use lib.Dec.{eqb}
 use lib.ListN.{length}
 use Rattle.seqs.specs.Lists.{total}
-use Rattle.params.specs.declared.OptU64.TheVariants.{Absent, Given}
 use Rattle.geometry.specs.declared.Geometry.{Geometry}
 use Rattle.geometry.specs.Log.{prealloc_of}
 use Rattle.geometry_layout.specs.Places.{chunk_of}
@@ -37,7 +37,7 @@ module _ (g : Geometry) (u : List ℕ) (heads : ℕ → List ℕ) (d : LeftHeads
   chunk = chunk_of g.inodesize g.blocksize
 
   -- the chunk is group 0's
-  chunk-at : (t : Bool) (c : ℕ) → length (chunk_list (cond t (Given c) Absent)) * chunk ≡ cond t chunk 0
+  chunk-at : (t : Bool) (c : ℕ) → length (chunk_list (cond t (Some c) None)) * chunk ≡ cond t chunk 0
   unfolding chunk_list
   chunk-at true c = one-mul chunk
   chunk-at false c = zero-mul chunk

@@ -14,4 +14,4 @@ picked false a b = refl
 
 pub returns : goal.returns
 unfolding admitted
-returns c = c.pick_u32.ensures ∙ rw (c.profile_number-n.ensures, c.label_on-label.ensures) (picked _ _ _)
+returns c = c.pick.ensures ∙ rw (c.profile_number-n.ensures, c.label_on-label.ensures) (picked _ _ _)

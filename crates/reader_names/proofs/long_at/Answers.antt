@@ -5,4 +5,4 @@ use Rattle.endian.proofs.Laws.{got_in}
 use Rattle.reader_names.proofs.long_at.Goals as goal
 
 pub returns : goal.returns
-returns c = got_in c.be64-read.ensures (omega arith)
+returns c = got_in c.be64.ensures (omega arith)

@@ -7,7 +7,7 @@ use Rattle.reader_names.proofs.Laws.{short-read, full-answer}
 use Rattle.reader_names.proofs.named_by.Goals as goal
 
 pub returns-then-head-lt-LEAST_SECTOR : goal.returns-then-head-lt-LEAST_SECTOR
-returns-then-head-lt-LEAST_SECTOR c = short-read c.args.head.now c.args.roomy c.if-head-lt-LEAST_SECTOR.true _ c.zero-geometry.ensures
+returns-then-head-lt-LEAST_SECTOR c = short-read c.args.head.now c.args.roomy c.if-head-lt-LEAST_SECTOR.true _ c.zero.ensures
 
 pub returns : goal.returns
 returns c = let xs = c.args.head.now in

@@ -5,4 +5,4 @@ use Rattle.reader_names.proofs.names_at.Goals as goal
 
 pub returns : goal.returns
 unfolding names_at
-returns c = rw (c.byte_at.ensures, c.half_at-2.ensures, c.half_at.ensures, c.word_at-4.ensures, c.word_at-3.ensures, c.long_at.ensures, c.label_at-label.ensures, c.features_at-features.ensures, c.word_at-2.ensures, c.word_at.ensures)
+returns c = rw (c.bytes_at.ensures, c.features_at.ensures, c.word_at-4.ensures, c.word_at-3.ensures, c.byte_at.ensures, c.half_at-2.ensures, c.half_at.ensures, c.word_at-2.ensures, c.from.ensures, c.word_at.ensures, c.long_at.ensures)

@@ -11,4 +11,4 @@ returns-then-head-lt-LEAST_SECTOR c = sym (short-uuid c.args.head.now c.if-head-
 
 pub returns : goal.returns
 unfolding uuid_at
-returns c = c.uuid_at.ensures ∙ sym (full-uuid c.args.head.now (omega arith))
+returns c = c.bytes_at.ensures ∙ sym (full-uuid c.args.head.now (omega arith))

@@ -5,4 +5,4 @@ use Rattle.endian.proofs.Laws.{got_in}
 use Rattle.reader_names.proofs.word_at.Goals as goal
 
 pub returns : goal.returns
-returns c = got_in c.be32-read.ensures (omega arith)
+returns c = got_in c.be32.ensures (omega arith)
