@@ -31,10 +31,7 @@ pub struct Opened {
 fn or_next(a: u32, b: u32) -> u32
     ensures { result ≡ or_next a b }
 {
-    if a == 0 {
-        return b;
-    }
-    a
+    if a == 0 { b } else { a }
 }
 
 // The group that the calls are about, of the disk that input records ask for: 28, 1 to 24, 29, 25. Time and the other groups' plans aren't
@@ -44,15 +41,12 @@ pub fn open(input: &[u8], agno: u64) -> Opened
 {
     let q = request::parse(input);
     let c = Geometry::compute(q.params, q.device, q.logical, q.physical);
-    let geometry = c.geometry;
-    let h = plan_holds::start(geometry, agno);
-    let state = h.state;
+    let h = plan_holds::start(c.geometry, agno);
     let later = or_next(c.number, h.number);
-    let number = or_next(q.number, later);
     Opened {
-        number,
-        geometry,
-        state,
+        number: or_next(q.number, later),
+        geometry: c.geometry,
+        state: h.state,
     }
 }
 
@@ -60,9 +54,10 @@ fn answer(g: Geometry, s: Holds, c: Call) -> Held
     ensures { result ≡ call_answer g s c }
 {
     if c.release {
-        return plan_holds::release(g, s, c.at, c.length);
+        plan_holds::release(g, s, c.at, c.length)
+    } else {
+        plan_holds::hold(g, s, c.at, c.length)
     }
-    plan_holds::hold(g, s, c.at, c.length)
 }
 
 // A call made: its number, and the state for the next one. A refused call leaves the state as it was.
@@ -71,10 +66,8 @@ pub fn step(g: Geometry, s: Holds, c: Call) -> Held
 {
     let t = answer(g, s, c);
     if t.number == 0 {
-        return t;
-    }
-    Held {
-        number: t.number,
-        state: s,
+        t
+    } else {
+        Held { state: s, ..t }
     }
 }

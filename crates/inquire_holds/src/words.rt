@@ -3,8 +3,7 @@ ghost use Rattle.std.specs.Prelude.{◌≡◌, true, ◌<◌, length};
 ghost use Rattle.inquire_holds.specs.Words.{number_alone, no_call, called_with, run_in, word_is, call_in};
 
 use crate::Call;
-use arith::choice::both;
-use request_texts::{MALFORMED, Value, decimal, leading, pack};
+use request_texts::{MALFORMED, Value, decimal, leading, pack, refused};
 
 // The names `hold` and `release` as numbers.
 const HOLD: u64 = 426207;
@@ -16,12 +15,10 @@ pub fn number_alone(text: &[u8]) -> Value
     ensures { result ≡ number_alone text.now }
 {
     let n = leading(text);
-    if both(0 < n, n == text.len()) {
-        return decimal(text);
-    }
-    Value {
-        number: MALFORMED,
-        value: 0,
+    if 0 < n && n == text.len() {
+        decimal(text)
+    } else {
+        refused(MALFORMED)
     }
 }
 
@@ -59,26 +56,22 @@ fn run_in(release: bool, text: &[u8]) -> Call
     ensures { result ≡ run_in release text.now }
 {
     let n = leading(text);
-    if n < text.len() {
-        if text[n] == b':' {
-            let at = number_alone(&text[..n]);
-            let length = number_alone(&text[n + 1..]);
-            return called(release, at, length);
-        }
-        return no_call(MALFORMED);
+    if n < text.len() && text[n] == b':' {
+        called(
+            release,
+            number_alone(&text[..n]),
+            number_alone(&text[n + 1..]),
+        )
+    } else {
+        no_call(MALFORMED)
     }
-    no_call(MALFORMED)
 }
 
 // The text begins with a name of n bytes and a colon.
 fn word_is(text: &[u8], n: usize, name: u64) -> bool
     ensures { (result ≡ word_is n name text.now) × (result ≡ true → n < length text.now) }
 {
-    if n < text.len() {
-        let word = pack(&text[..n]);
-        return both(word == name, text[n] == b':');
-    }
-    false
+    n < text.len() && pack(&text[..n]) == name && text[n] == b':'
 }
 
 // The call that a word says.

@@ -24,10 +24,7 @@ fn refused() -> Written
 fn behind(last: bool) -> u8
     ensures { result ≡ cond last newline space }
 {
-    if last {
-        return b'\n';
-    }
-    b' '
+    if last { b'\n' } else { b' ' }
 }
 
 // A word and the byte behind it.

@@ -1,5 +1,6 @@
 -- The geometry step looks at a device's size by its whole blocks alone, and not at all for 1 to 8.
 -- Assumes nothing.
+use Rattle.std.specs.Prelude.{Option, Some, None}
 use mathlib.Core.Path.{◌≡◌, refl, ap, ◌∙◌}
 use mathlib.Core.Bool.{not, ◌&&◌}
 use mathlib.Core.List.{List, ◌∷◌, ◌++◌, append_assoc}
@@ -10,8 +11,6 @@ use borrow.Author.Tests.{ltb-false}
 use Rattle.refusals.specs.Numbers.{inobtcount_alone}
 use Rattle.refusals.specs.Table.{Refusal, ◌if◌, first}
 use Rattle.refusals.proofs.Clear.{Clear, passed}
-use Rattle.params.specs.declared.OptU64.{OptU64}
-use Rattle.params.specs.declared.OptU64.TheVariants.{Absent, Given}
 use Rattle.params.specs.declared.Params.{Params}
 use Rattle.geometry.specs.declared.sizes.Sizes.{Sizes}
 use Rattle.geometry.specs.Sizes.{sizes_of, sizes_refusals}
@@ -30,10 +29,10 @@ use Rattle.inquire_sizes.proofs.Tables.{first-append, first-clear}
 
 -- ---- whole blocks
 
-asked-alike : (o : OptU64) (d e bs : ℕ) → d / bs ≡ e / bs → asked_blocks o d bs ≡ asked_blocks o e bs
+asked-alike : (o : Option ℕ) (d e bs : ℕ) → d / bs ≡ e / bs → asked_blocks o d bs ≡ asked_blocks o e bs
 unfolding asked_blocks
-asked-alike (Given n) d e bs h = refl
-asked-alike Absent d e bs h = h
+asked-alike (Some n) d e bs h = refl
+asked-alike None d e bs h = h
 
 -- what is chosen for so many blocks
 abbrev chosen_for : Params → Sizes → ℕ → Chosen

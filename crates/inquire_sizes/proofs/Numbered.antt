@@ -1,5 +1,6 @@
 -- What the code works out of a block count is the number of a device of so many blocks.
 -- Assumes nothing.
+use Rattle.std.specs.Prelude.{Option, Some, None, is_some, unwrap_or}
 use mathlib.Core.Path.{◌≡◌, refl, sym, ap, ◌∙◌}
 use mathlib.Core.Bool.{Bool, true, false, ◌&&◌, cond}
 use mathlib.Core.List.{List, [], ◌∷◌, ◌++◌}
@@ -12,12 +13,7 @@ use lib.ListN.{length}
 use Rattle.refusals.specs.Numbers.{free_list_short, imaxpct_above100, label_too_long}
 use Rattle.arith.specs.Choice.{when}
 use Rattle.refusals.specs.Table.{Refusal, ◌if◌, first}
-use Rattle.params.specs.declared.OptU64.{OptU64}
-use Rattle.params.specs.declared.OptU64.TheVariants.{Absent, Given}
-use Rattle.params.specs.declared.OptU8.{OptU8}
-use Rattle.params.specs.declared.OptU8.TheVariants.{Absent as Absent8, Given as Given8}
 use Rattle.params.specs.declared.Params.{Params}
-use Rattle.params.specs.Options.{or64, given64}
 use Rattle.geometry.specs.Sizes.{sizes_of}
 use Rattle.geometry.specs.declared.groups.Groups.{Groups}
 use Rattle.geometry.specs.declared.Geometry.{Geometry}
@@ -61,10 +57,10 @@ default-few false true = refl
 default-few false false = refl
 
 -- 19 goes by the option alone: what stands for an absent one is at most 25
-percent-alike : (o : OptU8) (bs d e : ℕ) → ltb 100 (imaxpct_of o bs d) ≡ ltb 100 (imaxpct_of o bs e)
+percent-alike : (o : Option ℕ) (bs d e : ℕ) → ltb 100 (imaxpct_of o bs d) ≡ ltb 100 (imaxpct_of o bs e)
 unfolding default_imaxpct
-percent-alike (Given8 n) bs d e = refl
-percent-alike Absent8 bs d e =
+percent-alike (Some n) bs d e = refl
+percent-alike None bs d e =
     default-few (ltb d (tib / bs)) (ltb d (50 * tib / bs)) ∙ sym (default-few (ltb e (tib / bs)) (ltb e (50 * tib / bs)))
 
 less_both : (x a b : ℕ) → x - (a + b) ≡ x - a - b
@@ -97,25 +93,25 @@ module _ (p : Params) (logical physical : ℕ) (z : options_number p logical phy
 
   -- ---- groups
 
-  asked_is : (o : OptU64) → asked_blocks o device bs ≡ or64 (in_blocks o bs) n
+  asked_is : (o : Option ℕ) → asked_blocks o device bs ≡ unwrap_or (in_blocks o bs) n
   unfolding asked_blocks in_blocks
-  asked_is (Given b) = refl
-  asked_is Absent = mul-div_cancel n (block-pos p logical physical z)
+  asked_is (Some b) = refl
+  asked_is None = mul-div_cancel n (block-pos p logical physical z)
 
-  groups-is : (a c : OptU64) (d : ℕ) → initial_groups a c bs d ≡ groups_with (limits_of bs) d (in_blocks a bs) c
+  groups-is : (a c : Option ℕ) (d : ℕ) → initial_groups a c bs d ≡ groups_with (limits_of bs) d (in_blocks a bs) c
   unfolding initial_groups groups_with in_blocks limits_of default_group_size default_size
-  groups-is (Given s) c d = refl
-  groups-is Absent (Given m) d = refl
-  groups-is Absent Absent d = refl
+  groups-is (Some s) c d = refl
+  groups-is None (Some m) d = refl
+  groups-is None None d = refl
 
   abbrev a : Groups
   a = asked p logical physical device
 
-  asked-at : a ≡ groups_at f (or64 f.size n)
+  asked-at : a ≡ groups_at f (unwrap_or f.size n)
   unfolding groups_at fixed_of fixed_with sizes_of
   asked-at =
       ap (initial_groups p.agsize p.agcount bs) (asked_is p.size)
-      ∙ groups-is p.agsize p.agcount (or64 (in_blocks p.size bs) n)
+      ∙ groups-is p.agsize p.agcount (unwrap_or (in_blocks p.size bs) n)
 
   at-is : at_with f a ≡ at_of f n
   unfolding at_of
@@ -159,7 +155,7 @@ module _ (p : Params) (logical physical : ℕ) (z : options_number p logical phy
         mul-div_cancel n (block-pos p logical physical z),
         percent-alike p.imaxpct bs g.dblocks 0,
         le-ltb (min_group bs) (min_group bs) (le_refl (min_group bs)),
-        and-false (given64 p.agcount),
+        and-false (is_some p.agcount),
       )
 
   abbrev late : List Refusal

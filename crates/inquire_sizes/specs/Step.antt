@@ -1,16 +1,12 @@
 -- One size in plain numbers, as the code works it out: what the size has no part in is worked out once. `step_is` (proofs/Numbered.antt)
 -- says that this is the size's number.
 -- Assumes nothing.
-use Rattle.std.specs.Prelude.{not, false, ◌&&◌, List, [], ◌∷◌, ℕ, ◌-◌, ◌/◌, min, max, leb, ltb, eqb}
+use Rattle.std.specs.Prelude.{not, false, ◌&&◌, List, [], ◌∷◌, ℕ, ◌-◌, ◌/◌, min, max, leb, ltb, eqb, Option, Some, None, is_some, unwrap_or}
 use Rattle.refusals.specs.Numbers.{size_above_device, too_few_blocks, last_group_short, group_too_small, group_too_large, group_above_disk, too_many_groups, imaxpct_above100, label_too_long, disk_too_small, log_too_small, too_few_groups, agcount_unlike, free_list_short}
 use Rattle.refusals.specs.Table.{Refusal, ◌if◌, first}
 use Rattle.arith.specs.Choice.{when}
 use Rattle.arith.specs.Numbers.{ceil_div}
-use Rattle.params.specs.declared.OptU64.{OptU64}
-use Rattle.params.specs.declared.OptU64.TheVariants.{Absent, Given}
-use Rattle.params.specs.declared.OptU8.{OptU8}
 use Rattle.params.specs.declared.Params.{Params}
-use Rattle.params.specs.Options.{or64, given64}
 use Rattle.geometry.specs.Sizes.{sizes_of}
 use Rattle.geometry.specs.declared.groups.Groups.{Groups}
 use Rattle.geometry.specs.Limits.{min_group, max_group, max_groups, large_bytes, four_group_bytes, two_group_bytes, min_bytes, min_groups, realistic_log_bytes, max_log_bytes, max_log_blocks, log_ratio, max_imaxpct, label_room}
@@ -24,9 +20,9 @@ use Rattle.inquire_sizes.specs.declared.step.At.{At}
 -- ---- what the size has no part in
 
 -- an option of bytes in blocks
-unfoldable pub in_blocks : OptU64 → ℕ → OptU64
-in_blocks (Given bytes) bs = Given (bytes / bs)
-in_blocks Absent bs = Absent
+unfoldable pub in_blocks : Option ℕ → ℕ → Option ℕ
+in_blocks (Some bytes) bs = Some (bytes / bs)
+in_blocks None bs = None
 
 -- the limits, in blocks of bs bytes
 unfoldable pub limits_of : ℕ → Limits
@@ -43,11 +39,11 @@ limits_of bs =
     }
 
 -- 11 to 13, as for a disk that has blocks enough
-unfoldable pub early_number : OptU64 → OptU64 → ℕ → ℕ
+unfoldable pub early_number : Option ℕ → Option ℕ → ℕ → ℕ
 early_number agsize agcount bs = first (options_refusals agsize agcount bs (min_group bs) (min_group bs) false) 0
 
 -- 19 and 20; an absent imaxpct is at most 25 on any disk
-unfoldable pub late_number : OptU8 → ℕ → ℕ → ℕ
+unfoldable pub late_number : Option ℕ → ℕ → ℕ → ℕ
 late_number imaxpct label bs = first (imaxpct_above100 if ltb max_imaxpct (imaxpct_of imaxpct bs 0)
     ∷ label_too_long if ltb label_room label ∷ []) 0
 
@@ -77,10 +73,10 @@ default_group_size l d =
     (min l.most (ceil_div d (when (leb l.four d) 4 (when (leb l.two d) 2 1))))
 
 -- the groups before a short last one is dropped, with the options in blocks
-unfoldable pub groups_with : Limits → ℕ → OptU64 → OptU64 → Groups
-groups_with l d (Given s) count = groups_of d s
-groups_with l d Absent (Given n) = record { dblocks = d; agsize = ceil_div d n; agcount = n }
-groups_with l d Absent Absent = groups_of d (default_group_size l d)
+unfoldable pub groups_with : Limits → ℕ → Option ℕ → Option ℕ → Groups
+groups_with l d (Some s) count = groups_of d s
+groups_with l d None (Some n) = record { dblocks = d; agsize = ceil_div d n; agcount = n }
+groups_with l d None None = groups_of d (default_group_size l d)
 
 unfoldable pub groups_at : Fixed → ℕ → Groups
 groups_at f d = groups_with f.limits d f.agsize f.agcount
@@ -95,7 +91,7 @@ abbrev pub at_with : Fixed → Groups → At
 at_with f a = record { asked = a; groups = trim a f.limits.least; log = log_at f (trim a f.limits.least) }
 
 unfoldable pub at_of : Fixed → ℕ → At
-at_of f n = at_with f (groups_at f (or64 f.size n))
+at_of f n = at_with f (groups_at f (unwrap_or f.size n))
 
 -- ---- the number
 
@@ -106,7 +102,7 @@ size_refusals f n c = size_above_device if ltb n c.asked.dblocks ∷ too_few_blo
 -- 14 to 18
 unfoldable pub group_refusals : Fixed → At → List Refusal
 group_refusals f c =
-    last_group_short if (given64 f.agcount && is_short c.asked f.limits.least)
+    last_group_short if (is_some f.agcount && is_short c.asked f.limits.least)
     ∷ group_too_small if ltb c.groups.agsize f.limits.least
     ∷ group_too_large if ltb f.limits.most c.groups.agsize
     ∷ group_above_disk if ltb c.groups.dblocks c.groups.agsize

@@ -7,7 +7,6 @@ ghost use Rattle.inquire_sizes.specs.Step.{number_at};
 
 pub mod step; // step.rt: the number of one size
 
-use arith::choice::both;
 use arith::numbers::quotient;
 use geometry::sizes::{chosen_sizes, sizes_refusal};
 use params::Params;
@@ -33,7 +32,7 @@ pub fn options_number(p: Params, logical: u32, physical: u32) -> u32
     let f = p.features;
     let s = chosen_sizes(p, logical, physical);
     let n = sizes_refusal(s.block, s.sector, s.inode, s.logical, 0);
-    first(both(f.inobtcount, !f.finobt), refusals::INOBTCOUNT_ALONE, n)
+    first(f.inobtcount && !f.finobt, refusals::INOBTCOUNT_ALONE, n)
 }
 
 fn refused(n: u32) -> Range
@@ -50,10 +49,7 @@ fn refused(n: u32) -> Range
 fn no_range(from: u64, to: u64) -> bool
     ensures { result ≡ no_range from to }
 {
-    if to < from {
-        return true;
-    }
-    MOST_APART < to - from
+    to < from || MOST_APART < to - from
 }
 
 // Every size from one block count to another, both included.
@@ -61,8 +57,7 @@ fn scan(f: Fixed, from: u64, to: u64) -> Range
     requires { (from ≤ to) × (to < 2 ^ 63) }
     ensures { result ≡ range_of (number_at f) from to }
 {
-    let mut n = from;
-    while n <= to {
+    for n in from..=to {
         let m = number_at(f, n);
         if m != 0 {
             return Range {
@@ -71,7 +66,6 @@ fn scan(f: Fixed, from: u64, to: u64) -> Range
                 refusal: m,
             };
         }
-        n += 1;
     }
     Range {
         number: 0,
@@ -103,10 +97,8 @@ pub fn sizes_of(input: &[u8], smallest: u64, largest: u64) -> Range
     ensures { result ≡ sizes_asked input.now smallest largest }
 {
     let q = request::parse(input);
-    let number = q.number;
-    if number != 0 {
-        return refused(number);
+    if q.number != 0 {
+        return refused(q.number);
     }
-    let p = q.params;
-    sizes(p, q.logical, q.physical, smallest, largest)
+    sizes(q.params, q.logical, q.physical, smallest, largest)
 }

@@ -1,18 +1,16 @@
 // One size in plain numbers: what the size has no part in is worked out once, and then each block count in a few steps.
 ghost use Rattle.std.specs.Prelude.{◌≡◌, ◌/◌};
 ghost use Rattle.refusals.specs.Table.{first};
-ghost use Rattle.params.specs.Options.{or64, given64};
 ghost use Rattle.geometry.specs.Groups.{groups_of, group_blocks};
 ghost use Rattle.run.specs.Runs.{or_next};
 ghost use Rattle.inquire_sizes.specs.Step.{in_blocks, limits_of, early_number, late_number, fixed_of, default_group_size, groups_with, log_at, at_of, group_refusals, disk_refusals, number_at};
 
-use arith::choice::{both, pick_u64};
-use arith::numbers::{div_ceil, max_u64, min_u64, minus, quotient};
+use arith::numbers::{div_ceil, quotient};
 use geometry::Geometry;
 use geometry::groups::{Groups, is_short, min_group, options_refusal, trimmed};
 use geometry::log_size::{freelist_of, imaxpct_of, log_limit, prealloc_of};
 use geometry::sizes::chosen_sizes;
-use params::{Features, OptU8, OptU64, Params};
+use params::{Features, Params};
 use refusals::first;
 
 // Limits in blocks.
@@ -31,9 +29,9 @@ pub struct Limits {
 // What the device's size has no part in; sizes in blocks.
 #[derive(Clone, Copy)]
 pub struct Fixed {
-    pub size: OptU64,
-    pub agsize: OptU64,
-    pub agcount: OptU64,
+    pub size: Option<u64>,
+    pub agsize: Option<u64>,
+    pub agcount: Option<u64>,
     pub features: Features,
     pub roomy: bool,
     pub head: u64, // of each group
@@ -51,13 +49,10 @@ pub struct At {
 }
 
 // An option of bytes in blocks.
-fn in_blocks(option: OptU64, bs: u64) -> OptU64
+fn in_blocks(option: Option<u64>, bs: u64) -> Option<u64>
     ensures { result ≡ in_blocks option bs }
 {
-    match option {
-        OptU64::Given(bytes) => OptU64::Given(quotient(bytes, bs)),
-        OptU64::Absent => OptU64::Absent,
-    }
+    option.map(|bytes| quotient(bytes, bs))
 }
 
 // The limits in blocks of bs bytes.
@@ -77,7 +72,7 @@ fn limits_of(bs: u64) -> Limits
 }
 
 // 11 to 13, or 0: those of a disk that has blocks enough.
-fn early_number(agsize: OptU64, agcount: OptU64, bs: u64) -> u32
+fn early_number(agsize: Option<u64>, agcount: Option<u64>, bs: u64) -> u32
     ensures { result ≡ early_number agsize agcount bs }
 {
     let least = min_group(bs);
@@ -85,7 +80,7 @@ fn early_number(agsize: OptU64, agcount: OptU64, bs: u64) -> u32
 }
 
 // 19, 20, or 0: an absent imaxpct is at most 25 on any disk.
-fn late_number(imaxpct: OptU8, label: usize, bs: u64) -> u32
+fn late_number(imaxpct: Option<u8>, label: usize, bs: u64) -> u32
     ensures { result ≡ late_number imaxpct label bs }
 {
     let percent = imaxpct_of(imaxpct, bs, 0);
@@ -101,35 +96,18 @@ fn late_number(imaxpct: OptU8, label: usize, bs: u64) -> u32
 pub(crate) fn fixed_of(p: Params, logical: u32, physical: u32) -> Fixed
     ensures { result ≡ fixed_of p logical physical }
 {
-    let size = p.size;
-    let agsize = p.agsize;
-    let agcount = p.agcount;
-    let imaxpct = p.imaxpct;
-    let label = p.label;
-    let features = p.features;
     let s = chosen_sizes(p, logical, physical);
     let bs = s.block as u64;
-    let limits = limits_of(bs);
     Fixed {
-        size: in_blocks(size, bs),
-        agsize: in_blocks(agsize, bs),
-        agcount,
-        features,
+        size: in_blocks(p.size, bs),
+        agsize: in_blocks(p.agsize, bs),
+        agcount: p.agcount,
+        features: p.features,
         roomy: p.roomy,
-        head: prealloc_of(features, s.sector, bs),
-        limits,
-        early: early_number(agsize, agcount, bs),
-        late: late_number(imaxpct, label.length, bs),
-    }
-}
-
-// The blocks that are asked for: the size option's, else the device's.
-fn blocks_or(option: OptU64, n: u64) -> u64
-    ensures { result ≡ or64 option n }
-{
-    match option {
-        OptU64::Given(blocks) => blocks,
-        OptU64::Absent => n,
+        head: prealloc_of(p.features, s.sector, bs),
+        limits: limits_of(bs),
+        early: early_number(p.agsize, p.agcount, bs),
+        late: late_number(p.imaxpct, p.label.length, bs),
     }
 }
 
@@ -137,41 +115,42 @@ fn blocks_or(option: OptU64, n: u64) -> u64
 fn size_at(l: Limits, d: u64) -> u64
     ensures { result ≡ default_group_size l d }
 {
-    let groups = pick_u64(l.two <= d, 2, 1);
-    let groups = pick_u64(l.four <= d, 4, groups);
-    let part = min_u64(l.most, div_ceil(d, groups));
-    pick_u64(l.large <= d, l.most, part)
+    if l.large <= d {
+        return l.most;
+    }
+    let groups = if l.four <= d {
+        4
+    } else if l.two <= d {
+        2
+    } else {
+        1
+    };
+    l.most.min(div_ceil(d, groups))
 }
 
 // Groups of s blocks over d blocks.
 fn over(d: u64, s: u64) -> Groups
     ensures { result ≡ groups_of d s }
 {
-    let n = div_ceil(d, s);
     Groups {
         dblocks: d,
         agsize: s,
-        agcount: n,
+        agcount: div_ceil(d, s),
     }
 }
 
 // The groups before a short last one is dropped.
-fn groups_with(l: Limits, d: u64, agsize: OptU64, agcount: OptU64) -> Groups
+fn groups_with(l: Limits, d: u64, agsize: Option<u64>, agcount: Option<u64>) -> Groups
     ensures { result ≡ groups_with l d agsize agcount }
 {
-    match agsize {
-        OptU64::Given(s) => over(d, s),
-        OptU64::Absent => match agcount {
-            OptU64::Given(n) => {
-                let s = div_ceil(d, n);
-                Groups {
-                    dblocks: d,
-                    agsize: s,
-                    agcount: n,
-                }
-            }
-            OptU64::Absent => over(d, size_at(l, d)),
+    match (agsize, agcount) {
+        (Some(s), _) => over(d, s),
+        (None, Some(n)) => Groups {
+            dblocks: d,
+            agsize: div_ceil(d, n),
+            agcount: n,
         },
+        (None, None) => over(d, size_at(l, d)),
     }
 }
 
@@ -179,23 +158,21 @@ fn groups_with(l: Limits, d: u64, agsize: OptU64, agcount: OptU64) -> Groups
 fn log_at(f: Fixed, g: Groups) -> u64
     ensures { result ≡ log_at f g }
 {
-    let features = f.features;
     let l = f.limits;
-    let limit = log_limit(f.roomy, features, g.dblocks, g.agsize, g.agcount, f.head);
-    let wanted = max_u64(g.dblocks / Geometry::LOG_RATIO, l.least_log);
-    let within = min_u64(min_u64(wanted, limit), Geometry::MAX_LOG_BLOCKS);
-    min_u64(within, l.most_log)
+    let limit = log_limit(f.roomy, f.features, g.dblocks, g.agsize, g.agcount, f.head);
+    let wanted = (g.dblocks / Geometry::LOG_RATIO).max(l.least_log);
+    wanted
+        .min(limit)
+        .min(Geometry::MAX_LOG_BLOCKS)
+        .min(l.most_log)
 }
 
 // What a device of n blocks decides.
 fn at_of(f: Fixed, n: u64) -> At
     ensures { result ≡ at_of f n }
 {
-    let size = f.size;
-    let agsize = f.agsize;
-    let agcount = f.agcount;
     let l = f.limits;
-    let asked = groups_with(l, blocks_or(size, n), agsize, agcount);
+    let asked = groups_with(l, f.size.unwrap_or(n), f.agsize, f.agcount);
     let groups = trimmed(asked, l.least);
     let log = log_at(f, groups);
     At { asked, groups, log }
@@ -205,23 +182,24 @@ fn at_of(f: Fixed, n: u64) -> At
 fn log_group(g: Groups) -> u64
     ensures { result ≡ group_blocks g.dblocks g.agsize g.agcount (g.agcount / 2) }
 {
-    if g.agcount < 2 {
-        return g.dblocks;
+    match g.agcount {
+        0 | 1 => g.dblocks,
+        2 => g.dblocks.saturating_sub(g.agsize),
+        _ => g.agsize,
     }
-    if g.agcount == 2 {
-        return minus(g.dblocks, g.agsize);
-    }
-    g.agsize
 }
 
 // 21 to 25, the last test first.
 fn disk_refusal(f: Fixed, g: Groups, log: u64) -> u32
     ensures { result ≡ first (disk_refusals f g log) 0 }
 {
-    let features = f.features;
     let l = f.limits;
-    let behind = minus(minus(log_group(g), f.head), log);
-    let n = first(behind < freelist_of(features), refusals::FREE_LIST_SHORT, 0);
+    let behind = log_group(g).saturating_sub(f.head).saturating_sub(log);
+    let n = first(
+        behind < freelist_of(f.features),
+        refusals::FREE_LIST_SHORT,
+        0,
+    );
     let n = first(
         g.agcount != div_ceil(g.dblocks, g.agsize),
         refusals::AGCOUNT_UNLIKE,
@@ -236,20 +214,10 @@ fn disk_refusal(f: Fixed, g: Groups, log: u64) -> u32
     first(g.dblocks < l.least_disk, refusals::DISK_TOO_SMALL, n)
 }
 
-fn is_given(option: OptU64) -> bool
-    ensures { result ≡ given64 option }
-{
-    match option {
-        OptU64::Given(_) => true,
-        OptU64::Absent => false,
-    }
-}
-
 // 14 to 18, the last test first.
 fn group_refusal(f: Fixed, c: At, rest: u32) -> u32
     ensures { result ≡ first (group_refusals f c) rest }
 {
-    let agcount = f.agcount;
     let l = f.limits;
     let a = c.asked;
     let g = c.groups;
@@ -262,21 +230,14 @@ fn group_refusal(f: Fixed, c: At, rest: u32) -> u32
     let n = first(g.dblocks < g.agsize, refusals::GROUP_ABOVE_DISK, n);
     let n = first(l.most < g.agsize, refusals::GROUP_TOO_LARGE, n);
     let n = first(g.agsize < l.least, refusals::GROUP_TOO_SMALL, n);
-    first(
-        both(is_given(agcount), short),
-        refusals::LAST_GROUP_SHORT,
-        n,
-    )
+    first(f.agcount.is_some() && short, refusals::LAST_GROUP_SHORT, n)
 }
 
 // The first of two numbers that isn't 0.
 pub(crate) fn or_next(a: u32, b: u32) -> u32
     ensures { result ≡ or_next a b }
 {
-    if a == 0 {
-        return b;
-    }
-    a
+    if a == 0 { b } else { a }
 }
 
 // The number of a device of n blocks: 9 to 25, or 0.

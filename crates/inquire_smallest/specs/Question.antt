@@ -1,9 +1,8 @@
 -- A disk for so many pictures: the smallest device size, among some in steps of 1 MiB, that leaves so many free blocks.
 -- Assumes nothing.
-use Rattle.std.specs.Prelude.{◌≡◌, Bool, ◌&&◌, ◌||◌, cond, List, ℕ, ◌+◌, ◌*◌, ◌-◌, ◌^◌, ◌≤◌, ◌<◌, leb, ltb, eqb}
+use Rattle.std.specs.Prelude.{◌≡◌, Bool, ◌&&◌, ◌||◌, cond, List, ℕ, ◌+◌, ◌*◌, ◌-◌, ◌^◌, ◌≤◌, ◌<◌, leb, ltb, eqb, None}
 use Rattle.arith.specs.Choice.{when}
 use Rattle.refusals.specs.Numbers.{none_reaches, bad_sizes}
-use Rattle.params.specs.declared.OptU64.TheVariants.{Absent}
 use Rattle.params.specs.declared.Params.{Params}
 use Rattle.params.specs.Params.{options}
 use Rattle.geometry.specs.Limits.{mib}
@@ -19,7 +18,7 @@ use Rattle.inquire_smallest.specs.declared.Found.{Found}
 -- agsize and agcount are left to default: given ones are as if absent
 abbrev pub default_groups : Params → Params
 default_groups p =
-    options p.size p.block_size p.sector_size p.inode_size Absent Absent p.imaxpct p.label p.uuid p.time
+    options p.size p.block_size p.sector_size p.inode_size None None p.imaxpct p.label p.uuid p.time
     p.gen_seed p.features p.roomy
 
 -- ---- one size

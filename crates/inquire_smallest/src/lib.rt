@@ -4,10 +4,9 @@
 ghost use Rattle.std.specs.Prelude.{◌≡◌, ◌+◌, ◌*◌, ◌-◌, ◌≤◌, ◌<◌, ◌^◌};
 ghost use Rattle.inquire_smallest.specs.Question.{default_groups, reaches, smallest_call_refused, found_in, no_sizes, smallest_answer, smallest_asked};
 
-use arith::choice::both;
 use geometry::Geometry;
 use inquire_sizes::options_number;
-use params::{OptU64, Params};
+use params::Params;
 use request::defaults::uuid_or_zeros;
 use sb_states::finished_state;
 
@@ -28,11 +27,9 @@ pub struct Found {
 fn default_groups(p: Params) -> Params
     ensures { result ≡ default_groups p }
 {
-    let agcount = OptU64::Absent;
-    let agsize = OptU64::Absent;
     Params {
-        agcount,
-        agsize,
+        agcount: None,
+        agsize: None,
         ..p
     }
 }
@@ -45,10 +42,8 @@ fn is_enough(p: Params, logical: u32, physical: u32, wanted: u64, device: u64) -
     if c.number != 0 {
         return false;
     }
-    let g = c.geometry;
-    let s = finished_state(g, uuid_or_zeros(p));
-    let t = s.state;
-    both(s.number == 0, wanted <= t.fdblocks)
+    let s = finished_state(c.geometry, uuid_or_zeros(p));
+    s.number == 0 && wanted <= s.state.fdblocks
 }
 
 fn refused(n: u32) -> Found
@@ -61,13 +56,10 @@ fn refused(n: u32) -> Found
 fn no_sizes(start: u64, count: u64) -> bool
     ensures { result ≡ no_sizes start count }
 {
-    if count == 0 {
+    if count == 0 || MOST_SIZES < count {
         return true;
     }
-    if MOST_SIZES < count {
-        return true;
-    }
-    0xffff_ffff_ffff_ffff - (count - 1) * STEP < start
+    u64::MAX - (count - 1) * STEP < start
 }
 
 // The first of the sizes that is enough, or 38.
@@ -75,13 +67,11 @@ fn scan(p: Params, logical: u32, physical: u32, start: u64, count: u64, wanted: 
     requires { (count ≤ 65536) × (start + (count - 1) * 2 ^ 20 < 2 ^ 64) }
     ensures { result ≡ found_in p logical physical start count wanted }
 {
-    let mut i: u64 = 0;
-    while i < count {
+    for i in 0..count {
         let size = start + i * STEP;
         if is_enough(p, logical, physical, wanted, size) {
             return Found { number: 0, size };
         }
-        i += 1;
     }
     refused(refusals::NONE_REACHES)
 }
@@ -114,10 +104,8 @@ pub fn smallest_of(input: &[u8], start: u64, count: u64, wanted: u64) -> Found
     ensures { result ≡ smallest_asked input.now start count wanted }
 {
     let q = request::parse(input);
-    let number = q.number;
-    if number != 0 {
-        return refused(number);
+    if q.number != 0 {
+        return refused(q.number);
     }
-    let p = q.params;
-    smallest(p, q.logical, q.physical, start, count, wanted)
+    smallest(q.params, q.logical, q.physical, start, count, wanted)
 }

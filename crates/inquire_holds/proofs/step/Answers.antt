@@ -8,6 +8,6 @@ pub returns-then-t-eq0 : goal.returns-then-t-eq0
 unfolding call_stepped
 returns-then-t-eq0 c = rw (← c.answer-t.ensures, eq-eqb _ 0 c.if-t-eq0.true)
 
-pub returns : goal.returns
+pub returns-else-t-eq0 : goal.returns-else-t-eq0
 unfolding call_stepped
-returns c = rw (← c.answer-t.ensures, ne_eqb _ 0 c.if-t-eq0.false)
+returns-else-t-eq0 c = rw (← c.answer-t.ensures, ne_eqb _ 0 c.if-t-eq0.false)

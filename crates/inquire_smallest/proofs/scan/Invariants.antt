@@ -3,12 +3,9 @@
 use Rattle.inquire_smallest.proofs.Rows.{enough}
 use Rattle.inquire_smallest.specs.Question.{first_reaching}
 use Rattle.inquire_sizes.specs.First.{first_from}
-use Prim.Native.Nat.{◌-◌, ◌≤◌}
+use Prim.Native.Nat.{◌-◌}
 use mathlib.Core.Path.{◌≡◌}
 use Rattle.inquire_smallest.proofs.scan.Given as goal
 
 abbrev pub invariant-loop-i : goal.invariant-loop-i
-invariant-loop-i l = (l.i ≤ l.count) × (first_reaching l.p l.logical l.physical l.start l.count l.wanted ≡ first_from (enough l.p l.logical l.physical l.start l.wanted) l.i (l.count - l.i))
-
-abbrev pub decreases-loop-i : goal.decreases-loop-i
-decreases-loop-i l = l.count - l.i
+invariant-loop-i l = first_reaching l.p l.logical l.physical l.start l.count l.wanted ≡ first_from (enough l.p l.logical l.physical l.start l.wanted) l.i (l.count - l.i)

@@ -5,10 +5,10 @@ use borrow.Author.Tests.{eq-eqb, ne_eqb}
 use Rattle.inquire_smallest.specs.Question.{smallest_asked}
 use Rattle.inquire_smallest.proofs.smallest_of.Goals as goal
 
-pub returns-then-number-ne0 : goal.returns-then-number-ne0
+pub returns-then-q-ne0 : goal.returns-then-q-ne0
 unfolding smallest_asked
-returns-then-number-ne0 c = c.refused.ensures ∙ rw (← c.parse-q.ensures, ne_eqb _ 0 c.if-number-ne0.true)
+returns-then-q-ne0 c = c.refused.ensures ∙ rw (← c.parse-q.ensures, ne_eqb _ 0 c.if-q-ne0.true)
 
 pub returns : goal.returns
 unfolding smallest_asked
-returns c = c.smallest.ensures ∙ rw (← c.parse-q.ensures, eq-eqb _ 0 c.if-number-ne0.false)
+returns c = c.smallest.ensures ∙ rw (← c.parse-q.ensures, eq-eqb _ 0 c.if-q-ne0.false)

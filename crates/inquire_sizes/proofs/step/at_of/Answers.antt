@@ -5,4 +5,4 @@ use Rattle.inquire_sizes.proofs.step.at_of.Goals as goal
 
 pub returns : goal.returns
 unfolding groups_at at_of
-returns c = rw (c.log_at-log.ensures, c.trimmed-groups.ensures, c.groups_with-asked.ensures, c.blocks_or.ensures)
+returns c = rw (c.log_at-log.ensures, c.trimmed-groups.ensures, c.groups_with-asked.ensures, c.unwrap_or.ensures)

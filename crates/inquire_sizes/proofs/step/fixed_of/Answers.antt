@@ -5,4 +5,4 @@ use Rattle.inquire_sizes.proofs.step.fixed_of.Goals as goal
 
 pub returns : goal.returns
 unfolding fixed_with fixed_of
-returns c = rw (c.late_number.ensures, c.early_number.ensures, c.prealloc_of.ensures, c.in_blocks-2.ensures, c.in_blocks.ensures, c.limits_of-limits.ensures, c.chosen_sizes-s.ensures)
+returns c = rw (c.late_number.ensures, c.early_number.ensures, c.limits_of.ensures, c.prealloc_of.ensures, c.in_blocks-2.ensures, c.in_blocks.ensures, c.chosen_sizes-s.ensures)

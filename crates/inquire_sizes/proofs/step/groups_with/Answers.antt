@@ -1,16 +1,17 @@
 -- `inquire_sizes::step::groups_with` meets its contract.
 -- Assumes nothing.
+use Rattle.std.proofs.Common.{rules}
 use Rattle.inquire_sizes.specs.Step.{groups_with}
 use Rattle.inquire_sizes.proofs.step.groups_with.Goals as goal
 
-pub returns-in-Given : goal.returns-in-Given
+pub returns-in-Some-default : goal.returns-in-Some-default
 unfolding groups_with
-returns-in-Given c = rw (c.over.ensures, c.in-Given.is)
+returns-in-Some-default c = search rules
 
-pub returns-in-Given-agcount : goal.returns-in-Given-agcount
+pub returns-in-None-Some : goal.returns-in-None-Some
 unfolding groups_with
-returns-in-Given-agcount c = rw (c.div_ceil-s.ensures, c.in-Given-agcount.is, c.in-Absent.is)
+returns-in-None-Some c = search rules
 
-pub returns-in-Absent-agcount : goal.returns-in-Absent-agcount
+pub returns-in-None-None : goal.returns-in-None-None
 unfolding groups_with
-returns-in-Absent-agcount c = rw (c.over-in-Absent-agcount.ensures, c.size_at.ensures, c.in-Absent-agcount.is, c.in-Absent.is)
+returns-in-None-None c = search rules
