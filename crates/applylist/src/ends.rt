@@ -17,10 +17,7 @@ fn one_end() -> [u8; 131072]
 
 // Whether the bytes from the offset on are there, as many as are lent, and all of them are zero.
 pub(crate) fn is_blank_at(file: &File, at: u64, buf: &mut [u8]) -> bool {
-    match file.read_exact_at(buf, at) {
-        Ok(()) => is_blank(buf),
-        Err(_) => false,
-    }
+    file.read_exact_at(buf, at).is_ok() && is_blank(buf)
 }
 
 // The same of 128 KiB.
@@ -31,13 +28,10 @@ fn is_blank_end(file: &File, at: u64) -> bool {
 
 // Whether both ends hold zeros alone; bytes that can't be read aren't zeros. No list fits a file that is shorter than one end.
 pub(crate) fn are_blank(file: &File, size: u64) -> bool {
-    if size < END {
-        return true;
+    match size.checked_sub(END) {
+        Some(last) => is_blank_end(file, 0) && is_blank_end(file, last),
+        None => true,
     }
-    if !is_blank_end(file, 0) {
-        return false;
-    }
-    is_blank_end(file, size - END)
 }
 
 // Whether it is a plain file for which the system keeps no block, so that it holds no data at all.

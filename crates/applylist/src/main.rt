@@ -26,12 +26,15 @@ use std::env::Env;
 use std::fs::File;
 use std::io::{Error, Read, Seek, SeekFrom, Write};
 
-// What a file or device may hold: anything, nothing at its ends, or, as a plain file, nothing at all.
-const ANYTHING: u8 = 0;
-
-const BLANK: u8 = 1;
-
-const HOLE: u8 = 2;
+// What a list is applied to: what is there, a plain file that may become longer, what holds nothing at its ends, or a plain file that is
+// one hole.
+#[derive(Clone, Copy, PartialEq, Eq)]
+enum Onto {
+    Anything,
+    Extended,
+    Blank,
+    Hole,
+}
 
 // The end of the largest file.
 const LARGEST: u64 = 0x7fff_ffff_ffff_ffff;
@@ -45,16 +48,18 @@ pub(crate) enum Failed {
     Flush(Error),
 }
 
-// The list so far, which call failed, the record in hand or at which it failed, whether the list goes on, how many of the bytes that were
-// read ahead are used, and, behind zeros that stood in the file already, where they end.
+// The list so far, which call failed, the record in hand or at which it failed, and, behind zeros that stood in the file already, where
+// they end.
 #[derive(Clone, Copy)]
 struct Progress {
     applying: Applying,
     failed: Option<Failed>,
     record: u64,
-    goes_on: bool,
-    used: usize,
     until: u64,
+}
+
+fn goes_on(p: Progress) -> bool {
+    p.failed.is_none() && stop_of(p.applying) == GOES_ON
 }
 
 // Zeros, and then a flush.
@@ -65,7 +70,7 @@ fn put_and_flush(
     at: u64,
     fills: bool,
 ) -> Result<(), Failed> {
-    output::put_zeros(file, zeros, len as u64, at, fills)?;
+    output::put_zeros(file, zeros, len, at, fills)?;
     output::flush(file)
 }
 
@@ -108,8 +113,6 @@ fn halted(a: Applying, failed: Failed, record: u64) -> Progress
         applying: a,
         failed: Some(failed),
         record,
-        goes_on: false,
-        used: 0,
         until: 0,
     }
 }
@@ -120,7 +123,6 @@ fn feed_first(
     fills: bool,
     a: Applying,
     n: usize,
-    used: usize,
     until: u64,
     zeros: &[u8],
     buf: &[u8],
@@ -136,8 +138,6 @@ fn feed_first(
                 applying: next,
                 failed: None,
                 record: record_of(next),
-                goes_on: stop_of(next) == GOES_ON,
-                used,
                 until: end,
             }
         }
@@ -151,22 +151,20 @@ fn take_turn<R: Read>(
     file: &File,
     fills: bool,
     a: Applying,
-    ahead: &[u8],
-    used: usize,
     until: u64,
     zeros: &[u8],
     buf: &mut [u8],
 ) -> Progress
     ensures { Fed (length buf.old) a result.applying }
 {
-    let i = input::fill_wanted(list, ahead, used, kept_of(a), wants(a, buf.len()), buf);
-    if let Some(error) = i.failed {
-        return halted(a, Failed::Read(error), record_of(a));
+    match input::fill_wanted(list, kept_of(a), wants(a, buf.len()), buf) {
+        Ok(n) => feed_first(file, fills, a, n, until, zeros, buf),
+        Err(error) => halted(a, Failed::Read(error), record_of(a)),
     }
-    feed_first(file, fills, a, i.n, i.used, until, zeros, buf)
 }
 
-// All records, as far as the limit. A proved loop has to end, so it counts its turns down from a number that no list uses up.
+// All records, as far as the limit: those in the bytes that were read ahead, and the rest. A proved loop has to end, so its turns are as
+// many as no list uses up.
 fn apply(
     rt: &HostRuntime,
     file: &File,
@@ -182,19 +180,16 @@ fn apply(
         applying: begin(limit),
         failed: None,
         record: 1,
-        goes_on: true,
-        used: 0,
         until: 0,
     };
-    let mut list = rt.stdin();
+    let mut list = ahead.chain(rt.stdin());
     let mut clock = clock::start(rt);
-    let mut turns = u64::MAX;
-    while 0 < turns && p.goes_on {
-        p = take_turn(
-            &mut list, file, fills, p.applying, ahead, p.used, p.until, zeros, buf,
-        );
+    for _ in 0..u64::MAX {
+        if !goes_on(p) {
+            break;
+        }
+        p = take_turn(&mut list, file, fills, p.applying, p.until, zeros, buf);
         clock = clock.show(rt, p.record);
-        turns -= 1;
     }
     clock.end();
     p
@@ -321,8 +316,8 @@ fn open(rt: &HostRuntime, i: usize) -> Option<File> {
 }
 
 // Where the last byte may end: the end of the file or device, or of the largest file where it may be extended.
-fn limit_of(mut file: &File, extends: bool) -> std::io::Result<u64> {
-    if extends {
+fn limit_of(mut file: &File, onto: Onto) -> std::io::Result<u64> {
+    if onto == Onto::Extended {
         return Ok(LARGEST);
     }
     file.seek(SeekFrom::End(0))
@@ -352,15 +347,11 @@ fn apply_to_device(rt: &HostRuntime, file: &File, limit: u64, path: &[u8]) {
         io::write_all(STDERR_FILENO, b": its sectors can't be read\n");
         return;
     }
-    let none = [0u8; 1];
     let mut ahead = io::large_buffer();
-    let want = enough();
-    let i = input::fill_wanted(&mut rt.stdin(), &none, 1, 0, want, &mut ahead);
-    if i.failed.is_some() {
-        say_failed(b"standard input", i.failed);
-        return;
-    }
-    let n = i.n;
+    let n = match input::fill_wanted(&mut rt.stdin(), 0, enough(), &mut ahead) {
+        Ok(n) => n,
+        Err(error) => return say_failed(b"standard input", Some(error)),
+    };
     if below_logical(&ahead[..n], sizes.logical) {
         io::write_all(
             STDERR_FILENO,
@@ -371,45 +362,40 @@ fn apply_to_device(rt: &HostRuntime, file: &File, limit: u64, path: &[u8]) {
     apply_from(rt, file, true, limit, &ahead[..n]);
 }
 
-// Whether the file or device is as empty as it has to be; that it isn't is said.
-fn is_empty(file: &File, size: u64, empty: u8) -> bool {
-    if empty == BLANK && !ends::are_blank(file, size) {
-        io::write_all(
-            STDOUT_FILENO,
+// Why nothing is applied, where the file or device isn't as empty as it has to be.
+fn why_not(file: &File, size: u64, onto: Onto) -> Option<&'static [u8]> {
+    match onto {
+        Onto::Blank if !ends::are_blank(file, size) => Some(
             b"nothing applied: a byte of the first or last 128 KiB isn't zero\n",
-        );
-        return false;
+        ),
+        Onto::Hole if !ends::is_hole(file, size) => Some(b"nothing applied: not one hole\n"),
+        _ => None,
     }
-    if empty == HOLE && !ends::is_hole(file, size) {
-        io::write_all(STDOUT_FILENO, b"nothing applied: not one hole\n");
-        return false;
-    }
-    true
 }
 
 // Applies the list to an open file or device, whose last byte may end at `end`.
-fn apply_below(rt: &HostRuntime, file: &File, extends: bool, empty: u8, end: u64, path: &[u8]) {
-    if !is_empty(file, end, empty) {
+fn apply_below(rt: &HostRuntime, file: &File, onto: Onto, end: u64, path: &[u8]) {
+    if let Some(why) = why_not(file, end, onto) {
+        io::write_all(STDOUT_FILENO, why);
         return;
     }
     if device_sizes::is_device(file) {
         apply_to_device(rt, file, end, path);
         return;
     }
-    let none = [0u8; 1];
-    apply_from(rt, file, extends, end, &none[..0]);
+    apply_from(rt, file, onto == Onto::Extended, end, &[]);
 }
 
 // Applies the list to an open file or device.
-fn apply_open(rt: &HostRuntime, file: &File, extends: bool, empty: u8, path: &[u8]) {
-    match limit_of(file, extends) {
-        Ok(end) => apply_below(rt, file, extends, empty, end, path),
+fn apply_open(rt: &HostRuntime, file: &File, onto: Onto, path: &[u8]) {
+    match limit_of(file, onto) {
+        Ok(end) => apply_below(rt, file, onto, end, path),
         Err(error) => say_failed(b"size", Some(error)),
     }
 }
 
 // Applies the list to what argument i names, the last of `count` words.
-fn apply_to(rt: &HostRuntime, i: usize, count: usize, extends: bool, empty: u8) {
+fn apply_to(rt: &HostRuntime, i: usize, count: usize, onto: Onto) {
     if word_count(rt) != count {
         usage(STDERR_FILENO);
         return;
@@ -417,7 +403,7 @@ fn apply_to(rt: &HostRuntime, i: usize, count: usize, extends: bool, empty: u8) 
     if let Some(file) = open(rt, i) {
         let mut path = io::buffer();
         let n = take_word(rt, i, &mut path);
-        apply_open(rt, &file, extends, empty, &path[..n]);
+        apply_open(rt, &file, onto, &path[..n]);
     }
 }
 
@@ -432,16 +418,16 @@ fn main(rt: HostRuntime) {
         return;
     }
     if is_word(&rt, b"--extend") {
-        apply_to(&rt, 2, 3, true, ANYTHING);
+        apply_to(&rt, 2, 3, Onto::Extended);
         return;
     }
     if is_word(&rt, b"--empty") {
-        apply_to(&rt, 2, 3, false, BLANK);
+        apply_to(&rt, 2, 3, Onto::Blank);
         return;
     }
     if is_word(&rt, b"--hole") {
-        apply_to(&rt, 2, 3, false, HOLE);
+        apply_to(&rt, 2, 3, Onto::Hole);
         return;
     }
-    apply_to(&rt, 1, 2, false, ANYTHING);
+    apply_to(&rt, 1, 2, Onto::Anything);
 }

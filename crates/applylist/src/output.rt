@@ -1,56 +1,34 @@
 // Writing to the file, each byte at its offset.
-ghost use Rattle.std.specs.Prelude.{◌+◌, ◌≤◌, ◌<◌, IfOk, length};
+ghost use Rattle.std.specs.Prelude.{◌+◌, ◌≤◌};
 ghost use Rattle.list_read.specs.Records.{largest_offset};
 
 use crate::Failed;
 use crate::ends::is_blank_at;
-use arith::numbers::{min_u64, min_usize};
+use arith::numbers::min_usize;
 use list_holes::in_hole;
 use list_read::within;
 use std::fs::File;
+use std::io::ErrorKind;
 use std::os::unix::fs::FileExt;
 
 // Waits until the bytes can be read again after a loss of power; the file's times may come later.
 pub(crate) fn flush(file: &File) -> Result<(), Failed> {
-    match file.sync_data() {
-        Ok(()) => Ok(()),
-        Err(error) => Err(Failed::Flush(error)),
-    }
+    file.sync_data().map_err(Failed::Flush)
 }
 
-// One write of the first `n` bytes, behind the first `done`: how many it took, one at least.
-fn put_rest(file: &File, bytes: &[u8], done: usize, n: usize, at: u64) -> Result<usize, Failed>
-    requires { (done ≤ n) × (n ≤ length bytes.now) × (at + n ≤ largest_offset) }
-    ensures { IfOk result (λ k. (0 < k) × (done + k ≤ n)) }
-{
-    let rest = &bytes[done..n];
-    match file.write_at(rest, at + done as u64) {
-        Ok(0) => Err(Failed::NothingTaken),
-        Ok(k) => Ok(k),
-        Err(error) => Err(Failed::Write(Some(error))),
-    }
-}
-
-// The first `n` of the bytes, from the offset `at` on.
-fn put_first(file: &File, bytes: &[u8], n: usize, at: u64) -> Result<(), Failed>
-    requires { (n ≤ length bytes.now) × (at + n ≤ largest_offset) }
-{
-    let mut done = 0;
-    while done < n {
-        done += put_rest(file, bytes, done, n, at)?;
-    }
-    Ok(())
-}
-
-// The same without a condition; where there are fewer bytes, or no file reaches so far, nothing is written.
+// The first `n` of the bytes, from the offset `at` on; where there are fewer bytes, or no file reaches so far, nothing is written.
 pub(crate) fn put_bytes(file: &File, bytes: &[u8], n: usize, at: u64) -> Result<(), Failed> {
-    if bytes.len() < n {
+    let Some(first) = bytes.get(..n) else {
+        return Err(Failed::Write(None));
+    };
+    if !within(at, n as u64) {
         return Err(Failed::Write(None));
     }
-    if within(at, n as u64) {
-        return put_first(file, bytes, n, at);
+    match file.write_all_at(first, at) {
+        Ok(()) => Ok(()),
+        Err(error) if error.kind() == ErrorKind::WriteZero => Err(Failed::NothingTaken),
+        Err(error) => Err(Failed::Write(Some(error))),
     }
-    Err(Failed::Write(None))
 }
 
 // Whether zeros stand in the file already, `n` of them from the offset on: a hole reads as zeros.
@@ -58,26 +36,23 @@ fn are_zeros(file: &File, n: usize, at: u64) -> bool
     requires { at + n ≤ largest_offset }
 {
     let mut bytes = io::large_buffer();
-    let mut done = 0;
-    while done < n {
+    for done in (0..n).step_by(65536) {
         let k = min_usize(n - done, bytes.len());
         if !is_blank_at(file, at + done as u64, &mut bytes[..k]) {
             return false;
         }
-        done += k;
     }
     true
 }
 
-// Where the zeros end that stand in the file already, `n` of them at least; 0 where the bytes are others, or aren't all there.
-fn hole_end(file: &File, n: usize, at: u64) -> u64 {
+// Where the zeros end that stand in the file already, `n` of them at least; none where the bytes are others, or aren't all there.
+fn hole_end(file: &File, n: usize, at: u64) -> Option<u64> {
     if within(at, n as u64) {
         if are_zeros(file, n, at) {
-            return at + n as u64;
+            return Some(at + n as u64);
         }
-        return 0;
     }
-    0
+    None
 }
 
 // So many zeros, and where the zeros end that stood there already; 0 where they had to be written. None are written over zeros, so that
@@ -98,31 +73,29 @@ pub(crate) fn put_blank(
     if in_hole(at, until, at, n as u64) {
         return Ok(until);
     }
-    let end = hole_end(file, n, at);
-    if end == 0 {
-        put_bytes(file, zeros, n, at)?;
+    if let Some(end) = hole_end(file, n, at) {
+        return Ok(end);
     }
-    Ok(end)
+    put_bytes(file, zeros, n, at)?;
+    Ok(0)
 }
 
 // The same of any number, as many at a time as are lent.
 pub(crate) fn put_zeros(
     file: &File,
     zeros: &[u8],
-    len: u64,
+    len: usize,
     at: u64,
     fills: bool,
 ) -> Result<(), Failed> {
-    let mut left = len;
+    if zeros.is_empty() {
+        return Err(Failed::NothingTaken);
+    }
     let mut until = 0;
-    while 0 < left {
-        let n = min_u64(left, zeros.len() as u64);
-        if n == 0 {
-            return Err(Failed::NothingTaken);
-        }
-        let place = at.wrapping_add(len - left);
-        until = put_blank(file, zeros, n as usize, place, fills, until)?;
-        left -= n;
+    for done in (0..len).step_by(zeros.len()) {
+        let n = min_usize(len - done, zeros.len());
+        let place = at.wrapping_add(done as u64);
+        until = put_blank(file, zeros, n, place, fills, until)?;
     }
     Ok(())
 }

@@ -2,50 +2,19 @@
 #![tactic(auto)]
 
 use program_calls::{STDERR_FILENO, STDOUT_FILENO, say_failed, word_count};
-use std::io::{Error, Read, Result, Write};
+use std::io::{Read, Result, Write};
 
-// The register after what was read so far; whether there may be more, and why a read failed, if one did.
-#[derive(Clone, Copy)]
-struct Progress {
-    register: u32,
-    more: bool,
-    failed: Option<Error>,
-}
-
-// Reads once.
-fn turn<R: Read>(input: &mut R, register: u32, buf: &mut [u8]) -> Progress {
-    match input.read(buf) {
-        Err(error) => Progress {
-            register,
-            more: false,
-            failed: Some(error),
-        },
-        Ok(0) => Progress {
-            register,
-            more: false,
-            failed: None,
-        },
-        Ok(n) => Progress {
-            register: crc_loops::update(register, &buf[..n]),
-            more: true,
-            failed: None,
-        },
+// The register behind all of the input. A proved loop has to end, so its turns are as many as no input uses up.
+fn whole<R: Read>(input: &mut R, buf: &mut [u8]) -> Result<u32> {
+    let mut register = 0xffff_ffff;
+    for _ in 0..u64::MAX {
+        let n = input.read(buf)?;
+        if n == 0 {
+            break;
+        }
+        register = crc_loops::update(register, &buf[..n]);
     }
-}
-
-// A proved loop has to end, so it counts its turns down from a number that no input uses up.
-fn whole<R: Read>(input: &mut R, buf: &mut [u8]) -> Progress {
-    let mut t = Progress {
-        register: 0xffff_ffff,
-        more: true,
-        failed: None,
-    };
-    let mut turns = u64::MAX;
-    while 0 < turns && t.more {
-        t = turn(input, t.register, buf);
-        turns -= 1;
-    }
-    t
+    Ok(register)
 }
 
 // Prints a checksum.
@@ -59,12 +28,11 @@ fn print_sum<W: Write>(out: &mut W, sum: u32) -> Result<()> {
 // Reads all of the input and prints its checksum.
 fn sum(rt: &HostRuntime) {
     let mut buf = io::large_buffer();
-    let t = whole(&mut rt.stdin(), &mut buf);
-    if t.failed.is_some() {
-        say_failed(b"standard input", t.failed);
-        return;
-    }
-    if let Err(error) = print_sum(&mut rt.stdout(), !t.register) {
+    let register = match whole(&mut rt.stdin(), &mut buf) {
+        Ok(register) => register,
+        Err(error) => return say_failed(b"standard input", Some(error)),
+    };
+    if let Err(error) = print_sum(&mut rt.stdout(), !register) {
         say_failed(b"standard output", Some(error));
     }
 }

@@ -3,7 +3,7 @@
 // difference; the device of that name has to have the open one's size.
 #![tactic(auto)]
 
-ghost use Rattle.std.specs.Prelude.{◌≡◌, ◌≤◌, length};
+ghost use Rattle.std.specs.Prelude.{◌≡◌};
 ghost use Rattle.device_sizes.specs.Offsets.{bytes_to};
 
 use input_bytes::read_input;
@@ -67,20 +67,12 @@ fn path_of<R: Files + Alloc>(rt: &R, file: &File) -> Result<PathBuf<R::A>> {
     read_link(rt, link.as_str())
 }
 
-// How many bytes stand behind the last slash of a path.
-fn name_length(path: &[u8]) -> usize
-    ensures { result ≤ length path.now }
-{
-    let mut n = 0;
-    let mut i = path.len();
-    while 0 < i {
-        i -= 1;
-        if path[i] == b'/' {
-            return n;
-        }
-        n += 1;
+// The part of a path behind its last slash.
+fn name_of(path: &[u8]) -> &[u8] {
+    match path.iter().rposition(|b| *b == b'/') {
+        Some(i) => &path[i + 1..],
+        None => path,
     }
-    n
 }
 
 // Opens the file of this name in the system's folder of the device.
@@ -171,9 +163,7 @@ fn named_sizes<R: Files>(rt: &R, name: &[u8], size: u64) -> Sizes {
 
 // The same of the device at a path.
 fn sizes_at<R: Files>(rt: &R, path: &[u8], size: u64) -> Sizes {
-    let n = name_length(path);
-    let start = path.len() - n;
-    named_sizes(rt, &path[start..], size)
+    named_sizes(rt, name_of(path), size)
 }
 
 // The same of an open device.

@@ -1,12 +1,12 @@
 // `inquire holds GROUP CALL..`: what holding runs of blocks back and giving them back leaves of a group's free records, of the disk that
 // input records on standard input ask for. The words and the calls are those of `inquire_holds`, the lines those of `table_lines`.
-use crate::output::{say_refused, write_line};
-use crate::words::take_word;
+use crate::output::{Failed, say_refused, write_line};
+use crate::words::{number, read_records};
+use btree::AllocRec;
 use inquire_holds::{Call, Opened};
 use plan_holds::Holds;
-use program_calls::{say_failed, word_count};
-use request_texts::Value;
-use std::io::{Error, Result};
+use program_calls::{take_word, word_count};
+use std::io::Error;
 
 // The index of GROUP among the words, and that of the first call.
 const GROUP: usize = 2;
@@ -20,116 +20,83 @@ pub(crate) fn usage(fd: i32) {
     );
 }
 
-fn group(rt: &HostRuntime) -> Value {
-    let mut word = io::buffer();
-    let n = take_word(rt, GROUP, &mut word);
-    inquire_holds::words::number_alone(&word[..n])
-}
-
 fn call(rt: &HostRuntime, i: usize) -> Call {
     let mut word = io::buffer();
     let n = take_word(rt, i, &mut word);
     inquire_holds::words::call_of(&word[..n])
 }
 
-// Whether every word from the first call on says one.
-fn all_calls(rt: &HostRuntime) -> bool {
-    let count = word_count(rt);
-    let mut good = true;
-    let mut i = CALLS;
-    while i < count && good {
+// Every word from the first call on has to say one.
+fn look_at_calls(rt: &HostRuntime) -> Result<(), Failed> {
+    for i in CALLS..word_count(rt) {
         let c = call(rt, i);
-        good = c.number == 0;
-        i += 1;
+        if c.number != 0 {
+            return Err(Failed::Words);
+        }
     }
-    good
+    Ok(())
 }
 
-fn say_answer<P: Print>(rt: &P, release: bool, number: u32) -> Result<()> {
+fn say_answer<P: Print>(rt: &P, release: bool, number: u32) -> std::io::Result<()> {
     let mut line = io::buffer();
     let w = table_lines::put_answer(release, number as u64, &mut line, 0);
     write_line(rt, w, &line)
 }
 
-fn say_run<P: Print>(rt: &P, held: bool, start: u32, count: u32) -> Result<()> {
+fn say_run<P: Print>(rt: &P, held: bool, r: AllocRec) -> std::io::Result<()> {
     let mut line = io::buffer();
-    let w = table_lines::put_run(held, start as u64, count as u64, &mut line, 0);
+    let w = table_lines::put_run(held, r.start as u64, r.count as u64, &mut line, 0);
     write_line(rt, w, &line)
 }
 
-// The free records in order.
-fn say_free<P: Print>(rt: &P, s: Holds) -> Result<()> {
-    let free = s.free;
-    let n = free.len;
-    if 64 < n {
-        return Err(Error::other("more free records than there is room for"));
-    }
-    let mut i = 0;
-    while i < n {
-        let r = free.recs[i];
-        say_run(rt, false, r.start, r.count)?;
-        i += 1;
+// Free records or runs held, in order.
+fn say_runs<P: Print>(rt: &P, held: bool, recs: &[AllocRec]) -> std::io::Result<()> {
+    for r in recs {
+        say_run(rt, held, *r)?;
     }
     Ok(())
 }
 
-// The runs held, in order.
-fn say_held<P: Print>(rt: &P, s: Holds) -> Result<()> {
+// The free records, and then the runs held.
+fn say_left<P: Print>(rt: &P, s: Holds) -> std::io::Result<()> {
+    let free = s.free;
     let held = s.held;
-    let n = held.len;
-    if 8 < n {
-        return Err(Error::other("more runs held than there is room for"));
+    match free.recs.get(..free.len) {
+        Some(recs) => say_runs(rt, false, recs)?,
+        None => return Err(Error::other("more free records than there is room for")),
     }
-    let mut i = 0;
-    while i < n {
-        let r = held.recs[i];
-        say_run(rt, true, r.start, r.count)?;
-        i += 1;
+    match held.recs.get(..held.len) {
+        Some(recs) => say_runs(rt, true, recs),
+        None => Err(Error::other("more runs held than there is room for")),
     }
-    Ok(())
 }
 
 // Makes the calls one after the other, then says what they leave; an error where a write failed.
-fn answer(rt: &HostRuntime, o: Opened) -> Result<()> {
+fn make_calls(rt: &HostRuntime, o: Opened) -> std::io::Result<()> {
     let g = o.geometry;
     let mut s = o.state;
-    let count = word_count(rt);
-    let mut i = CALLS;
-    while i < count {
+    for i in CALLS..word_count(rt) {
         let c = call(rt, i);
         let t = inquire_holds::step(g, s, c);
         say_answer(rt, c.release, t.number)?;
         s = t.state;
-        i += 1;
     }
-    say_free(rt, s)?;
-    say_held(rt, s)
+    say_left(rt, s)
 }
 
-// Reads the records and answers; an error where a write failed.
-fn inquire(rt: &HostRuntime, agno: u64, input: &[u8]) -> Result<()> {
-    let o = inquire_holds::open(input, agno);
+fn say(rt: &HostRuntime, o: Opened) -> std::io::Result<()> {
     if o.number != 0 {
         return say_refused(rt, o.number);
     }
-    answer(rt, o)
+    make_calls(rt, o)
 }
 
-// Answers, or says why not; false where the words are wrong.
-pub(crate) fn answered(rt: &HostRuntime) -> bool {
-    let agno = group(rt);
-    if agno.number != 0 || !all_calls(rt) {
-        return false;
-    }
+// Answers, unless the words are wrong or a call failed.
+pub(crate) fn answer(rt: &HostRuntime) -> Result<(), Failed> {
+    let agno = number(rt, GROUP)?;
+    look_at_calls(rt)?;
     let mut input = request::input_buffer();
-    let i = input_bytes::read_input(&mut rt.stdin(), &mut input);
-    if i.failed.is_some() {
-        say_failed(b"standard input", i.failed);
-        return true;
-    }
-    let n = i.n;
-    if let Err(error) = inquire(rt, agno.value, &input[..n]) {
-        say_failed(b"standard output", Some(error));
-    }
-    true
+    let n = read_records(rt, &mut input)?;
+    say(rt, inquire_holds::open(&input[..n], agno))?;
+    Ok(())
 }

@@ -1,10 +1,10 @@
 // `inquire length`: how much `writelist` will send for the input records on standard input. The numbers are `list_size`'s, the line
 // `inquire_lines`'.
-use crate::output::{say_refused, write_line};
+use crate::output::{Failed, say_refused, write_line};
+use crate::words::read_records;
 use inquire_lines::put_size;
 use list_size::{ListSize, list_size};
-use program_calls::{say_failed, word_count};
-use std::io::Result;
+use program_calls::word_count;
 
 pub(crate) fn usage(fd: i32) {
     io::write_all(
@@ -13,35 +13,26 @@ pub(crate) fn usage(fd: i32) {
     );
 }
 
-fn say_size<P: Print>(rt: &P, s: ListSize) -> Result<()> {
+fn say_size<P: Print>(rt: &P, s: ListSize) -> std::io::Result<()> {
     let mut line = io::buffer();
     let w = put_size(s, &mut line, 0);
     write_line(rt, w, &line)
 }
 
-// An error where a write failed.
-fn answer<P: Print>(rt: &P, input: &[u8]) -> Result<()> {
-    let s = list_size(input);
+fn say<P: Print>(rt: &P, s: ListSize) -> std::io::Result<()> {
     if s.number != 0 {
         return say_refused(rt, s.number);
     }
     say_size(rt, s)
 }
 
-// Answers, or says why not; false where the words are wrong.
-pub(crate) fn answered(rt: &HostRuntime) -> bool {
+// Answers, unless the words are wrong or a call failed.
+pub(crate) fn answer(rt: &HostRuntime) -> Result<(), Failed> {
     if word_count(rt) != 2 {
-        return false;
+        return Err(Failed::Words);
     }
     let mut input = request::input_buffer();
-    let i = input_bytes::read_input(&mut rt.stdin(), &mut input);
-    if i.failed.is_some() {
-        say_failed(b"standard input", i.failed);
-        return true;
-    }
-    let n = i.n;
-    if let Err(error) = answer(rt, &input[..n]) {
-        say_failed(b"standard output", Some(error));
-    }
-    true
+    let n = read_records(rt, &mut input)?;
+    say(rt, list_size(&input[..n]))?;
+    Ok(())
 }

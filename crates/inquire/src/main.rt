@@ -10,7 +10,8 @@ mod sizes; // whether every device size of a range is formatted
 mod smallest; // the smallest device size that leaves so many free blocks
 mod words; // the program's words
 
-use program_calls::{STDERR_FILENO, STDOUT_FILENO};
+use output::{Failed, say_why};
+use program_calls::{STDOUT_FILENO, take_word};
 
 fn usage(fd: i32) {
     length::usage(fd);
@@ -20,32 +21,26 @@ fn usage(fd: i32) {
     smallest::usage(fd);
 }
 
-// Answers the question that the words ask; false where they ask none.
-fn answered(rt: &HostRuntime) -> bool {
-    if words::is_word(rt, 1, b"length") {
-        return length::answered(rt);
+// Answers the question that the words ask.
+fn answer(rt: &HostRuntime) -> Result<(), Failed> {
+    let mut word = io::buffer();
+    let n = take_word(rt, 1, &mut word);
+    match &word[..n] {
+        b"--help" => {
+            usage(STDOUT_FILENO);
+            Ok(())
+        }
+        b"length" => length::answer(rt),
+        b"cabinet" => cabinet::answer(rt),
+        b"holds" => holds::answer(rt),
+        b"sizes" => sizes::answer(rt),
+        b"smallest" => smallest::answer(rt),
+        _ => Err(Failed::Words),
     }
-    if words::is_word(rt, 1, b"cabinet") {
-        return cabinet::answered(rt);
-    }
-    if words::is_word(rt, 1, b"holds") {
-        return holds::answered(rt);
-    }
-    if words::is_word(rt, 1, b"sizes") {
-        return sizes::answered(rt);
-    }
-    if words::is_word(rt, 1, b"smallest") {
-        return smallest::answered(rt);
-    }
-    false
 }
 
 fn main(rt: HostRuntime) {
-    if words::is_word(&rt, 1, b"--help") {
-        usage(STDOUT_FILENO);
-        return;
-    }
-    if !answered(&rt) {
-        usage(STDERR_FILENO);
+    if let Err(failed) = answer(&rt) {
+        say_why(failed);
     }
 }

@@ -1,30 +1,48 @@
-// The program's words.
+// The program's words, and its input.
+ghost use Rattle.std.specs.Prelude.{IfOk};
 ghost use Rattle.io.specs.Counts.{IsPrefixLen};
 
+use crate::output::Failed;
+use program_calls::take_word;
 use request_texts::Value;
+use std::io::Read;
 
-// How many bytes the word of this index has; 0 where there is none, or one longer than the buffer.
-pub(crate) fn take_word(rt: &HostRuntime, i: usize, word: &mut [u8]) -> usize
-    ensures { IsPrefixLen result word.new }
-{
-    program_calls::take_word(rt, i, word)
-}
-
-// Whether the word of this index is this one.
-pub(crate) fn is_word(rt: &HostRuntime, i: usize, text: &[u8]) -> bool {
-    program_calls::is_word(rt, i, text)
+// What a word says, if it says a number.
+fn said(v: Value) -> Result<u64, Failed> {
+    if v.number != 0 {
+        return Err(Failed::Words);
+    }
+    Ok(v.value)
 }
 
 // What the word of this index says as a decimal number with K, M, G, T, P, E behind it or not.
-pub(crate) fn size(rt: &HostRuntime, i: usize) -> Value {
+pub(crate) fn size(rt: &HostRuntime, i: usize) -> Result<u64, Failed> {
     let mut word = io::buffer();
     let n = take_word(rt, i, &mut word);
-    request_texts::number(&word[..n])
+    said(request_texts::number(&word[..n]))
 }
 
 // The same without a letter behind it.
-pub(crate) fn number(rt: &HostRuntime, i: usize) -> Value {
+pub(crate) fn number(rt: &HostRuntime, i: usize) -> Result<u64, Failed> {
     let mut word = io::buffer();
     let n = take_word(rt, i, &mut word);
-    inquire_holds::words::number_alone(&word[..n])
+    said(inquire_holds::words::number_alone(&word[..n]))
+}
+
+// Reads a stream's records, and says how many bytes they have.
+pub(crate) fn read_stream<R: Read>(stream: &mut R, input: &mut [u8]) -> std::io::Result<usize>
+    ensures { IfOk result (λ n. IsPrefixLen n input.new) }
+{
+    let i = input_bytes::read_input(stream, input);
+    match i.failed {
+        Some(error) => Err(error),
+        None => Ok(i.n),
+    }
+}
+
+// The same of standard input.
+pub(crate) fn read_records(rt: &HostRuntime, input: &mut [u8]) -> Result<usize, Failed>
+    ensures { IfOk result (λ n. IsPrefixLen n input.new) }
+{
+    read_stream(&mut rt.stdin(), input).map_err(Failed::Input)
 }

@@ -12,14 +12,14 @@ use words::take_words;
 
 // Writes the first n bytes.
 fn write_first<W: Write>(out: &mut W, text: &[u8], n: usize) -> Result<()> {
-    if n <= text.len() {
-        return out.write_all(&text[..n]);
+    match text.get(..n) {
+        Some(first) => out.write_all(first),
+        None => Err(Error::other("the records end behind their buffer")),
     }
-    Err(Error::other("the records end behind their buffer"))
 }
 
 // Writes the records of the words, or which one is refused; an error where a write failed.
-fn answer(rt: &HostRuntime, words: &[u8], device: usize) -> Result<()> {
+fn answer(rt: &HostRuntime, words: &[u8], device: Option<usize>) -> Result<()> {
     let mut records = io::buffer();
     let made = request_words::make_records(words, &mut records);
     if made.number != 0 {
@@ -30,11 +30,11 @@ fn answer(rt: &HostRuntime, words: &[u8], device: usize) -> Result<()> {
 }
 
 // The same of the first n bytes.
-fn answer_first(rt: &HostRuntime, words: &[u8], n: usize, device: usize) -> Result<()> {
-    if n <= words.len() {
-        return answer(rt, &words[..n], device);
+fn answer_first(rt: &HostRuntime, words: &[u8], n: usize, device: Option<usize>) -> Result<()> {
+    match words.get(..n) {
+        Some(first) => answer(rt, first, device),
+        None => Err(Error::other("the words end behind their buffer")),
     }
-    Err(Error::other("the words end behind their buffer"))
 }
 
 // Whether the first argument is this word.
@@ -44,10 +44,9 @@ fn is_word(rt: &HostRuntime, word: &[u8]) -> bool {
 
 fn make(rt: &HostRuntime) {
     let mut words = io::buffer();
-    let taken = take_words(rt, &mut words);
-    if taken.failed {
+    let Ok(taken) = take_words(rt, &mut words) else {
         return;
-    }
+    };
     if let Err(error) = answer_first(rt, &words, taken.n, taken.device) {
         say_failed(b"standard output", Some(error));
     }

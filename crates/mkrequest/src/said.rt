@@ -10,12 +10,11 @@ pub(crate) fn say(text: &[u8]) {
     io::write_all(STDERR_FILENO, text);
 }
 
-// Writes the first n bytes; false where that failed.
-fn write_first(fd: i32, text: &[u8], n: usize) -> bool {
-    if n <= text.len() {
-        return io::write_all(fd, &text[..n]);
+// Writes the first n bytes, where there are so many.
+fn write_first(fd: i32, text: &[u8], n: usize) {
+    if let Some(first) = text.get(..n) {
+        io::write_all(fd, first);
     }
-    false
 }
 
 // The name of a key.
@@ -42,17 +41,13 @@ fn say_word(rt: &HostRuntime, i: usize) {
 }
 
 // The argument that gave the word of this index: `device=` gives three.
-fn argument_of(index: usize, device: usize) -> usize {
-    if device == 0 {
-        return index.wrapping_add(1);
+fn argument_of(index: usize, device: Option<usize>) -> usize {
+    match device {
+        None => index.wrapping_add(1),
+        Some(device) if index < device => index + 1,
+        Some(device) if index - device < 2 => device,
+        Some(_) => index - 1,
     }
-    if index < device {
-        return index + 1;
-    }
-    if index - device < 2 {
-        return device;
-    }
-    index - 1
 }
 
 // Why it is refused.
@@ -69,7 +64,7 @@ fn say_why(number: u32) {
 }
 
 // Which word is refused or missing, why, and what is expected.
-pub(crate) fn explain(rt: &HostRuntime, made: Made, device: usize) {
+pub(crate) fn explain(rt: &HostRuntime, made: Made, device: Option<usize>) {
     say(b"mkrequest: ");
     if made.number == MISSING as u32 {
         write_name(STDERR_FILENO, made.key);
@@ -97,10 +92,8 @@ fn write_word(fd: i32, key: usize) {
 
 // Every word.
 fn write_words(fd: i32) {
-    let mut key = 0;
-    while key < KEYS {
+    for key in 0..KEYS {
         write_word(fd, key);
-        key += 1;
     }
 }
 

@@ -9,68 +9,47 @@ use std::time::Clock;
 use table_lines::{Written, put_number};
 use text_pages::put_text;
 
-// The bytes of the words so far, which argument is `device=` (0: none so far), and whether a word was refused; which one is said then.
+// How many bytes the words have so far, and which argument is `device=`: the first counts.
 #[derive(Clone, Copy)]
 pub(crate) struct Taken {
     pub(crate) n: usize,
-    pub(crate) device: usize,
-    pub(crate) failed: bool,
+    pub(crate) device: Option<usize>,
 }
 
-fn refused() -> Taken {
-    Taken {
-        n: 0,
-        device: 0,
-        failed: true,
-    }
-}
+// A word is refused, and which one is said.
+#[derive(Drop)]
+pub(crate) struct Refused;
 
-fn too_long() -> Taken {
+fn too_long() -> Refused {
     say(b"mkrequest: the words have more bytes than any request needs\n");
-    refused()
+    Refused
 }
 
-// What was put, or that it had no room.
-fn put_to(w: Written) -> Taken {
+// Where what was put ends, unless it had no room.
+fn end_of(w: Written) -> Result<usize, Refused> {
     if w.number != 0 {
-        return too_long();
+        return Err(too_long());
     }
-    Taken {
-        n: w.end,
-        device: 0,
-        failed: false,
-    }
+    Ok(w.end)
 }
 
 // A text and a zero byte, behind the first `n` bytes.
-fn push(text: &[u8], n: usize, words: &mut [u8]) -> Taken {
-    let t = put_to(put_text(text, words, n));
-    if t.failed {
-        return t;
-    }
-    put_to(put_text(&[0], words, t.n))
+fn push(text: &[u8], n: usize, words: &mut [u8]) -> Result<usize, Refused> {
+    let end = end_of(put_text(text, words, n))?;
+    end_of(put_text(&[0], words, end))
 }
 
 // A name, a number and a zero byte.
-fn push_number(name: &[u8], value: u64, n: usize, words: &mut [u8]) -> Taken {
-    let t = put_to(put_text(name, words, n));
-    if t.failed {
-        return t;
-    }
-    put_to(put_number(value, 0, words, t.n))
+fn push_number(name: &[u8], value: u64, n: usize, words: &mut [u8]) -> Result<usize, Refused> {
+    let end = end_of(put_text(name, words, n))?;
+    end_of(put_number(value, 0, words, end))
 }
 
 // A device's size and sectors.
-fn push_sizes(s: Sizes, n: usize, words: &mut [u8]) -> Taken {
-    let size = push_number(b"size=", s.size, n, words);
-    if size.failed {
-        return size;
-    }
-    let logical = push_number(b"logical=", s.logical, size.n, words);
-    if logical.failed {
-        return logical;
-    }
-    push_number(b"physical=", s.physical, logical.n, words)
+fn push_sizes(s: Sizes, n: usize, words: &mut [u8]) -> Result<usize, Refused> {
+    let size = push_number(b"size=", s.size, n, words)?;
+    let logical = push_number(b"logical=", s.logical, size, words)?;
+    push_number(b"physical=", s.physical, logical, words)
 }
 
 // What can't be read of a device.
@@ -88,26 +67,26 @@ fn say_unread(path: &[u8], failed: u8) {
     say(b": its physical sector can't be read\n");
 }
 
-// Size and sectors of the device or file at a path, which argument i names.
-fn push_device(rt: &HostRuntime, path: &[u8], i: usize, n: usize, words: &mut [u8]) -> Taken {
+// Size and sectors of the device or file at a path.
+fn push_device(
+    rt: &HostRuntime,
+    path: &[u8],
+    n: usize,
+    words: &mut [u8],
+) -> Result<usize, Refused> {
     let s = match open_read(rt, path) {
         Ok(file) => sizes_of(rt, &file),
         Err(error) => {
             io::write_all(STDERR_FILENO, b"open: ");
             say_failed(path, Some(error));
-            return refused();
+            return Err(Refused);
         }
     };
     if s.failed != 0 {
         say_unread(path, s.failed);
-        return refused();
+        return Err(Refused);
     }
-    let t = push_sizes(s, n, words);
-    Taken {
-        n: t.n,
-        device: i,
-        failed: t.failed,
-    }
+    push_sizes(s, n, words)
 }
 
 // Whether the system drew a UUID: 36 characters.
@@ -120,81 +99,67 @@ fn draws(rt: &HostRuntime, uuid: &mut [u8]) -> bool {
 }
 
 // A UUID that the system draws.
-fn push_uuid(rt: &HostRuntime, n: usize, words: &mut [u8]) -> Taken {
+fn push_uuid(rt: &HostRuntime, n: usize, words: &mut [u8]) -> Result<usize, Refused> {
     let mut uuid = [0u8; 36];
     if !draws(rt, &mut uuid) {
         say(b"mkrequest: uuid=random: the system draws none\n");
-        return refused();
+        return Err(Refused);
     }
-    let t = put_to(put_text(b"uuid=", words, n));
-    if t.failed {
-        return t;
-    }
-    push(&uuid, t.n, words)
+    let end = end_of(put_text(b"uuid=", words, n))?;
+    push(&uuid, end, words)
 }
 
 // The system's clock, in seconds since 1970.
-fn push_time(rt: &HostRuntime, n: usize, words: &mut [u8]) -> Taken {
+fn push_time(rt: &HostRuntime, n: usize, words: &mut [u8]) -> Result<usize, Refused> {
     let seconds = match rt.since_1970() {
         Ok(t) => t.as_secs(),
         Err(_) => 0,
     };
     if seconds == 0 {
         say(b"mkrequest: time=now: the system has no clock\n");
-        return refused();
+        return Err(Refused);
     }
     push_number(b"time=", seconds, n, words)
 }
 
 // A word, or what stands for it.
-fn push_word(rt: &HostRuntime, word: &[u8], i: usize, n: usize, words: &mut [u8]) -> Taken {
-    if 7 <= word.len() {
-        if check::same(&word[..7], b"device=") {
-            return push_device(rt, &word[7..], i, n, words);
-        }
-    }
-    if check::same(word, b"uuid=random") {
-        return push_uuid(rt, n, words);
-    }
-    if check::same(word, b"time=now") {
-        return push_time(rt, n, words);
-    }
-    push(word, n, words)
-}
-
-// The argument of this index, behind the first `n` bytes.
-fn take_word(rt: &HostRuntime, i: usize, n: usize, words: &mut [u8]) -> Taken {
-    let mut word = io::buffer();
-    match rt.arg(i, &mut word) {
-        Ok(got) => push_word(rt, &word[..got], i, n, words),
-        Err(_) => too_long(),
+fn push_word(rt: &HostRuntime, word: &[u8], n: usize, words: &mut [u8]) -> Result<usize, Refused> {
+    match word {
+        b"uuid=random" => push_uuid(rt, n, words),
+        b"time=now" => push_time(rt, n, words),
+        _ => push(word, n, words),
     }
 }
 
-// Both: the first `device=` counts.
-fn and_then(before: Taken, next: Taken) -> Taken {
-    if before.device == 0 {
-        return next;
+// The argument of this index, behind the words so far.
+fn take_word(
+    rt: &HostRuntime,
+    i: usize,
+    before: Taken,
+    words: &mut [u8],
+) -> Result<Taken, Refused> {
+    let mut buf = io::buffer();
+    let Ok(length) = rt.arg(i, &mut buf) else {
+        return Err(too_long());
+    };
+    let word = &buf[..length];
+    if let Some(path) = word.strip_prefix(b"device=") {
+        return Ok(Taken {
+            n: push_device(rt, path, before.n, words)?,
+            device: before.device.or(Some(i)),
+        });
     }
-    Taken {
-        n: next.n,
+    Ok(Taken {
+        n: push_word(rt, word, before.n, words)?,
         device: before.device,
-        failed: next.failed,
-    }
+    })
 }
 
 // All arguments.
-pub(crate) fn take_words(rt: &HostRuntime, words: &mut [u8]) -> Taken {
-    let count = word_count(rt);
-    let mut t = Taken {
-        n: 0,
-        device: 0,
-        failed: false,
-    };
-    let mut i = 1;
-    while i < count && !t.failed {
-        t = and_then(t, take_word(rt, i, t.n, words));
-        i += 1;
+pub(crate) fn take_words(rt: &HostRuntime, words: &mut [u8]) -> Result<Taken, Refused> {
+    let mut taken = Taken { n: 0, device: None };
+    for i in 1..word_count(rt) {
+        taken = take_word(rt, i, taken, words)?;
     }
-    t
+    Ok(taken)
 }

@@ -17,10 +17,10 @@ pub struct Printed {
 
 // Writes the first `end` bytes.
 fn flush<W: Write>(out: &mut W, buf: &[u8], end: usize) -> Result<()> {
-    if end <= buf.len() {
-        return out.write_all(&buf[..end]);
+    match buf.get(..end) {
+        Some(lines) => out.write_all(lines),
+        None => Err(Error::other("the lines end behind their buffer")),
     }
-    Err(Error::other("the lines end behind their buffer"))
 }
 
 // Fills the next part and writes it.
@@ -54,6 +54,7 @@ pub fn print<W: Write>(out: &mut W, t: Table, buf: &mut [u8]) -> Printed
         written: true,
         error: None,
     };
+    // the new form is no plainer: a turn says itself whether it is the last
     while p.written && 0 < p.table.left {
         p = turn(out, p.table, buf);
     }

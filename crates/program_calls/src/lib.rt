@@ -49,31 +49,23 @@ pub fn fill_error(error: FillError) -> Error {
 pub fn is_word<E: Env>(rt: &E, i: usize, text: &[u8]) -> bool {
     let mut word = io::buffer();
     let n = take_word(rt, i, &mut word);
-    check::same(&word[..n], text)
+    &word[..n] == text
 }
 
 // The text of a path. The library names a file by text alone, so one that isn't UTF-8 names none.
 fn path_text(path: &[u8]) -> Result<&str> {
-    match str::from_utf8(path) {
-        Ok(text) => Ok(text),
-        Err(_) => Err(Error::from(ErrorKind::InvalidFilename)),
-    }
+    str::from_utf8(path).map_err(|_| Error::from(ErrorKind::InvalidFilename))
 }
 
 // Opens the file at a path for reading.
 pub fn open_read<R: Files>(rt: &R, path: &[u8]) -> Result<R::File> {
-    match path_text(path) {
-        Ok(text) => File::open(rt, text),
-        Err(error) => Err(error),
-    }
+    File::open(rt, path_text(path)?)
 }
 
 // Opens the file at a path for reading and writing. It has to be there, and its bytes are left as they are.
 pub fn open_update<R: Files>(rt: &R, path: &[u8]) -> Result<R::File> {
-    match path_text(path) {
-        Ok(text) => OpenOptions::new().read(true).write(true).open(rt, text),
-        Err(error) => Err(error),
-    }
+    let text = path_text(path)?;
+    OpenOptions::new().read(true).write(true).open(rt, text)
 }
 
 // How many bytes stand before the system's number, as ` (os error 2)`.

@@ -18,20 +18,12 @@ use std::env::Env;
 use std::fs::File;
 use std::io::{Error, Write};
 
-// How it stands with the reading and the writing: nothing stopped it, or why it stopped.
+// Why the reading or the writing stopped.
 #[derive(Clone, Copy)]
 pub(crate) enum Stop {
-    Whole,
     Ended,
     ReadFailed(Error),
     WriteFailed(Option<Error>),
-}
-
-fn is_whole(stop: Stop) -> bool {
-    match stop {
-        Stop::Whole => true,
-        _ => false,
-    }
 }
 
 // Bytes of ten blocks of 4096 bytes: room for the heads of most disks.
@@ -50,63 +42,69 @@ fn most_bytes() -> [u8; 163840]
     [0; 163840]
 }
 
-// The pass, what it wants next, how it stands with the reading, and where the bytes that were read last stand on the disk.
+// The pass, why its reading stopped, if it did, and where the bytes that were read last stand on the disk.
 #[derive(Clone, Copy)]
 struct Reading {
-    stop: Stop,
+    stop: Option<Stop>,
     pass: Pass,
-    wanted: Wanted,
     offset: u64,
     length: usize,
 }
 
-fn read_so_far(stop: Stop, pass: Pass, offset: u64, length: usize) -> Reading {
-    let wanted = reader_pass::wants(pass);
-    Reading {
-        stop,
-        pass,
-        wanted,
-        offset,
-        length,
-    }
-}
-
 // Reads at the offset and feeds what was read, in buffers of its length.
 fn read_and_feed(file: &File, p: Pass, offset: u64, work: &mut [u8], buf: &mut [u8]) -> Reading {
-    let stop = input::fill(file, offset, buf);
-    if !is_whole(stop) {
-        return read_so_far(stop, p, offset, 0);
+    match input::fill(file, offset, buf) {
+        Ok(()) => Reading {
+            stop: None,
+            pass: reader_pass::feed(p, buf, work),
+            offset,
+            length: buf.len(),
+        },
+        Err(stop) => Reading {
+            stop: Some(stop),
+            pass: p,
+            offset,
+            length: 0,
+        },
     }
-    let fed = reader_pass::feed(p, buf, work);
-    read_so_far(Stop::Whole, fed, offset, buf.len())
 }
 
 // One turn. Buffers that are shorter than what is wanted give the pass fewer bytes, and it refuses them.
-fn turn(file: &File, r: Reading, work: &mut [u8], buf: &mut [u8]) -> Reading {
-    let p = r.pass;
-    let w = r.wanted;
+fn turn(file: &File, p: Pass, w: Wanted, work: &mut [u8], buf: &mut [u8]) -> Reading {
     let n = min_usize(w.length, min_usize(work.len(), buf.len()));
     read_and_feed(file, p, w.offset, &mut work[..n], &mut buf[..n])
 }
 
-fn goes_on(r: Reading) -> bool {
-    let w = r.wanted;
-    is_whole(r.stop) && !w.done
+// What is read next, unless the reading stopped or the pass is done.
+fn next_wanted(r: Reading) -> Option<Wanted> {
+    let w = reader_pass::wants(r.pass);
+    if r.stop.is_some() || w.done {
+        None
+    } else {
+        Some(w)
+    }
 }
 
 // All turns that are still to come.
 fn read_on(file: &File, first: Reading, work: &mut [u8], buf: &mut [u8]) -> Reading {
     let mut r = first;
-    let mut turns = u64::MAX;
-    while 0 < turns && goes_on(r) {
-        r = turn(file, r, work, buf);
-        turns -= 1;
+    for _ in 0..u64::MAX {
+        let Some(w) = next_wanted(r) else {
+            break;
+        };
+        r = turn(file, r.pass, w, work, buf);
     }
     r
 }
 
 // The table of an accepted disk, the refusal of the bytes that stand at this offset, or that of a disk outside the profile.
-fn answer<W: Write>(out: &mut W, v: Verdict, told: bool, offset: u64, bytes: &[u8]) -> Stop {
+fn answer<W: Write>(
+    out: &mut W,
+    v: Verdict,
+    told: bool,
+    offset: u64,
+    bytes: &[u8],
+) -> Result<(), Stop> {
     let g = v.geometry;
     let uuid = v.uuid;
     if v.number != 0 {
@@ -123,29 +121,28 @@ fn answer<W: Write>(out: &mut W, v: Verdict, told: bool, offset: u64, bytes: &[u
 }
 
 // What is said where the answer wasn't written.
-fn say_written(stop: Stop) {
-    if !is_whole(stop) {
+fn say_written(written: Result<(), Stop>) {
+    if let Err(stop) = written {
         io::write_all(STDERR_FILENO, b"table");
         words::say_stop(stop);
     }
 }
 
-// A disk that ends early is refused by the number of a pass that isn't finished.
-fn refuse_short<W: Write>(out: &mut W, stop: Stop, number: u32) {
+// What is said of a disk whose reading stopped: one that ends early is refused by the number of a pass that isn't finished.
+fn say_stopped<W: Write>(out: &mut W, stop: Stop, v: Verdict) {
+    let g = v.geometry;
+    words::say_place(v.place, g.agcount);
+    words::say_stop(stop);
     if let Stop::Ended = stop {
-        say_written(printed::print_refused(out, number));
+        say_written(printed::print_refused(out, v.number));
     }
 }
 
 // What is said of a disk that was read; the buffer begins with the bytes that were read last.
 fn say_read<W: Write>(out: &mut W, r: Reading, told: bool, buf: &[u8]) {
     let v = reader_pass::finish(r.pass);
-    let g = v.geometry;
-    if !is_whole(r.stop) {
-        words::say_place(v.place, g.agcount);
-        words::say_stop(r.stop);
-        refuse_short(out, r.stop, v.number);
-        return;
+    if let Some(stop) = r.stop {
+        return say_stopped(out, stop, v);
     }
     let n = min_usize(r.length, buf.len());
     say_written(answer(out, v, told, r.offset, &buf[..n]));
@@ -169,18 +166,13 @@ fn read_most<W: Write>(out: &mut W, file: &File, told: bool, first: Reading) {
 fn read_open<W: Write>(out: &mut W, file: &File, told: bool) {
     let mut work = [0u8; 512];
     let mut buf = [0u8; 512];
-    let begun = read_so_far(Stop::Whole, reader_pass::begin(), 0, 0);
-    let first = turn(file, begun, &mut work, &mut buf);
-    let w = first.wanted;
-    if !goes_on(first) {
-        say_read(out, first, told, &buf);
-        return;
+    let begun = reader_pass::begin();
+    let first = turn(file, begun, reader_pass::wants(begun), &mut work, &mut buf);
+    match next_wanted(first) {
+        None => say_read(out, first, told, &buf),
+        Some(w) if w.length <= FEW => read_few(out, file, told, first),
+        Some(_) => read_most(out, file, told, first),
     }
-    if w.length <= FEW {
-        read_few(out, file, told, first);
-        return;
-    }
-    read_most(out, file, told, first);
 }
 
 // Opens the file at a path, or says why not.

@@ -42,8 +42,8 @@ fn say_uuid(uuid: &[u8]) {
 
 // The bytes from `start` on.
 fn say_from(text: &[u8], start: usize) {
-    if start <= text.len() {
-        say(&text[start..]);
+    if let Some(behind) = text.get(start..) {
+        say(behind);
     }
 }
 
@@ -124,7 +124,6 @@ pub(crate) fn say_place(k: u64, agcount: u64) {
 // Why the reading stopped.
 pub(crate) fn say_stop(stop: Stop) {
     match stop {
-        Stop::Whole => {}
         Stop::Ended => say(b": the file ends before it\n"),
         Stop::ReadFailed(error) => say_failed(b": read", Some(error)),
         Stop::WriteFailed(error) => say_failed(b": standard output", error),

@@ -5,12 +5,11 @@
 use program_calls::STDERR_FILENO;
 use refusal_sentences::put_sentence;
 
-// Writes the first `end` bytes.
-fn flush(buf: &[u8], end: usize) -> bool {
-    if end <= buf.len() {
-        return io::write_all(STDERR_FILENO, &buf[..end]);
+// Writes the first `end` bytes, where there are so many.
+fn flush(buf: &[u8], end: usize) {
+    if let Some(first) = buf.get(..end) {
+        io::write_all(STDERR_FILENO, first);
     }
-    false
 }
 
 // The number and its sentence; nothing of 0, which accepts.

@@ -62,7 +62,7 @@ fn chunk_again(name: &[u8], run: Run, buf: &mut [u8]) {
 // A byte that differs from what stands there.
 fn spoil(buf: &mut [u8], at: usize) {
     if at < buf.len() {
-        buf[at] = buf[at] ^ 1;
+        buf[at] ^= 1;
     }
 }
 
@@ -89,58 +89,26 @@ fn leaves() {
     leaf_again(b"leaf without room", &many, &mut block);
 }
 
-fn head_twice(run: Run, head: &mut [u8]) {
+fn heads(run: Run, head: &mut [u8]) {
     head_again(b"head of zeros", run, head);
     head_again(b"head again", run, head);
-}
-
-fn head_spoilt(name: &[u8], at: usize, run: Run, head: &mut [u8]) {
-    spoil(head, at);
-    head_again(name, run, head);
-}
-
-fn heads(run: Run, head: &mut [u8]) {
-    head_twice(run, head);
-    head_spoilt(b"head with another byte", 0, run, head);
-    head_spoilt(
-        b"head with another checksum in its free list",
-        LIST_CRC,
-        run,
-        head,
-    );
-    head_spoilt(
-        b"head with another checksum in its last root",
-        ROOT_CRC,
-        run,
-        head,
-    );
-}
-
-fn chunk_twice(run: Run, buf: &mut [u8]) {
-    chunk_again(b"chunk of zeros", run, buf);
-    chunk_again(b"chunk again", run, buf);
-}
-
-fn chunk_spoilt(name: &[u8], at: usize, run: Run, buf: &mut [u8]) {
-    spoil(buf, at);
-    chunk_again(name, run, buf);
+    spoil(head, 0);
+    head_again(b"head with another byte", run, head);
+    spoil(head, LIST_CRC);
+    head_again(b"head with another checksum in its free list", run, head);
+    spoil(head, ROOT_CRC);
+    head_again(b"head with another checksum in its last root", run, head);
 }
 
 fn chunks(run: Run, buf: &mut [u8]) {
-    chunk_twice(run, buf);
-    chunk_spoilt(b"chunk with another byte", 0, run, buf);
-    chunk_spoilt(
-        b"chunk with another checksum in its first inode",
-        FIRST_CRC,
-        run,
-        buf,
-    );
-    chunk_spoilt(
-        b"chunk with another checksum in its last inode",
-        LAST_CRC,
-        run,
-        buf,
-    );
+    chunk_again(b"chunk of zeros", run, buf);
+    chunk_again(b"chunk again", run, buf);
+    spoil(buf, 0);
+    chunk_again(b"chunk with another byte", run, buf);
+    spoil(buf, FIRST_CRC);
+    chunk_again(b"chunk with another checksum in its first inode", run, buf);
+    spoil(buf, LAST_CRC);
+    chunk_again(b"chunk with another checksum in its last inode", run, buf);
 }
 
 // The head and the chunk, in as many bytes as they have.

@@ -3,7 +3,7 @@
 // Give each disk its UUID in an `ID` record: without one it is zeros, and Linux doesn't mount such a disk.
 #![tactic(auto)]
 
-ghost use Rattle.std.specs.Prelude.{◌≡◌, true, length};
+ghost use Rattle.std.specs.Prelude.{◌≡◌, IfOk, length};
 ghost use Rattle.list_send.specs.Sending.{sent_def, all_sent};
 
 use list_send::{Sending, begin, left_of, longest, number_of, send};
@@ -28,79 +28,52 @@ fn most_bytes() -> [u8; 164020]
 
 // Writes the first bytes.
 fn flush<W: Write>(out: &mut W, buf: &[u8], end: usize) -> Result<()> {
-    if end <= buf.len() {
-        return out.write_all(&buf[..end]);
+    match buf.get(..end) {
+        Some(first) => out.write_all(first),
+        None => Err(Error::other("the bytes end behind their buffer")),
     }
-    Err(Error::other("the bytes end behind their buffer"))
 }
 
-// What is left to send after a turn, whether its bytes were written, and why not, where the system said so.
-#[derive(Clone, Copy)]
-struct Turn {
-    sending: Sending,
-    written: bool,
-    error: Option<Error>,
-}
-
-// Takes the next piece and writes it.
-fn take_turn<W: Write>(out: &mut W, s: Sending, work: &mut [u8], buf: &mut [u8]) -> Turn
-    ensures { result.sending ≡ (sent_def s (length work.old) (length buf.old)).sending }
+// Takes the next piece and writes it: what is left to send. Where it has no room, or a write fails, nothing more is written.
+fn take_turn<W: Write>(out: &mut W, s: Sending, work: &mut [u8], buf: &mut [u8]) -> Result<Sending>
+    ensures { IfOk result (λ left. left ≡ (sent_def s (length work.old) (length buf.old)).sending) }
 {
     let sent = send(s, work, buf);
-    let sending = sent.sending;
     if sent.number != 0 {
-        return Turn {
-            sending,
-            written: false,
-            error: None,
-        };
+        return Err(Error::other("the next piece has no room"));
     }
-    let flushed = flush(out, buf, sent.length);
-    Turn {
-        sending,
-        written: flushed.is_ok(),
-        error: flushed.err(),
-    }
+    flush(out, buf, sent.length)?;
+    Ok(sent.sending)
 }
 
-// Writes all pieces; where a write fails, nothing more is written. Where none fails, as many turns were taken as there are pieces.
-fn write_list<W: Write>(out: &mut W, first: Sending, work: &mut [u8], buf: &mut [u8]) -> Turn
-    ensures { result.written ≡ true → result.sending ≡ all_sent first work.old buf.old }
+// Writes all pieces. Where no write fails, as many turns were taken as there are pieces.
+fn write_list<W: Write>(
+    out: &mut W,
+    first: Sending,
+    work: &mut [u8],
+    buf: &mut [u8],
+) -> Result<Sending>
+    ensures { IfOk result (λ left. left ≡ all_sent first work.old buf.old) }
 {
-    let mut left = left_of(first);
-    let mut t = Turn {
-        sending: first,
-        written: true,
-        error: None,
-    };
-    while 0 < left && t.written {
-        t = take_turn(out, t.sending, work, buf);
-        left -= 1;
+    let mut s = first;
+    for taken in 0..left_of(first) {
+        s = take_turn(out, s, work, buf)?;
     }
-    t
-}
-
-// What a turn came to: an error where its bytes weren't written.
-fn outcome(t: Turn) -> Result<()> {
-    if t.written {
-        return Ok(());
-    }
-    match t.error {
-        Some(error) => Err(error),
-        None => Err(Error::other("the next piece has no room")),
-    }
+    Ok(s)
 }
 
 fn write_few<W: Write>(out: &mut W, s: Sending) -> Result<()> {
     let mut work = few_bytes();
     let mut buf = few_bytes();
-    outcome(write_list(out, s, &mut work, &mut buf))
+    write_list(out, s, &mut work, &mut buf)?;
+    Ok(())
 }
 
 fn write_most<W: Write>(out: &mut W, s: Sending) -> Result<()> {
     let mut work = most_bytes();
     let mut buf = most_bytes();
-    outcome(write_list(out, s, &mut work, &mut buf))
+    write_list(out, s, &mut work, &mut buf)?;
+    Ok(())
 }
 
 // The number's line, and its sentence on standard error.

@@ -3,8 +3,5 @@ use Rattle.std.proofs.Common.{length}
 use Rattle.list_apply_laws.specs.Turns.{Fed}
 use Rattle.applylist.proofs.apply.Given as goal
 
-abbrev pub invariant-loop-turns : goal.invariant-loop-turns
-invariant-loop-turns l = Fed (length l.initial.buf) l.initial.p.applying l.p.applying
-
-abbrev pub decreases-loop-turns : goal.decreases-loop-turns
-decreases-loop-turns l = l.turns
+abbrev pub invariant-loop : goal.invariant-loop
+invariant-loop l = Fed (length l.initial.buf) l.initial.p.applying l.p.applying

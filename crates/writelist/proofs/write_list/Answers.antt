@@ -1,14 +1,20 @@
 -- No turn is taken at first, then one more each time.
-use Rattle.std.proofs.Common.{arith}
-use Rattle.list_send.proofs.Turns.{turn_more, no-turn}
+use Rattle.std.proofs.Common.{refl, ap, ◌≡◌, ◌∙◌, ℕ, ◌+◌, suc, length, arith}
+use Rattle.list_send.specs.Sending.{sent_on, sent_def}
+use Rattle.list_send.specs.declared.Sending.{Sending as State}
 use Rattle.writelist.proofs.write_list.Goals as goal
 
-pub loop-left-init : goal.loop-left-init
-loop-left-init g c = (omega arith, no-turn _ _ _ _)
+pub loop-taken-init : goal.loop-taken-init
+unfolding sent_on
+loop-taken-init g c = refl
 
-pub loop-left-preserved : goal.loop-left-preserved
-loop-left-preserved g c =
-    let l = c.loop-left in (
-      omega arith,
-      turn_more _ _ _ _ _ _ _ l.invariant.1 (rw (l.auto.work, l.auto.buf) at c.take_turn-t.ensures) (omega arith) l.invariant.0,
-    )
+pub loop-taken-preserved : goal.loop-taken-preserved
+unfolding sent_on
+loop-taken-preserved g c =
+    let l = c.loop-taken in
+    let work = length c.args.work.now in
+    let buf = length c.args.buf.now in
+    let k : suc l.taken ≡ l.taken + 1 = omega arith in
+    rw (l.auto.work, l.auto.buf) at c.in_ok-s.ensures
+    ∙ ap (λ (v : State). (sent_def v work buf).sending) l.invariant
+    ∙ ap (λ (i : ℕ). sent_on i c.args.first work buf) k

@@ -1,6 +1,0 @@
--- One file a turn.
-use Rattle.std.proofs.Common.{◌-◌}
-use Rattle.inquire.proofs.cabinet.enter_files.Given as goal
-
-abbrev pub decreases-loop-i : goal.decreases-loop-i
-decreases-loop-i l = l.count - l.i
