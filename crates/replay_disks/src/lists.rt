@@ -2,6 +2,7 @@
 ghost use Rattle.std.specs.Prelude.{◌≡◌, length};
 
 use program_calls::STDOUT_FILENO;
+use replay_frames::Form;
 use run::Run;
 
 // What was written of a list: a number, its bytes, and the checksum's register.
@@ -35,7 +36,7 @@ fn add_chunk(run: Run, device: u64, k: u64, whole: bool, s: Sum, part: &mut [u8]
     }
     Sum {
         number,
-        length: std::num::wrapping_add_u64(s.length, part.len() as u64),
+        length: s.length.wrapping_add(part.len() as u64),
         register: crc_loops::update(s.register, part),
     }
 }
@@ -57,16 +58,16 @@ fn next_chunk(run: Run, device: u64, k: u64, whole: bool, s: Sum, buf: &mut [u8]
 // All pieces, or those before the first that is refused.
 fn all_chunks(run: Run, device: u64, whole: bool, buf: &mut [u8]) -> Sum {
     let count = list_lengths::piece_count(run);
-    let n = count.value;
     let mut s = Sum {
         number: 0,
         length: 0,
         register: 0xffff_ffff,
     };
-    let mut left = n;
-    while 0 < left && s.number == 0 {
-        s = next_chunk(run, device, n - left, whole, s, buf);
-        left -= 1;
+    for k in 0..count.value {
+        if s.number != 0 {
+            break;
+        }
+        s = next_chunk(run, device, k, whole, s, buf);
     }
     s
 }
@@ -81,14 +82,14 @@ fn print_sum(s: Sum) {
 }
 
 // The list itself, without a frame, or a line with its number, length and checksum. Of a refused input the number alone is said.
-pub(crate) fn list(form: u8, records: &[u8]) {
+pub(crate) fn list(form: Form, records: &[u8]) {
     let r = request::parse(records);
     let run = run::run_of(r);
     if run.number != 0 {
         replay_frames::say(form, run.number, 0, b"");
         return;
     }
-    let whole = form == 0;
+    let whole = form == Form::Whole;
     let mut buf = chunk_buffer();
     let s = all_chunks(run, r.device, whole, &mut buf);
     if !whole {

@@ -3,7 +3,7 @@ ghost use Rattle.std.specs.Prelude.{◌≤◌};
 
 use geometry::Geometry;
 use params::{Features, Timestamp};
-use replay_frames::{long, word};
+use replay_frames::{behind, long, records, word};
 
 // What a function answers beside the lent bytes.
 #[derive(Clone, Copy)]
@@ -12,8 +12,11 @@ pub(crate) struct Answer {
     pub(crate) value: u64,
 }
 
-pub(crate) fn numbered(number: u32) -> Answer {
-    Answer { number, value: 0 }
+// A number alone.
+impl From<u32> for Answer {
+    fn from(number: u32) -> Answer {
+        Answer { number, value: 0 }
+    }
 }
 
 pub(crate) fn half(p: &[u8], at: usize) -> u16 {
@@ -22,37 +25,22 @@ pub(crate) fn half(p: &[u8], at: usize) -> u16 {
 }
 
 pub(crate) fn byte(p: &[u8], at: usize) -> u8 {
-    if at < p.len() {
-        return p[at];
+    match p.get(at) {
+        Some(byte) => *byte,
+        None => 0,
     }
-    0
 }
 
-pub(crate) fn uuid_at(p: &[u8], at: usize) -> [u8; 16]
-    requires { at ≤ 1024 }
-{
-    let mut out = [0u8; 16];
-    let mut i: usize = 0;
-    while i < 16 {
-        out[i] = byte(p, at + i);
-        i += 1;
-    }
-    out
-}
-
-// A number of 64 bits in two's complement.
-fn signed(n: u64) -> i64 {
-    if n < 9223372036854775808 {
-        return n as i64;
-    }
-    -1 - (u64::MAX - n) as i64
+// The bytes from `at` on in an array, with zeros behind them.
+pub(crate) fn bytes_at<const N: usize>(p: &[u8], at: usize) -> [u8; N] {
+    records(behind(p, at), 1, |bytes| byte(bytes, 0))
 }
 
 // Seconds (8 bytes) and nanoseconds (4).
 pub(crate) fn time_at(p: &[u8], at: usize) -> Timestamp
     requires { at ≤ 1024 }
 {
-    let secs = signed(long(p, at));
+    let secs = long(p, at).cast_signed();
     let nsecs = word(p, at + 8);
     Timestamp { secs, nsecs }
 }
@@ -69,21 +57,10 @@ fn features_of(p: &[u8]) -> Features {
     }
 }
 
-fn label_of(p: &[u8]) -> [u8; 12] {
-    let mut out = [0u8; 12];
-    let mut i: usize = 0;
-    while i < 12 {
-        out[i] = byte(p, 208 + i);
-        i += 1;
-    }
-    out
-}
-
 // The geometry in the first 220 bytes: its 19 numbers and its seven features in 8 bytes each, and its label. Plain sizing, since the Rust
 // has no other.
 pub(crate) fn geometry_of(p: &[u8]) -> Geometry {
     let features = features_of(p);
-    let label = label_of(p);
     Geometry {
         blocksize: word(p, 4),
         blocklog: byte(p, 15),
@@ -105,7 +82,7 @@ pub(crate) fn geometry_of(p: &[u8]) -> Geometry {
         logagno: long(p, 136),
         log_agbno: long(p, 144),
         features,
-        label,
+        label: bytes_at(p, 208),
         roomy: false,
     }
 }

@@ -1,12 +1,12 @@
 // Group headers, leaf block, superblock. The parameters are the structure's fields in its own order, then the UUID, unless it says
 // otherwise.
-use crate::cases::{byte, geometry_of, half, uuid_at};
+use crate::cases::{byte, bytes_at, geometry_of, half};
 use ag::{Agf, Agi};
-use replay_frames::{long, word};
+use replay_frames::{behind, long, records, word};
 use sb::SbState;
 
 pub(crate) fn agf(p: &[u8], sector: &mut [u8]) -> u32 {
-    let uuid = uuid_at(p, 72);
+    let uuid = bytes_at(p, 72);
     let a = Agf {
         seqno: word(p, 0),
         length: word(p, 4),
@@ -32,7 +32,7 @@ pub(crate) fn agf(p: &[u8], sector: &mut [u8]) -> u32 {
 }
 
 pub(crate) fn agi(p: &[u8], sector: &mut [u8]) -> u32 {
-    let uuid = uuid_at(p, 44);
+    let uuid = bytes_at(p, 44);
     let a = Agi {
         seqno: word(p, 0),
         length: word(p, 4),
@@ -50,20 +50,10 @@ pub(crate) fn agi(p: &[u8], sector: &mut [u8]) -> u32 {
     made.number
 }
 
-fn list_of(p: &[u8]) -> [u32; 64] {
-    let mut out = [0u32; 64];
-    let mut i: usize = 0;
-    while i < 64 {
-        out[i] = word(p, 32 + 4 * i);
-        i += 1;
-    }
-    out
-}
-
 // seqno, first, UUID, the count (8), 64 blocks.
 pub(crate) fn agfl(p: &[u8], sector: &mut [u8]) -> u32 {
-    let uuid = uuid_at(p, 8);
-    let list = list_of(p);
+    let uuid = bytes_at(p, 8);
+    let list = records(behind(p, 32), 4, |bytes| word(bytes, 0));
     let count = long(p, 24) as usize;
     let made = ag::encode_agfl(word(p, 0), &uuid, word(p, 4), list, count, sector);
     made.number
@@ -71,11 +61,10 @@ pub(crate) fn agfl(p: &[u8], sector: &mut [u8]) -> u32 {
 
 // magic, daddr (8), agno, UUID, numrecs (2), and the records.
 pub(crate) fn leaf(p: &[u8], block: &mut [u8]) -> u32 {
-    let uuid = uuid_at(p, 16);
-    if p.len() < 34 {
+    let uuid = bytes_at(p, 16);
+    let Some(recs) = p.get(34..) else {
         return refusals::MALFORMED;
-    }
-    let recs = &p[34..];
+    };
     let made = btree::leaf_block(
         word(p, 0),
         long(p, 4),
@@ -91,7 +80,7 @@ pub(crate) fn leaf(p: &[u8], block: &mut [u8]) -> u32 {
 // The geometry, then UUID, six numbers (8) and whether it is in progress (1).
 pub(crate) fn superblock(p: &[u8], sector: &mut [u8]) -> u32 {
     let g = geometry_of(p);
-    let uuid = uuid_at(p, 220);
+    let uuid = bytes_at(p, 220);
     let s = SbState {
         uuid,
         rootino: long(p, 236),

@@ -1,15 +1,14 @@
 // Inodes, times, the root chunk and the log.
-use crate::cases::{Answer, byte, geometry_of, half, time_at, uuid_at};
+use crate::cases::{Answer, byte, bytes_at, geometry_of, half, time_at};
 use inode::Dinode;
 use replay_frames::{long, word};
 
 // The fields in their own order (a time has 12 bytes), UUID, and the data.
 pub(crate) fn dinode(p: &[u8], slot: &mut [u8]) -> u32 {
-    let uuid = uuid_at(p, 93);
-    if p.len() < 109 {
+    let uuid = bytes_at(p, 93);
+    let Some(bytes) = p.get(109..) else {
         return refusals::MALFORMED;
-    }
-    let bytes = &p[109..];
+    };
     let atime = time_at(p, 45);
     let mtime = time_at(p, 57);
     let ctime = time_at(p, 69);
@@ -35,7 +34,7 @@ pub(crate) fn dinode(p: &[u8], slot: &mut [u8]) -> u32 {
 
 // ino (8), generation, UUID.
 pub(crate) fn free_inode(p: &[u8], slot: &mut [u8]) -> u32 {
-    let uuid = uuid_at(p, 12);
+    let uuid = bytes_at(p, 12);
     let made = inode::encode_free(long(p, 0), word(p, 8), &uuid, slot);
     made.number
 }
@@ -48,15 +47,13 @@ pub(crate) fn time(p: &[u8], out: &mut [u8]) -> u32 {
     stored.number
 }
 
-// The seconds from −2^31 on.
+// The most seconds from −2^31 on that an inode has.
+const MOST_SECONDS: u64 = 18446744073;
+
+// The seconds from −2^31 on; 0 of seconds that no inode has.
 fn from_least(secs: i64) -> u64 {
-    if secs < -2147483648 {
-        return 0;
-    }
-    if 16299260425 < secs {
-        return 0;
-    }
-    (secs + 2147483648) as u64
+    let n = secs.cast_unsigned().wrapping_add(1 << 31);
+    if n <= MOST_SECONDS { n } else { 0 }
 }
 
 // bigtime (1), a stored time (8), whose seconds (8) and nanoseconds (4) go into the lent bytes.
@@ -81,7 +78,7 @@ pub(crate) fn sf_dir(p: &[u8], out: &mut [u8]) -> Answer {
 // The geometry, then the first block (8), UUID, time, and the generator's state (8). The value is the state after the draws.
 pub(crate) fn root_chunk(p: &[u8], buf: &mut [u8]) -> Answer {
     let g = geometry_of(p);
-    let uuid = uuid_at(p, 228);
+    let uuid = bytes_at(p, 228);
     let time = time_at(p, 244);
     let made = chunk::root_chunk(g, long(p, 220), &uuid, time, long(p, 256), buf);
     Answer {
@@ -92,12 +89,12 @@ pub(crate) fn root_chunk(p: &[u8], buf: &mut [u8]) -> Answer {
 
 // UUID, stripe unit, a number that isn't looked at (4), lsn and tail (8 each).
 pub(crate) fn record(p: &[u8], rec: &mut [u8]) -> u32 {
-    let uuid = uuid_at(p, 0);
+    let uuid = bytes_at(p, 0);
     log_record::record(&uuid, word(p, 16), long(p, 24), long(p, 32), rec)
 }
 
 pub(crate) fn first_record(p: &[u8], rec: &mut [u8]) -> u32 {
-    let uuid = uuid_at(p, 0);
+    let uuid = bytes_at(p, 0);
     log_record::first_record(&uuid, word(p, 16), rec)
 }
 

@@ -5,7 +5,7 @@
 //     oracle/record encoders
 #![tactic(auto)]
 
-use crate::cases::{Answer, numbered};
+use crate::cases::Answer;
 use crate::groups::{agf, agfl, agi, leaf, superblock};
 use crate::inodes::{
     clear_sunit, decode_time, dinode, first_record, free_inode, lsn, record, root_chunk, sf_dir,
@@ -14,7 +14,7 @@ use crate::inodes::{
 use crate::lists::{alloc_recs, inobt_recs, rmap_recs};
 use crate::slices::{alloc_slice, rmap_slice};
 use crate::sums::{cksum, crc32c, stamp, verify};
-use replay_frames::Case;
+use replay_frames::Form;
 
 pub mod cases; // parameters by their place
 pub mod groups; // group headers, leaf block, superblock
@@ -23,124 +23,59 @@ pub mod lists; // record lists over arrays of 64
 pub mod slices; // record lists over lent slices
 pub mod sums; // the checksum
 
-// The functions, by family: each family's first number, and its members behind it.
-const GROUPS: u8 = 0;
-
-const INODES: u8 = 8;
-
-const LOGS: u8 = 16;
-
-const LISTS: u8 = 24;
-
-const SUMS: u8 = 32;
-
-const END: u8 = 36;
-
-fn group(k: u8, p: &[u8], lent: &mut [u8]) -> u32 {
-    match k {
-        0 => agf(p, lent),
-        1 => agi(p, lent),
-        2 => agfl(p, lent),
-        3 => leaf(p, lent),
-        4 => superblock(p, lent),
-        _ => refusals::MALFORMED,
-    }
-}
-
-fn inode(k: u8, p: &[u8], lent: &mut [u8]) -> Answer {
-    match k {
-        0 => numbered(dinode(p, lent)),
-        1 => numbered(free_inode(p, lent)),
-        2 => numbered(time(p, lent)),
-        3 => numbered(decode_time(p, lent)),
-        4 => sf_dir(p, lent),
-        5 => root_chunk(p, lent),
-        _ => numbered(refusals::MALFORMED),
-    }
-}
-
-fn log_record(k: u8, p: &[u8], lent: &mut [u8]) -> u32 {
-    match k {
-        0 => record(p, lent),
-        1 => first_record(p, lent),
-        2 => clear_sunit(p, lent),
-        3 => lsn(p, lent),
-        _ => refusals::MALFORMED,
-    }
-}
-
-fn list(k: u8, p: &[u8], lent: &mut [u8]) -> u32 {
-    match k {
-        0 => alloc_recs(p, lent),
-        1 => inobt_recs(p, false, lent),
-        2 => inobt_recs(p, true, lent),
-        3 => rmap_recs(p, lent),
-        4 => alloc_slice(p, lent),
-        5 => rmap_slice(p, lent),
-        _ => refusals::MALFORMED,
-    }
-}
-
-fn sum(k: u8, p: &[u8], buf: &mut [u8]) -> Answer {
-    match k {
-        0 => crc32c(buf),
-        1 => cksum(p, buf),
-        2 => stamp(p, buf),
-        _ => verify(p, buf),
-    }
-}
-
+// The functions, by family: each family's first number is a multiple of 8.
 fn answer(function: u8, p: &[u8], lent: &mut [u8]) -> Answer {
-    if function < INODES {
-        return numbered(group(function - GROUPS, p, lent));
+    match function {
+        0 => agf(p, lent).into(),
+        1 => agi(p, lent).into(),
+        2 => agfl(p, lent).into(),
+        3 => leaf(p, lent).into(),
+        4 => superblock(p, lent).into(),
+        8 => dinode(p, lent).into(),
+        9 => free_inode(p, lent).into(),
+        10 => time(p, lent).into(),
+        11 => decode_time(p, lent).into(),
+        12 => sf_dir(p, lent),
+        13 => root_chunk(p, lent),
+        16 => record(p, lent).into(),
+        17 => first_record(p, lent).into(),
+        18 => clear_sunit(p, lent).into(),
+        19 => lsn(p, lent).into(),
+        24 => alloc_recs(p, lent).into(),
+        25 => inobt_recs(p, false, lent).into(),
+        26 => inobt_recs(p, true, lent).into(),
+        27 => rmap_recs(p, lent).into(),
+        28 => alloc_slice(p, lent).into(),
+        29 => rmap_slice(p, lent).into(),
+        32 => crc32c(lent),
+        33 => cksum(p, lent),
+        34 => stamp(p, lent),
+        35 => verify(p, lent),
+        _ => refusals::MALFORMED.into(),
     }
-    if function < LOGS {
-        return inode(function - INODES, p, lent);
-    }
-    if function < LISTS {
-        return numbered(log_record(function - LOGS, p, lent));
-    }
-    if function < SUMS {
-        return numbered(list(function - LISTS, p, lent));
-    }
-    if function < END {
-        return sum(function - SUMS, p, lent);
-    }
-    numbered(refusals::MALFORMED)
 }
 
-// Answers a case whose parameters and lent bytes stand at the start of both buffers.
-fn reply(case: Case, params: &[u8], body: &mut [u8]) -> bool {
-    let p = case.params;
-    let n = case.body;
-    if params.len() < p {
-        return false;
-    }
-    if body.len() < n {
-        return false;
-    }
-    let lent = &mut body[0..n];
-    let a = answer(case.function, &params[0..p], lent);
-    replay_frames::say(case.form, a.number, a.value, lent)
+// Answers a case of these parameters and lent bytes.
+fn reply(form: Form, function: u8, p: &[u8], lent: &mut [u8]) -> bool {
+    let a = answer(function, p, lent);
+    replay_frames::say(form, a.number, a.value, lent)
 }
 
 // Answers the next case; false where there is none.
 fn turn() -> bool {
     let mut params = [0u8; 40960];
     let mut body = [0u8; 270336];
-    let case = replay_frames::next(&mut params, &mut body);
-    if !case.found {
-        return false;
+    match replay_frames::next(&mut params, &mut body) {
+        Some(case) => reply(case.form, case.function, case.params, case.body),
+        None => false,
     }
-    reply(case, &params, &mut body)
 }
 
-// A proved loop has to end, so it counts its turns down from a number that no input uses up.
+// A proved loop has to end, so its turns are as many as no input uses up.
 fn main() {
-    let mut more = true;
-    let mut turns = u64::MAX;
-    while 0 < turns && more {
-        more = turn();
-        turns -= 1;
+    for _ in 0..u64::MAX {
+        if !turn() {
+            return;
+        }
     }
 }

@@ -4,25 +4,12 @@ ghost use Rattle.std.specs.Prelude.{◌≤◌, length, take};
 ghost use Rattle.structs.specs.Written.{Written};
 ghost use Rattle.btree.specs.Records.{records_bytes, recs_number, alloc_bytes, rmap_bytes};
 
+use crate::lists::{RECORD, alloc_rec, rmap_rec};
 use btree::{AllocRec, RmapRec};
-use replay_frames::{long, word};
+use replay_frames::records;
 
 // The most records of a case.
 const MOST: usize = 65;
-
-fn alloc_array(p: &[u8]) -> [AllocRec; 65] {
-    let none = AllocRec { start: 0, count: 0 };
-    let mut recs = [none; 65];
-    let mut i: usize = 0;
-    while i < 65 {
-        recs[i] = AllocRec {
-            start: word(p, 16 * i),
-            count: word(p, 16 * i + 4),
-        };
-        i += 1;
-    }
-    recs
-}
 
 // `btree_slices::alloc_recs` of the first `count` records.
 fn alloc_first(recs: [AllocRec; 65], count: usize, out: &mut [u8]) -> u32
@@ -34,30 +21,11 @@ fn alloc_first(recs: [AllocRec; 65], count: usize, out: &mut [u8]) -> u32
 }
 
 pub(crate) fn alloc_slice(p: &[u8], out: &mut [u8]) -> u32 {
-    let count = p.len() / 16;
+    let count = p.len() / RECORD;
     if MOST < count {
         return refusals::MALFORMED;
     }
-    alloc_first(alloc_array(p), count, out)
-}
-
-fn rmap_array(p: &[u8]) -> [RmapRec; 65] {
-    let none = RmapRec {
-        start: 0,
-        count: 0,
-        owner: 0,
-    };
-    let mut recs = [none; 65];
-    let mut i: usize = 0;
-    while i < 65 {
-        recs[i] = RmapRec {
-            start: word(p, 16 * i),
-            count: word(p, 16 * i + 4),
-            owner: long(p, 16 * i + 8),
-        };
-        i += 1;
-    }
-    recs
+    alloc_first(records(p, RECORD, alloc_rec), count, out)
 }
 
 // `btree_slices::rmap_recs` of the first `count` records.
@@ -70,9 +38,9 @@ fn rmap_first(recs: [RmapRec; 65], count: usize, out: &mut [u8]) -> u32
 }
 
 pub(crate) fn rmap_slice(p: &[u8], out: &mut [u8]) -> u32 {
-    let count = p.len() / 16;
+    let count = p.len() / RECORD;
     if MOST < count {
         return refusals::MALFORMED;
     }
-    rmap_first(rmap_array(p), count, out)
+    rmap_first(records(p, RECORD, rmap_rec), count, out)
 }

@@ -1,5 +1,5 @@
 // The checksum. The parameter is an offset (8), and the value is the result.
-use crate::cases::{Answer, numbered};
+use crate::cases::Answer;
 use replay_frames::long;
 
 pub(crate) fn crc32c(buf: &[u8]) -> Answer {
@@ -19,7 +19,7 @@ pub(crate) fn cksum(p: &[u8], buf: &[u8]) -> Answer {
 
 pub(crate) fn stamp(p: &[u8], buf: &mut [u8]) -> Answer {
     let made = crc::stamp(buf, long(p, 0) as usize);
-    numbered(made.number)
+    Answer::from(made.number)
 }
 
 pub(crate) fn verify(p: &[u8], buf: &[u8]) -> Answer {

@@ -10,7 +10,8 @@
 // A parameter that lies behind the parameters' end is 0. A program ends at its input's end, and at a case that has no room.
 #![tactic(auto)]
 
-ghost use Rattle.std.specs.Prelude.{◌≡◌, ◌+◌};
+ghost use Rattle.std.specs.Prelude.{◌≡◌, ℕ, ◌+◌, ◌*◌, ◌<◌, take, drop, slice_index_or};
+ghost use Rattle.std.specs.Fn.{FnReturnsAt};
 ghost use Rattle.endian.specs.Answer.{room, valued};
 ghost use Rattle.endian.specs.Bytes.{be_at};
 ghost use Rattle.io.specs.Counts.{IsPrefixLen};
@@ -22,22 +23,35 @@ const HEAD: usize = 10;
 
 const OWN: usize = 6;
 
-// The forms.
-const WHOLE: u8 = 0;
-
-const REPEATED: u8 = 2;
-
 // The longest answer.
 const MOST: usize = 1048576;
 
-// The next case, with how many bytes its parameters and its body have; there is none unless `found`.
-#[derive(Clone, Copy)]
-pub struct Case {
-    pub found: bool,
-    pub form: u8,
+// The form of an answer, and of the body that is sent.
+#[derive(Clone, Copy, PartialEq, Eq)]
+pub enum Form {
+    Whole,
+    Line,
+    Repeated,
+}
+
+// Any other number is a line's.
+impl From<u8> for Form {
+    fn from(number: u8) -> Form {
+        match number {
+            0 => Form::Whole,
+            2 => Form::Repeated,
+            _ => Form::Line,
+        }
+    }
+}
+
+// A case: the form of its answer, its function, its parameters, and its body or the lent bytes.
+#[derive(Drop)]
+pub struct Case<'p, 'b> {
+    pub form: Form,
     pub function: u8,
-    pub params: usize,
-    pub body: usize,
+    pub params: &'p [u8],
+    pub body: &'b mut [u8],
 }
 
 // The number of 8 bytes at `at`.
@@ -56,67 +70,72 @@ pub fn word(case: &[u8], at: usize) -> u32
     r.value
 }
 
-fn none() -> Case {
-    Case {
-        found: false,
-        form: 0,
-        function: 0,
-        params: 0,
-        body: 0,
-    }
+// The bytes from `at` on; none where the case ends before.
+pub fn behind(case: &[u8], at: usize) -> &[u8]
+    ensures { result.now ≡ drop at case.now }
+{
+    case.get(at..).unwrap_or(&[])
 }
 
-// Fills the first `n` bytes; false where there is no room, or the input ends before.
-fn filled(buf: &mut [u8], n: usize) -> bool {
-    if buf.len() < n {
-        return false;
-    }
-    io::read_full(STDIN_FILENO, &mut buf[..n]) == n
+// The bytes of record `i`, where each before it has `size` bytes: as many of its own as the case has.
+fn record(case: &[u8], size: usize, i: usize) -> &[u8]
+    ensures { result.now ≡ take size (drop (i * size) case.now) }
+{
+    let rest = behind(case, i.saturating_mul(size));
+    &rest[..rest.len().min(size)]
 }
 
-// How many lent bytes there are: `sent` of them, or, in the form that repeats one, as many as the body's first bytes say, each made; none
-// where there is no room.
-fn lent(form: u8, sent: usize, body: &mut [u8]) -> usize {
-    if form != REPEATED {
-        return sent;
+// The records that stand one behind the other, `size` bytes each, and behind them what is read of no bytes.
+pub fn records<T, const N: usize, F: Fn(&[u8]) -> T>(case: &[u8], size: usize, read: F) -> [T; N]
+    requires { F.IsAlwaysCallable read }
+    ensures { (i : ℕ) (d : T) → i < N
+        → FnReturnsAt F.Fn read (take size (drop (i * size) case.now)) (slice_index_or result i d) }
+{
+    std::array::from_fn(|i| read(record(case, size, i)))
+}
+
+// The first `n` bytes, filled; none where there is no room, or the input ends before.
+fn filled(buf: &mut [u8], n: usize) -> Option<&mut [u8]> {
+    let part = buf.get_mut(..n)?;
+    if io::read_full(STDIN_FILENO, part) != n {
+        return None;
     }
+    Some(part)
+}
+
+// How many bytes the body of a repeating case lends, each of them made: as many as its first bytes say; none where there is no room.
+fn repeated(body: &mut [u8]) -> usize {
     let n = word(body, 1) as usize;
-    if body.len() < n {
-        return 0;
-    }
-    if n == 0 {
+    if n == 0 || body.len() < n {
         return 0;
     }
     let value = body[0];
-    endian::put_same(body, 0, n, value);
+    body[..n].fill(value);
     n
 }
 
-// Reads the next case into both buffers.
-pub fn next(params: &mut [u8], body: &mut [u8]) -> Case {
-    let mut head = [0u8; 10];
+// Reads the next case into both buffers; none where the input has no more, or a case no room.
+pub fn next<'p, 'b>(params: &'p mut [u8], body: &'b mut [u8]) -> Option<Case<'p, 'b>> {
+    let mut head = [0u8; HEAD];
     if io::read_full(STDIN_FILENO, &mut head) != HEAD {
-        return none();
+        return None;
     }
-    let n = word(&head, 0) as usize;
-    let p = word(&head, OWN) as usize;
-    if n < p + OWN {
-        return none();
-    }
-    let b = n - (p + OWN);
-    if !filled(params, p) {
-        return none();
-    }
-    if !filled(body, b) {
-        return none();
-    }
-    Case {
-        found: true,
-        form: head[4],
+    let form = Form::from(head[4]);
+    let taken = word(&head, OWN) as usize;
+    let sent = (word(&head, 0) as usize).checked_sub(taken + OWN)?;
+    let params = filled(params, taken)?;
+    filled(body, sent)?;
+    let lent = if form == Form::Repeated {
+        repeated(body)
+    } else {
+        sent
+    };
+    Some(Case {
+        form,
         function: head[5],
-        params: p,
-        body: lent(head[4], b, body),
-    }
+        params,
+        body: body.get_mut(..lent)?,
+    })
 }
 
 fn frame(number: u32, value: u64, bytes: &[u8]) -> bool {
@@ -135,7 +154,7 @@ fn line(number: u32, value: u64, bytes: &[u8]) -> bool {
     io::print_decimal(STDOUT_FILENO, number as u64);
     io::write_all(STDOUT_FILENO, b" ");
     io::print_decimal(STDOUT_FILENO, value);
-    if 0 < bytes.len() {
+    if !bytes.is_empty() {
         io::write_all(STDOUT_FILENO, b" ");
         io::print_hex(STDOUT_FILENO, crc::crc32c(bytes) as u64, 8);
     }
@@ -143,9 +162,9 @@ fn line(number: u32, value: u64, bytes: &[u8]) -> bool {
 }
 
 // Writes an answer in the form that its case asks for.
-pub fn say(form: u8, number: u32, value: u64, bytes: &[u8]) -> bool {
-    if form == WHOLE {
-        return frame(number, value, bytes);
+pub fn say(form: Form, number: u32, value: u64, bytes: &[u8]) -> bool {
+    match form {
+        Form::Whole => frame(number, value, bytes),
+        Form::Line | Form::Repeated => line(number, value, bytes),
     }
-    line(number, value, bytes)
 }

@@ -10,7 +10,7 @@ use crate::plans::{plans, rmap_insert, take};
 use crate::requests::request;
 use crate::rows::{Answer, refused};
 use crate::steps::{geometry, helpers, places};
-use replay_frames::Case;
+use replay_frames::Form;
 
 pub mod holds; // held runs
 pub mod plans; // the planner, and its two functions on lists
@@ -32,50 +32,36 @@ fn answer(function: u8, p: &[u8], body: &[u8], row: &mut [u8; 16384]) -> Answer 
     }
 }
 
-// Writes the number and the first `length` bytes of the row.
-fn say_part(form: u8, number: u32, row: &[u8], length: usize) -> bool {
-    if row.len() < length {
-        return false;
+// Writes the number and the part of the row that an answer has.
+fn say(form: Form, a: Answer, row: &[u8]) -> bool {
+    match row.get(..a.length) {
+        Some(part) => replay_frames::say(form, a.number, 0, part),
+        None => false,
     }
-    replay_frames::say(form, number, 0, &row[0..length])
 }
 
-fn say(form: u8, number: u32, row: &[u8; 16384], length: usize) -> bool {
-    say_part(form, number, row, length)
-}
-
-// Answers a case whose parameters and body stand at the start of both buffers.
-fn reply(case: Case, params: &[u8], body: &[u8]) -> bool {
+// Answers a case of these parameters and body.
+fn reply(form: Form, function: u8, p: &[u8], body: &[u8]) -> bool {
     let mut row = [0u8; 16384];
-    let p = case.params;
-    let n = case.body;
-    if params.len() < p {
-        return false;
-    }
-    if body.len() < n {
-        return false;
-    }
-    let a = answer(case.function, &params[0..p], &body[0..n], &mut row);
-    say(case.form, a.number, &row, a.length)
+    let a = answer(function, p, body, &mut row);
+    say(form, a, &row)
 }
 
 // Answers the next case; false where there is none.
 fn turn() -> bool {
     let mut params = [0u8; 4096];
     let mut body = [0u8; 8192];
-    let case = replay_frames::next(&mut params, &mut body);
-    if !case.found {
-        return false;
+    match replay_frames::next(&mut params, &mut body) {
+        Some(case) => reply(case.form, case.function, case.params, case.body),
+        None => false,
     }
-    reply(case, &params, &body)
 }
 
-// A proved loop has to end, so it counts its turns down from a number that no input uses up.
+// A proved loop has to end, so its turns are as many as no input uses up.
 fn main() {
-    let mut more = true;
-    let mut turns = u64::MAX;
-    while 0 < turns && more {
-        more = turn();
-        turns -= 1;
+    for _ in 0..u64::MAX {
+        if !turn() {
+            return;
+        }
     }
 }

@@ -1,8 +1,6 @@
 // What `parse` says of input records: 32 numbers, the label's 12 bytes and the UUID's 16.
-ghost use Rattle.std.specs.Prelude.{◌<◌};
-
-use crate::rows::{Answer, put, put_count, put_word};
-use params::{Features, Label, OptTime, OptU8, OptU32, OptU64, OptUuid, Params, Presence};
+use crate::rows::{Answer, features, put};
+use params::{Label, Params, Timestamp};
 
 // Where the label and the UUID stand, and where the answer ends.
 const LABEL: usize = 256;
@@ -12,125 +10,89 @@ const UUID: usize = 268;
 const END: usize = 284;
 
 // Whether the option is given, and its number.
-fn put_option(buf: &mut [u8; 16384], k: usize, option: OptU64)
-    requires { k < 99 }
-{
+fn put_option(row: &mut [u8; 16384], k: usize, option: Option<u64>) {
     match option {
-        OptU64::Given(n) => {
-            put(buf, k, 1);
-            put(buf, k + 1, n);
-        }
-        OptU64::Absent => {
-            put(buf, k, 0);
-            put(buf, k + 1, 0);
-        }
+        Some(n) => put(row, k, &[1, n]),
+        None => put(row, k, &[0, 0]),
     }
 }
 
-fn wide32(option: OptU32) -> OptU64 {
+fn wide32(option: Option<u32>) -> Option<u64> {
     match option {
-        OptU32::Given(n) => OptU64::Given(n as u64),
-        OptU32::Absent => OptU64::Absent,
+        Some(n) => Some(n as u64),
+        None => None,
     }
 }
 
-fn wide8(option: OptU8) -> OptU64 {
+fn wide8(option: Option<u8>) -> Option<u64> {
     match option {
-        OptU8::Given(n) => OptU64::Given(n as u64),
-        OptU8::Absent => OptU64::Absent,
+        Some(n) => Some(n as u64),
+        None => None,
     }
 }
 
-fn put_sizes(buf: &mut [u8; 16384], p: Params) {
+fn put_sizes(row: &mut [u8; 16384], p: Params) {
     let block = p.block_size;
     let sector = p.sector_size;
     let inode = p.inode_size;
     let imaxpct = p.imaxpct;
-    put_option(buf, 6, wide32(block));
-    put_option(buf, 8, wide32(sector));
-    put_option(buf, 10, wide32(inode));
-    put_option(buf, 16, wide8(imaxpct));
+    put_option(row, 6, wide32(block));
+    put_option(row, 8, wide32(sector));
+    put_option(row, 10, wide32(inode));
+    put_option(row, 16, wide8(imaxpct));
 }
 
-fn put_options(buf: &mut [u8; 16384], p: Params) {
+fn put_options(row: &mut [u8; 16384], p: Params) {
     let size = p.size;
     let agcount = p.agcount;
     let agsize = p.agsize;
     let seed = p.gen_seed;
-    put_option(buf, 4, size);
-    put_option(buf, 12, agcount);
-    put_option(buf, 14, agsize);
-    put_option(buf, 18, seed);
-}
-
-// From 20 on.
-fn put_features(buf: &mut [u8; 16384], f: Features) {
-    put(buf, 20, arith::choice::bit_of(f.finobt));
-    put(buf, 21, arith::choice::bit_of(f.rmapbt));
-    put(buf, 22, arith::choice::bit_of(f.reflink));
-    put(buf, 23, arith::choice::bit_of(f.inobtcount));
-    put(buf, 24, arith::choice::bit_of(f.bigtime));
-    put(buf, 25, arith::choice::bit_of(f.nrext64));
-    put(buf, 26, arith::choice::bit_of(f.sparse));
+    put_option(row, 4, size);
+    put_option(row, 12, agcount);
+    put_option(row, 14, agsize);
+    put_option(row, 18, seed);
 }
 
 // Whether a time is given; the number and the value that an inode with bigtime stores of it.
-fn put_time(buf: &mut [u8; 16384], time: OptTime) {
+fn put_time(row: &mut [u8; 16384], time: Option<Timestamp>) {
     match time {
-        OptTime::Given(t) => {
+        Some(t) => {
             let stored = inode_time::encode_time(t, true);
-            put(buf, 27, 1);
-            put_word(buf, 28, stored.number);
-            put(buf, 29, stored.value);
+            put(row, 27, &[1, u64::from(stored.number), stored.value]);
         }
-        OptTime::Absent => {
-            put(buf, 27, 0);
-            put(buf, 28, 0);
-            put(buf, 29, 0);
-        }
+        None => put(row, 27, &[0, 0, 0]),
     }
 }
 
-fn put_label(buf: &mut [u8; 16384], label: Label) {
+fn put_label(row: &mut [u8; 16384], label: Label) {
     let text = label.bytes;
-    put_count(buf, 30, label.length);
-    endian::put_bytes(buf, LABEL, &text);
+    put(row, 30, &[label.length as u64]);
+    endian::put_bytes(row, LABEL, &text);
 }
 
-fn put_uuid(buf: &mut [u8; 16384], uuid: OptUuid) {
-    let bytes = uuid.bytes;
-    let presence = uuid.presence;
-    endian::put_bytes(buf, UUID, &bytes);
-    match presence {
-        Presence::Given => put(buf, 31, 1),
-        Presence::Absent => put(buf, 31, 0),
-    }
+fn put_uuid(row: &mut [u8; 16384], uuid: Option<[u8; 16]>) {
+    let bytes = uuid.unwrap_or([0; 16]);
+    endian::put_bytes(row, UUID, &bytes);
+    put(row, 31, &[u64::from(uuid.is_some())]);
 }
 
-fn put_params(buf: &mut [u8; 16384], p: Params) {
-    let features = p.features;
+fn put_params(row: &mut [u8; 16384], p: Params) {
     let label = p.label;
     let uuid = p.uuid;
     let time = p.time;
-    put_options(buf, p);
-    put_sizes(buf, p);
-    put_features(buf, features);
-    put_time(buf, time);
-    put_label(buf, label);
-    put_uuid(buf, uuid);
-}
-
-fn put_device(buf: &mut [u8; 16384], device: u64, logical: u32, physical: u32) {
-    put(buf, 1, device);
-    put_word(buf, 2, logical);
-    put_word(buf, 3, physical);
+    put_options(row, p);
+    put_sizes(row, p);
+    put(row, 20, &features(p.features));
+    put_time(row, time);
+    put_label(row, label);
+    put_uuid(row, uuid);
 }
 
 pub(crate) fn request(records: &[u8], row: &mut [u8; 16384]) -> Answer {
     let r = request::parse(records);
     let p = r.params;
-    put_word(row, 0, r.number);
-    put_device(row, r.device, r.logical, r.physical);
+    put(row, 0, &[u64::from(r.number), r.device]);
+    put(row, 2, &[u64::from(r.logical), u64::from(r.physical)]);
     put_params(row, p);
     Answer {
         number: r.number,

@@ -2,9 +2,7 @@
 ghost use Rattle.std.specs.Prelude.{◌≤◌, ◌<◌};
 
 use btree::{AllocRec, RmapRec};
-use plan::Agfl;
-use plan_free::FreeList;
-use plan_rmap::RmapList;
+use params::Features;
 
 // What a function answers: its number, and how many bytes of the row.
 #[derive(Clone, Copy)]
@@ -18,81 +16,49 @@ pub(crate) fn refused(number: u32) -> Answer {
     Answer { number, length: 0 }
 }
 
-pub(crate) fn put(row: &mut [u8; 16384], k: usize, v: u64)
-    requires { k < 10000 }
-{
-    endian::put64(row, 8 * k, v);
-}
-
-// The same of a number with fewer bits.
-pub(crate) fn put_word(row: &mut [u8; 16384], k: usize, v: u32)
-    requires { k < 10000 }
-{
-    put(row, k, v as u64);
-}
-
-pub(crate) fn put_byte(row: &mut [u8; 16384], k: usize, v: u8)
-    requires { k < 10000 }
-{
-    put(row, k, v as u64);
-}
-
-pub(crate) fn put_count(row: &mut [u8; 16384], k: usize, v: usize)
-    requires { k < 10000 }
-{
-    put(row, k, v as u64);
-}
-
-fn put_run(row: &mut [u8; 16384], k: usize, r: AllocRec)
-    requires { k < 9000 }
-{
-    put_word(row, k, r.start);
-    put_word(row, k + 1, r.count);
-}
-
-fn put_mapping(row: &mut [u8; 16384], k: usize, r: RmapRec)
-    requires { k < 9000 }
-{
-    put_word(row, k, r.start);
-    put_word(row, k + 1, r.count);
-    put(row, k + 2, r.owner);
-}
-
-// Start and length of each of the first `n` free records, from the number `at` on.
-pub(crate) fn put_free(row: &mut [u8; 16384], at: usize, list: FreeList, n: usize)
-    requires { at ≤ 4000 }
-{
-    let mut i: usize = 0;
-    while i < 64 {
-        if i < n {
-            put_run(row, at + 2 * i, list.recs[i]);
-        }
-        i += 1;
+// Puts numbers one behind the other, from the place `k` on, as far as there is room.
+pub(crate) fn put(row: &mut [u8], k: usize, numbers: &[u64]) {
+    for (place, number) in row.chunks_mut(8).skip(k).zip(numbers) {
+        endian::put64(place, 0, *number);
     }
 }
 
-// The blocks of a free list.
-pub(crate) fn put_blocks(row: &mut [u8; 16384], at: usize, list: Agfl)
-    requires { at ≤ 4000 }
+// Puts the first `width` numbers of each of the first `n` records, from the place `at` on.
+pub(crate) fn put_each<T, F: Fn(&T) -> [u64; 3]>(
+    row: &mut [u8; 16384],
+    at: usize,
+    width: usize,
+    recs: &[T],
+    n: usize,
+    numbers: F,
+)
+    requires { (at ≤ 2048) × (0 < width) × (width ≤ 3) × F.IsAlwaysCallable numbers }
 {
-    let mut i: usize = 0;
-    while i < 64 {
-        if i < list.len {
-            put_word(row, at + i, list.blocks[i]);
-        }
-        i += 1;
+    let places = row[8 * at..].chunks_mut(8 * width);
+    for (place, rec) in places.zip(recs.iter().take(n)) {
+        put(place, 0, &numbers(rec));
     }
 }
 
-// Start, length and owner of each reverse mapping.
-pub(crate) fn put_mappings(row: &mut [u8; 16384], at: usize, list: RmapList)
-    requires { at ≤ 4000 }
-{
-    let mut i: usize = 0;
-    while i < 64 {
-        if i < list.len {
-            put_mapping(row, at + 3 * i, list.recs[i]);
-        }
-        i += 1;
-    }
+// Start and length of a free record.
+pub(crate) fn run(r: &AllocRec) -> [u64; 3] {
+    [u64::from(r.start), u64::from(r.count), 0]
+}
+
+// Start, length and owner of a reverse mapping.
+pub(crate) fn mapping(r: &RmapRec) -> [u64; 3] {
+    [u64::from(r.start), u64::from(r.count), r.owner]
+}
+
+// 1 for each feature that is on.
+pub(crate) fn features(f: Features) -> [u64; 7] {
+    [
+        u64::from(f.finobt),
+        u64::from(f.rmapbt),
+        u64::from(f.reflink),
+        u64::from(f.inobtcount),
+        u64::from(f.bigtime),
+        u64::from(f.nrext64),
+        u64::from(f.sparse),
+    ]
 }

@@ -1,9 +1,0 @@
--- `replay_disks::replay` is safe and ends. Invariant: none. The measure is the number of turns that are left.
--- Assumes nothing.
-use Rattle.replay_disks.proofs.replay.Given as goal
-
-abbrev pub invariant-loop-turns : goal.invariant-loop-turns
-invariant-loop-turns l = Unit {0}
-
-abbrev pub decreases-loop-turns : goal.decreases-loop-turns
-decreases-loop-turns l = l.turns
