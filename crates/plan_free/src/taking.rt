@@ -1,6 +1,6 @@
 // A run of blocks taken out of the free extents.
-ghost use Rattle.std.specs.Prelude.{◌≡◌, ◌+◌, ◌-◌, ◌≤◌, ◌<◌, ◌^◌, length, get_or, position};
-ghost use Rattle.seqs.specs.Lists.{appended};
+ghost use Rattle.std.specs.Prelude.{◌≡◌, ◌+◌, ◌-◌, ◌≤◌, ◌<◌, ◌^◌, length, get_or};
+ghost use Rattle.seqs.specs.Lists.{first_index, appended};
 ghost use Rattle.plan_free.specs.Free.{zero_free_rec, of_free, to_free, free_of, alloc_end, holds_run, rest_before, rest_after, without_run, take_refused, taken_at, taken};
 
 use crate::list::{append, empty, is_valid, push};
@@ -22,12 +22,23 @@ fn holds(r: AllocRec, s: u64, e: u64) -> bool
     (r.start as u64) <= s && e <= seqs::end_of(r.start, r.count)
 }
 
-// The index of the first record that holds the run.
-fn find(l: FreeList, s: u64, e: u64) -> Option<usize>
+// The index of the first record that holds the run, or the count where none does.
+fn find(l: FreeList, s: u64, e: u64) -> usize
     requires { l.len ≤ 64 }
-    ensures { result ≡ position (holds_run s e) (free_of l) }
+    ensures { result ≡ first_index (holds_run s e) (free_of l) }
 {
-    l.recs[..l.len].iter().position(|r| holds(*r, s, e))
+    let n = l.len;
+    let mut i: usize = 0;
+    loop {
+        if i >= n {
+            break n;
+        }
+        let r = l.recs[i];
+        if holds(r, s, e) {
+            break i;
+        }
+        i += 1;
+    }
 }
 
 // How many records the run leaves of a record that holds it.
@@ -108,8 +119,9 @@ pub fn take(free: FreeList, start: u64, len: u64) -> Taken
     let Some(end) = start.checked_add(len) else {
         return refused(refusals::NOT_FREE);
     };
-    let Some(i) = find(free, start, end) else {
+    let i = find(free, start, end);
+    if i >= free.len {
         return refused(refusals::NOT_FREE);
-    };
+    }
     take_at(free, i, start, end)
 }

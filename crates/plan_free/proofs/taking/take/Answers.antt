@@ -9,11 +9,8 @@ use lib.Seq.{length-take-le}
 use Rattle.seqs.specs.Lists.{first_index}
 use Rattle.plan_free.specs.Free.{free_of, alloc_start, alloc_count, zero_free_rec, taken, taken_from, taken_at, holds_run}
 use Rattle.seqs.proofs.Validity.{live-valid}
-use Rattle.seqs.proofs.Chains.{found-at, found-nowhere}
-use Rattle.plan_free.specs.declared.FreeList.{FreeList}
 use Rattle.plan_free.proofs.Laws.{live-holds}
 use Rattle.plan_free.proofs.taking.take.Goals as goal
-use Rattle.plan_free.proofs.taking.take.Goals.{In-Some-find}
 
 pub returns-then-free-gt64 : goal.returns-then-free-gt64
 unfolding taken
@@ -30,40 +27,34 @@ returns-in_default c =
     c.refused-in_default.ensures
     ∙ simp (le-ltb _ _ c.if-free-gt64.false, sym c.is_valid.ensures ∙ c.if-not-is_valid.false, le-ltb _ _ t)
 
-pub returns-in_default-find : goal.returns-in_default-find
+pub returns-then-i-free : goal.returns-then-i-free
 unfolding taken taken_from
-returns-in_default-find c =
+returns-then-i-free c =
+    let k : length c.args.free.recs ≡ 64 = c.well_formed.0.1.1.0.1.0.1 in
+    let n : length (free_of c.args.free) ≡ c.args.free.len = length-take-le _ _ (omega arith) in
     let e : c.in-Some.end ≡ c.args.start + c.args.len = c.in-Some.ensures.1 in
-    let t : length (free_of c.args.free) ≤ first_index (holds_run c.args.start (c.args.start + c.args.len)) (free_of c.args.free) =
-    found-nowhere _ _ (rw (← e) (sym c.find.ensures ∙ c.in_default-find.is)) in
-    c.refused-in_default-find.ensures
+    let f : c.find-i.result ≡ first_index (holds_run c.args.start (c.args.start + c.args.len)) (free_of c.args.free) = rw (← e) c.find-i.ensures in
+    let t : length (free_of c.args.free) ≤ first_index (holds_run c.args.start (c.args.start + c.args.len)) (free_of c.args.free) = omega (arith, f) in
+    c.refused-then-i-free.ensures
     ∙ simp (le-ltb _ _ c.if-free-gt64.false, sym c.is_valid.ensures ∙ c.if-not-is_valid.false, lt-ltb _ _ c.in-Some.ensures.0, le-ltb _ _ t)
-
--- the record that is found
-abbrev Found : (l : FreeList) (s n i : ℕ) → Type 0
-Found l s n i = (i < length (free_of l)) × (i ≡ first_index (holds_run s (s + n)) (free_of l))
-
-found : (c : In-Some-find) → Found c.args.free c.args.start c.args.len c.in-Some-find.i
-found c =
-    let e : c.in-Some.end ≡ c.args.start + c.args.len = c.in-Some.ensures.1 in
-    found-at _ _ _ (rw (← e) (sym c.find.ensures ∙ c.in-Some-find.is))
 
 pub take_at-requires : goal.take_at-requires
 take_at-requires c =
     let k : length c.args.free.recs ≡ 64 = c.well_formed.0.1.1.0.1.0.1 in
-    let n : length (free_of c.args.free) ≡ c.args.free.len = length-take-le _ _ (omega arith) in
-    let f = found c in
-    let l : c.in-Some-find.i < c.args.free.len = omega arith in
-    let q = live-holds c.args.free.recs c.args.free.len c.in-Some-find.i (omega arith) l c.args.start (c.args.start + c.args.len) f.1 in
-    let v = live-valid alloc_start alloc_count zero_free_rec c.args.free.recs c.args.free.len c.in-Some-find.i (omega arith) l (sym c.is_valid.ensures ∙ c.if-not-is_valid.false) in
+    let e : c.in-Some.end ≡ c.args.start + c.args.len = c.in-Some.ensures.1 in
+    let f : c.find-i.result ≡ first_index (holds_run c.args.start (c.args.start + c.args.len)) (free_of c.args.free) = rw (← e) c.find-i.ensures in
+    let q = live-holds c.args.free.recs c.args.free.len c.find-i.result (omega arith) (omega arith) c.args.start (c.args.start + c.args.len) f in
+    let v = live-valid alloc_start alloc_count zero_free_rec c.args.free.recs c.args.free.len c.find-i.result (omega arith) (omega arith) (sym c.is_valid.ensures ∙ c.if-not-is_valid.false) in
     (omega arith, omega arith, omega arith, v)
 
 pub returns : goal.returns
 unfolding taken taken_from
 returns c =
+    let k : length c.args.free.recs ≡ 64 = c.well_formed.0.1.1.0.1.0.1 in
+    let n : length (free_of c.args.free) ≡ c.args.free.len = length-take-le _ _ (omega arith) in
     let e : c.in-Some.end ≡ c.args.start + c.args.len = c.in-Some.ensures.1 in
-    let f = found (goal.at.returns c).In-Some-find in
-    let t : first_index (holds_run c.args.start (c.args.start + c.args.len)) (free_of c.args.free) < length (free_of c.args.free) = omega arith in
+    let f : c.find-i.result ≡ first_index (holds_run c.args.start (c.args.start + c.args.len)) (free_of c.args.free) = rw (← e) c.find-i.ensures in
+    let t : first_index (holds_run c.args.start (c.args.start + c.args.len)) (free_of c.args.free) < length (free_of c.args.free) = omega (arith, f) in
     rw e at c.take_at.ensures
-    ∙ ap (λ (j : ℕ). taken_at (free_of c.args.free) j c.args.start (c.args.start + c.args.len)) f.1
+    ∙ ap (λ (j : ℕ). taken_at (free_of c.args.free) j c.args.start (c.args.start + c.args.len)) f
     ∙ simp (le-ltb _ _ c.if-free-gt64.false, sym c.is_valid.ensures ∙ c.if-not-is_valid.false, lt-ltb _ _ c.in-Some.ensures.0, lt-ltb _ _ t)
