@@ -46,7 +46,10 @@ fn ag_max_blocks(bs: u64) -> u64
 pub fn asked_blocks(size: Option<u64>, device: u64, bs: u64) -> u64
     ensures { result ≡ asked_blocks size device bs }
 {
-    quotient(size.unwrap_or(device), bs)
+    match size {
+        Some(bytes) => quotient(bytes, bs),
+        None => quotient(device, bs),
+    }
 }
 
 // Blocks of a group where neither option is given.
@@ -126,7 +129,10 @@ fn is_zero(option: Option<u64>) -> bool
 fn is_partial(option: Option<u64>, m: u64) -> bool
     ensures { result ≡ partial64 option m }
 {
-    option.is_some_and(|n| remainder(n, m) != 0)
+    match option {
+        Some(n) => remainder(n, m) != 0,
+        None => false,
+    }
 }
 
 // Refusals 9 to 14, the last test first: d blocks are asked for, and the device has `device`.

@@ -93,7 +93,10 @@ fn default_imaxpct(bs: u64, d: u64) -> u8
 pub fn imaxpct_of(option: Option<u8>, bs: u64, d: u64) -> u8
     ensures { result ≡ imaxpct_of option bs d }
 {
-    option.unwrap_or(default_imaxpct(bs, d))
+    match option {
+        Some(n) => n,
+        None => default_imaxpct(bs, d),
+    }
 }
 
 // Refusals 19 to 24, the last test first; `label` is the label's length.

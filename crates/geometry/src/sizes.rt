@@ -1,7 +1,7 @@
 // Block, sector and inode size, and the refusals that they meet.
 ghost use Rattle.std.specs.Prelude.{◌≡◌};
 ghost use Rattle.refusals.specs.Table.{first};
-ghost use Rattle.geometry.specs.Sizes.{default_sector, sizes_of, sizes_refusals};
+ghost use Rattle.geometry.specs.Sizes.{block_of, default_sector, sector_of, inode_of, sizes_of, sizes_refusals};
 
 use arith::powers::pow2_log;
 use params::Params;
@@ -31,6 +31,16 @@ pub struct Sizes {
     pub logical: u32,
 }
 
+// The block size.
+fn block_of(option: Option<u32>) -> u32
+    ensures { result ≡ block_of option }
+{
+    match option {
+        Some(n) => n,
+        None => DEFAULT_BLOCKSIZE,
+    }
+}
+
 // The sector size where none is given.
 fn default_sector(block: u32, logical: u32, physical: u32) -> u32
     ensures { result ≡ default_sector block logical physical }
@@ -45,17 +55,36 @@ fn default_sector(block: u32, logical: u32, physical: u32) -> u32
     larger
 }
 
+// The sector size.
+fn sector_of(option: Option<u32>, block: u32, logical: u32, physical: u32) -> u32
+    ensures { result ≡ sector_of option block logical physical }
+{
+    match option {
+        Some(n) => n,
+        None => default_sector(block, logical, physical),
+    }
+}
+
+// The inode size.
+fn inode_of(option: Option<u32>) -> u32
+    ensures { result ≡ inode_of option }
+{
+    match option {
+        Some(n) => n,
+        None => DEFAULT_INODESIZE,
+    }
+}
+
 // The sizes for the options and the device's sectors.
 pub fn chosen_sizes(params: Params, logical: u32, physical: u32) -> Sizes
     ensures { result ≡ sizes_of params logical physical }
 {
-    let block = params.block_size.unwrap_or(DEFAULT_BLOCKSIZE);
+    let block = block_of(params.block_size);
     let least = logical.max(MIN_SECTORSIZE);
-    let sector = default_sector(block, least, physical);
     Sizes {
         block,
-        sector: params.sector_size.unwrap_or(sector),
-        inode: params.inode_size.unwrap_or(DEFAULT_INODESIZE),
+        sector: sector_of(params.sector_size, block, least, physical),
+        inode: inode_of(params.inode_size),
         logical: least,
     }
 }

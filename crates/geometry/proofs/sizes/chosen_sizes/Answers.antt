@@ -5,10 +5,4 @@ use Rattle.geometry.proofs.sizes.chosen_sizes.Goals as goal
 
 pub returns : goal.returns
 unfolding sizes_of
-returns c = rw (
-  c.unwrap_or-2.ensures,
-  c.unwrap_or.ensures,
-  c.default_sector-sector.ensures,
-  c.max-least.ensures,
-  c.unwrap_or-block.ensures,
-)
+returns c = rw (c.inode_of.ensures, c.sector_of.ensures, c.max-least.ensures, c.block_of-block.ensures)
