@@ -24,7 +24,9 @@ pub const UUID: usize = 2;
 pub const OPTION: usize = 3;
 
 // The bits of each option's type, by its code; the code 0 is no option's.
-const OPTION_BITS: [u8; 14] = [0, 64, 32, 32, 32, 64, 64, 8, 64, 7, 64, 32, 1, 1];
+const CODES: usize = 14;
+
+const OPTION_BITS: [u8; CODES] = [0, 64, 32, 32, 32, 64, 64, 8, 64, 7, 64, 32, 1, 1];
 
 // What a record gives: an option's number, or where the bytes of another begin; and where the next one begins.
 #[derive(Clone, Copy)]
