@@ -11,11 +11,11 @@ use borrow.Author.Tests.{le-leb, lt-leb}
 use Rattle.arith.specs.Choice.{when}
 use Rattle.arith.specs.Powers.{least_from, log2_up}
 
-least-here : (l n : ℕ) → l ≤ 63 → n ≤ 2 ^ l → least_from (64 - l) l n ≡ l
+pub least-here : (l n : ℕ) → l ≤ 63 → n ≤ 2 ^ l → least_from (64 - l) l n ≡ l
 unfolding least_from when
 least-here l n h t = let e : 64 - l ≡ suc (64 - (l + 1)) = omega arith in rw (e, le-leb n (2 ^ l) t)
 
-least-next : (l n : ℕ) → l ≤ 63 → 2 ^ l < n → least_from (64 - l) l n ≡ least_from (64 - (l + 1)) (l + 1) n
+pub least-next : (l n : ℕ) → l ≤ 63 → 2 ^ l < n → least_from (64 - l) l n ≡ least_from (64 - (l + 1)) (l + 1) n
 unfolding least_from when
 least-next l n h t = let e : 64 - l ≡ suc (64 - (l + 1)) = omega arith in rw (e, lt-leb n (2 ^ l) t)
 
