@@ -18,8 +18,10 @@ pub(crate) fn refused(number: u32) -> Answer {
 
 // Puts numbers one behind the other, from the place `k` on, as far as there is room.
 pub(crate) fn put(row: &mut [u8], k: usize, numbers: &[u64]) {
-    for (place, number) in row.chunks_mut(8).skip(k).zip(numbers) {
-        endian::put64(place, 0, *number);
+    if let Some(rest) = row.get_mut(k.saturating_mul(8)..) {
+        for (place, number) in rest.chunks_mut(8).zip(numbers) {
+            endian::put64(place, 0, *number);
+        }
     }
 }
 
