@@ -147,13 +147,13 @@ fn reply(
 fn turn(found: Found, disk: &mut [u8; 25600]) -> Option<Found> {
     let mut params = [0u8; 64];
     let mut body = [0u8; 270336];
-    let case = replay_frames::next(&mut params, &mut body)?;
+    let (case, body) = replay_frames::next(&mut params, &mut body)?;
     Some(reply(
         case.function,
         case.form,
         found,
         case.params,
-        case.body,
+        body,
         disk,
     ))
 }

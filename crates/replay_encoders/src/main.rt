@@ -66,7 +66,7 @@ fn turn() -> bool {
     let mut params = [0u8; 40960];
     let mut body = [0u8; 270336];
     match replay_frames::next(&mut params, &mut body) {
-        Some(case) => reply(case.form, case.function, case.params, case.body),
+        Some((case, body)) => reply(case.form, case.function, case.params, body),
         None => false,
     }
 }

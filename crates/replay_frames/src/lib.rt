@@ -45,13 +45,12 @@ impl From<u8> for Form {
     }
 }
 
-// A case: the form of its answer, its function, its parameters, and its body or the lent bytes.
-#[derive(Drop)]
-pub struct Case<'p, 'b> {
+// A case: the form of its answer, its function, and its parameters.
+#[derive(Clone, Copy)]
+pub struct Case<'p> {
     pub form: Form,
     pub function: u8,
     pub params: &'p [u8],
-    pub body: &'b mut [u8],
 }
 
 // The number of 8 bytes at `at`.
@@ -114,8 +113,11 @@ fn repeated(body: &mut [u8]) -> usize {
     n
 }
 
-// Reads the next case into both buffers; none where the input has no more, or a case no room.
-pub fn next<'p, 'b>(params: &'p mut [u8], body: &'b mut [u8]) -> Option<Case<'p, 'b>> {
+// Reads the next case into both buffers: it, and its body or the lent bytes; none where the input has no more, or a case no room.
+pub fn next<'p, 'b>(
+    params: &'p mut [u8],
+    body: &'b mut [u8],
+) -> Option<(Case<'p>, &'b mut [u8])> {
     let mut head = [0u8; HEAD];
     if io::read_full(STDIN_FILENO, &mut head) != HEAD {
         return None;
@@ -130,12 +132,12 @@ pub fn next<'p, 'b>(params: &'p mut [u8], body: &'b mut [u8]) -> Option<Case<'p,
     } else {
         sent
     };
-    Some(Case {
+    let case = Case {
         form,
         function: head[5],
         params,
-        body: body.get_mut(..lent)?,
-    })
+    };
+    Some((case, body.get_mut(..lent)?))
 }
 
 fn frame(number: u32, value: u64, bytes: &[u8]) -> bool {
@@ -161,9 +163,9 @@ fn line(number: u32, value: u64, bytes: &[u8]) -> bool {
     io::write_all(STDOUT_FILENO, b"\n")
 }
 
-// Writes an answer in the form that its case asks for.
-pub fn say(form: Form, number: u32, value: u64, bytes: &[u8]) -> bool {
-    match form {
+// Writes an answer in the form that its case asks for, or that a number names.
+pub fn say<F: Into<Form>>(form: F, number: u32, value: u64, bytes: &[u8]) -> bool {
+    match form.into() {
         Form::Whole => frame(number, value, bytes),
         Form::Line | Form::Repeated => line(number, value, bytes),
     }
