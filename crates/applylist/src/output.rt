@@ -1,5 +1,5 @@
 // Writing to the file, each byte at its offset.
-ghost use Rattle.std.specs.Prelude.{◌+◌, ◌≤◌};
+ghost use Rattle.std.specs.Prelude.{◌+◌, ◌≤◌, ◌<◌, IfOk, length};
 ghost use Rattle.list_read.specs.Records.{largest_offset};
 
 use crate::Failed;
@@ -8,7 +8,6 @@ use arith::numbers::min_usize;
 use list_holes::in_hole;
 use list_read::within;
 use std::fs::File;
-use std::io::ErrorKind;
 use std::os::unix::fs::FileExt;
 
 // Waits until the bytes can be read again after a loss of power; the file's times may come later.
@@ -16,7 +15,30 @@ pub(crate) fn flush(file: &File) -> Result<(), Failed> {
     file.sync_data().map_err(Failed::Flush)
 }
 
-// The first `n` of the bytes, from the offset `at` on; where there are fewer bytes, or no file reaches so far, nothing is written.
+// One write, behind the first `done` of the bytes: how many it took, one at least.
+fn put_rest(file: &File, bytes: &[u8], done: usize, at: u64) -> Result<usize, Failed>
+    requires { (done ≤ length bytes.now) × (at + length bytes.now ≤ largest_offset) }
+    ensures { IfOk result (λ k. (0 < k) × (done + k ≤ length bytes.now)) }
+{
+    match file.write_at(&bytes[done..], at + done as u64) {
+        Ok(0) => Err(Failed::NothingTaken),
+        Ok(k) => Ok(k),
+        Err(error) => Err(Failed::Write(Some(error))),
+    }
+}
+
+// All of the bytes, from the offset `at` on. A write that fails stops it, one that a signal interrupted too.
+fn put_all(file: &File, bytes: &[u8], at: u64) -> Result<(), Failed>
+    requires { at + length bytes.now ≤ largest_offset }
+{
+    let mut done = 0;
+    while done < bytes.len() {
+        done += put_rest(file, bytes, done, at)?;
+    }
+    Ok(())
+}
+
+// The first `n` of the bytes; where there are fewer, or no file reaches so far, nothing is written.
 pub(crate) fn put_bytes(file: &File, bytes: &[u8], n: usize, at: u64) -> Result<(), Failed> {
     let Some(first) = bytes.get(..n) else {
         return Err(Failed::Write(None));
@@ -24,11 +46,7 @@ pub(crate) fn put_bytes(file: &File, bytes: &[u8], n: usize, at: u64) -> Result<
     if !within(at, n as u64) {
         return Err(Failed::Write(None));
     }
-    match file.write_all_at(first, at) {
-        Ok(()) => Ok(()),
-        Err(error) if error.kind() == ErrorKind::WriteZero => Err(Failed::NothingTaken),
-        Err(error) => Err(Failed::Write(Some(error))),
-    }
+    put_all(file, first, at)
 }
 
 // Whether zeros stand in the file already, `n` of them from the offset on: a hole reads as zeros.
@@ -36,11 +54,13 @@ fn are_zeros(file: &File, n: usize, at: u64) -> bool
     requires { at + n ≤ largest_offset }
 {
     let mut bytes = io::large_buffer();
-    for done in (0..n).step_by(65536) {
+    let mut done = 0;
+    while done < n {
         let k = min_usize(n - done, bytes.len());
         if !is_blank_at(file, at + done as u64, &mut bytes[..k]) {
             return false;
         }
+        done += k;
     }
     true
 }
@@ -92,10 +112,12 @@ pub(crate) fn put_zeros(
         return Err(Failed::NothingTaken);
     }
     let mut until = 0;
-    for done in (0..len).step_by(zeros.len()) {
+    let mut done = 0;
+    while done < len {
         let n = min_usize(len - done, zeros.len());
         let place = at.wrapping_add(done as u64);
         until = put_blank(file, zeros, n, place, fills, until)?;
+        done += n;
     }
     Ok(())
 }

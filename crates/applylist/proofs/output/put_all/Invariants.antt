@@ -1,0 +1,9 @@
+-- What was written is no more than there is.
+use Rattle.std.proofs.Common.{◌-◌, ◌≤◌, length}
+use Rattle.applylist.proofs.output.put_all.Given as goal
+
+abbrev pub invariant-loop-done : goal.invariant-loop-done
+invariant-loop-done l = l.done ≤ length l.bytes
+
+abbrev pub decreases-loop-done : goal.decreases-loop-done
+decreases-loop-done l = length l.bytes - l.done
