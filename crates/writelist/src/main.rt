@@ -34,16 +34,17 @@ fn flush<W: Write>(out: &mut W, buf: &[u8], end: usize) -> Result<()> {
     }
 }
 
-// Takes the next piece and writes it: what is left to send. Where it has no room, or a write fails, nothing more is written.
-fn take_turn<W: Write>(out: &mut W, s: Sending, work: &mut [u8], buf: &mut [u8]) -> Result<Sending>
-    ensures { IfOk result (λ left. left ≡ (sent_def s (length work.old) (length buf.old)).sending) }
+// Takes the next piece and writes it; what is left to send is in `s` then, on an error too. Where the piece has no room, or a write fails,
+// nothing more is written.
+fn take_turn<W: Write>(out: &mut W, s: &mut Sending, work: &mut [u8], buf: &mut [u8]) -> Result<()>
+    ensures { s.new ≡ (sent_def s.old (length work.old) (length buf.old)).sending }
 {
-    let sent = send(s, work, buf);
+    let sent = send(*s, work, buf);
+    *s = sent.sending;
     if sent.number != 0 {
         return Err(Error::other("the next piece has no room"));
     }
-    flush(out, buf, sent.length)?;
-    Ok(sent.sending)
+    flush(out, buf, sent.length)
 }
 
 // Writes all pieces. Where no write fails, as many turns were taken as there are pieces.
@@ -57,7 +58,7 @@ fn write_list<W: Write>(
 {
     let mut s = first;
     for taken in 0..left_of(first) {
-        s = take_turn(out, s, work, buf)?;
+        take_turn(out, &mut s, work, buf)?;
     }
     Ok(s)
 }

@@ -15,6 +15,6 @@ loop-taken-preserved g c =
     let work = length c.args.work.now in
     let buf = length c.args.buf.now in
     let k : suc l.taken ≡ l.taken + 1 = omega arith in
-    rw (l.auto.work, l.auto.buf) at c.in_ok-s.ensures
+    rw (l.auto.work, l.auto.buf) at c.take_turn.ensures
     ∙ ap (λ (v : State). (sent_def v work buf).sending) l.invariant
     ∙ ap (λ (i : ℕ). sent_on i c.args.first work buf) k
