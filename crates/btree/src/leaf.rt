@@ -1,5 +1,6 @@
 // A leaf block that is the root of its tree.
 ghost use Rattle.std.specs.Prelude.{◌≡◌, [], ◌∷◌, ◌+◌, ◌≤◌, length};
+ghost use Rattle.endian.specs.Bytes.{patch};
 ghost use Rattle.endian.specs.Fields.{write_fields};
 ghost use Rattle.structs.specs.Encoded.{Encoded};
 ghost use Rattle.btree.specs.Leaf.{leaf_crc_at, leaf_number, leaf_header, leaf_bytes};
@@ -68,6 +69,18 @@ fn put_header(magic: u32, daddr: u64, agno: u32, uuid: &[u8; 16], numrecs: u16, 
     endian::put_bytes(block, off::UUID, uuid);
 }
 
+// The records, byte by byte: a copy of any length by the library needs `memmove`, which the archive for C would ask for.
+fn put_records(block: &mut [u8], recs: &[u8])
+    requires { 56 + length recs.now ≤ length block.old }
+    ensures { block.new ≡ patch 56 recs.now block.old }
+{
+    let mut i = recs.len();
+    while 0 < i {
+        i -= 1;
+        block[off::RECS + i] = recs[i];
+    }
+}
+
 // The whole block: zeros, the header, the records and the checksum.
 fn fill(
     magic: u32,
@@ -84,7 +97,7 @@ fn fill(
 {
     endian::put_same(block, 0, block.len(), 0);
     put_header(magic, daddr, agno, uuid, numrecs, block);
-    endian::put_bytes(block, off::RECS, recs);
+    put_records(block, recs);
     crc::stamp(block, off::CRC);
 }
 

@@ -15,5 +15,5 @@ returns c = let l = c.requires.0 in
     let g = c.requires.1 in
     let k1 = c.put_same.auto.buf in
     let k2 = c.put_header.auto.block in
-    let k3 = c.put_bytes.auto.buf in
-    leaf-written _ _ _ _ _ _ c.args.block.now _ _ _ _ (put_in c.put_same.ensures (search rules)) c.put_header.ensures (put_in c.put_bytes.ensures (omega (arith, k1, k2, g))) (stamp-in 52 c.stamp.ensures.0 (omega (arith, k1, k2, k3, l)))
+    let k3 = c.put_records.auto.block in
+    leaf-written _ _ _ _ _ _ c.args.block.now _ _ _ _ (put_in c.put_same.ensures (search rules)) c.put_header.ensures c.put_records.ensures (stamp-in 52 c.stamp.ensures.0 (omega (arith, k1, k2, k3, l)))
