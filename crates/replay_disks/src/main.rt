@@ -148,14 +148,7 @@ fn turn(found: Found, disk: &mut [u8; 25600]) -> Option<Found> {
     let mut params = [0u8; 64];
     let mut body = [0u8; 270336];
     let (case, body) = replay_frames::next(&mut params, &mut body)?;
-    Some(reply(
-        case.function,
-        case.form,
-        found,
-        case.params,
-        body,
-        disk,
-    ))
+    Some(reply(case.function, case.form, found, case.params, body, disk))
 }
 
 // A proved loop has to end, so its turns are as many as no input uses up. Before the first case no head was read.

@@ -114,10 +114,7 @@ fn repeated(body: &mut [u8]) -> usize {
 }
 
 // Reads the next case into both buffers: it, and its body or the lent bytes; none where the input has no more, or a case no room.
-pub fn next<'p, 'b>(
-    params: &'p mut [u8],
-    body: &'b mut [u8],
-) -> Option<(Case<'p>, &'b mut [u8])> {
+pub fn next<'p, 'b>(params: &'p mut [u8], body: &'b mut [u8]) -> Option<(Case<'p>, &'b mut [u8])> {
     let mut head = [0u8; HEAD];
     if io::read_full(STDIN_FILENO, &mut head) != HEAD {
         return None;
