@@ -7,13 +7,22 @@ ghost use Rattle.endian.specs.Fields.{write_fields, table, table_inside, table_f
 use crate::numbers::{inside, store};
 use refusals::WRONG_LENGTH;
 
+// The bytes of `src`, in a part of their length.
+#[tactic(auto)]
+fn copy(part: &mut [u8], src: &[u8])
+    requires { length part.old ≡ length src.now }
+    ensures { part.new ≡ src.now }
+{
+    part.copy_from_slice(src);
+}
+
 // The bytes of `src`.
 pub fn put_bytes(buf: &mut [u8], off: usize, src: &[u8]) -> u32
     ensures { Put (off + length src.now) (patch off src.now buf.old) buf.old result
         buf.new }
 {
     if inside(buf.len(), off, src.len()) {
-        buf[off..off + src.len()].copy_from_slice(src);
+        copy(&mut buf[off..off + src.len()], src);
         return 0;
     }
     WRONG_LENGTH

@@ -12,7 +12,7 @@ use Rattle.endian.proofs.runs.put_bytes.Goals as goal
 pub returns-then-inside : goal.returns-then-inside
 returns-then-inside c = let t = sym c.inside.ensures ∙ c.if-inside.true in
     let a = c.args in
-    let e = c.copy_from_slice.ensures.after in
+    let e = c.copy.ensures in
     done-by t (part-back a.off (length a.src.now) a.buf.now _ (leb-true _ _ t) (ap length e) ∙ ap (λ (ys : List ℕ). patch a.off ys a.buf.now) e)
 
 pub returns : goal.returns
