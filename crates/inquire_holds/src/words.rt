@@ -11,6 +11,7 @@ const HOLD: u64 = 426207;
 const RELEASE: u64 = 46552540421;
 
 // A decimal number with nothing before or behind it.
+#[tactic(auto, unfolding(crate::specs::Words::number_alone))]
 pub fn number_alone(text: &[u8]) -> Value
     ensures { result ≡ number_alone text.now }
 {

@@ -36,9 +36,9 @@ module _ (p : Params) (logical physical wanted device : ℕ) where
   end = finished_answer step.geometry (uuid_of p)
 
   -- geometry refuses it
-  pub step-refused : (step.number ≡ 0 → ⊥) → false ≡ reaches p logical physical wanted device
+  pub step_refused : (step.number ≡ 0 → ⊥) → false ≡ reaches p logical physical wanted device
   unfolding reaches size_number
-  step-refused n = rw (ne_eqb step.number 0 n, ne_eqb step.number 0 n)
+  step_refused n = rw (ne_eqb step.number 0 n, ne_eqb step.number 0 n)
 
   number_is : step.number ≡ 0 → size_number p logical physical device ≡ plans_number step.geometry
   unfolding size_number
@@ -54,11 +54,11 @@ module _ (p : Params) (logical physical wanted device : ℕ) where
   enough-at false e = refl
 
   -- geometry accepts it: the plans and the finished state decide
-  pub step-accepted : step.number ≡ 0 → (eqb end.number 0 && leb wanted end.state.fdblocks) ≡ reaches p logical physical wanted device
+  pub step_accepted : step.number ≡ 0 → reaches p logical physical wanted device ≡ (eqb end.number 0 && leb wanted end.state.fdblocks)
   unfolding reaches free_on_device
-  step-accepted z =
+  step_accepted z =
       rw (finished-number step.geometry (uuid_of p), number_is z)
-      (enough-at (eqb (plans_number step.geometry) 0) refl)
+      (sym (enough-at (eqb (plans_number step.geometry) 0) refl))
 
 -- ---- 39
 

@@ -35,6 +35,7 @@ fn default_groups(p: Params) -> Params
 }
 
 // Whether geometry and planning accept a device of so many bytes, and its finished superblock has at least so many free blocks.
+#[tactic(auto, using(crate::proofs::Reaching::step_refused, crate::proofs::Reaching::step_accepted))]
 fn is_enough(p: Params, logical: u32, physical: u32, wanted: u64, device: u64) -> bool
     ensures { result ≡ reaches p logical physical wanted device }
 {
