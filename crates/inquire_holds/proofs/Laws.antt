@@ -1,7 +1,10 @@
--- The numbers of the names `hold` and `release`, the rest of a text, and the numbers of a start in their order.
+-- The numbers of the names `hold` and `release`, the rest of a text, a number by itself, and the numbers of a start in their order.
 -- Assumes nothing.
 use mathlib.Core.Path.{◌≡◌, refl}
 use mathlib.Core.List.{List}
+use mathlib.Core.Bool.{true, false, ◌&&◌}
+use lib.Dec.{ltb, eqb}
+use Rattle.table_lines.specs.Decimal.{value_after}
 use Prim.Native.Nat.{ℕ, ◌-◌}
 use lib.ListN.{length, take, drop, length-drop}
 use lib.Seq.{take_all}
@@ -14,9 +17,9 @@ use Rattle.plan_holds.specs.Holding.{started}
 use Rattle.request.specs.declared.Request.{Request}
 use Rattle.request.specs.Parse.{parse_def}
 use Rattle.run.specs.Runs.{or_next, step_of}
-use Rattle.request_texts.specs.Texts.{letter, named, packed_name}
+use Rattle.request_texts.specs.Texts.{letter, named, packed_name, leading, within, malformed_value}
 use Rattle.inquire_holds.specs.declared.Opened.{Opened}
-use Rattle.inquire_holds.specs.Words.{hold_name, release_name}
+use Rattle.inquire_holds.specs.Words.{hold_name, release_name, number_alone}
 use Rattle.inquire_holds.specs.Calls.{opened_of, holds_opened}
 
 pub hold-name : hold_name ≡ 426207
@@ -30,6 +33,16 @@ release-name = refl
 -- `&xs[n..]`, as the borrow checker has it
 pub behind : (n : ℕ) (xs : List ℕ) → take (length xs - n) (drop n xs) ≡ drop n xs
 behind n xs = take_all (length xs - n) (drop n xs) (le_of_eq (length-drop n xs))
+
+-- a text is a number exactly where its digits are one at least and all of it
+module _ (text : List ℕ) (n : ℕ) (at : n ≡ leading text) where
+  pub alone-is : (ltb 0 n && eqb n (length text)) ≡ true → within (value_after 0 text) ≡ number_alone text
+  unfolding number_alone
+  alone-is t = rw (← at, t)
+
+  pub alone-not : (ltb 0 n && eqb n (length text)) ≡ false → malformed_value ≡ number_alone text
+  unfolding number_alone
+  alone-not t = rw (← at, t)
 
 -- the records' number comes first, then the geometry step's, then the start's
 pub opened-by : (input : List ℕ) (k : ℕ) (q : Request) (c : Computed) (h : Held) (later number : ℕ) → q ≡ parse_def input
